@@ -1,6 +1,7 @@
 -- A connection of a live end, as it begins and as it is cut.
 use Rattle.std.proofs.Common.{◌≡◌, ◌<◌, ◌≤◌, ℕ, Bool, List, [], ◌++◌, length, Option, sym, ap, subst, ◌∙◌}
 use Rattle.session_model.specs.Inbox.{InboxRecord}
+use Rattle.session_model.specs.Journal.{History}
 use Rattle.gw_links.specs.Links.{LinkTold, Carried}
 use Rattle.gw_links.specs.declared.clock.Clock.{Ghosts as ClockGhosts}
 use Rattle.jr_dated.specs.declared.journal.Journal.{Ghosts}
@@ -8,6 +9,7 @@ use Rattle.jr_kept.specs.declared.inbox.Inbox.{Inbox}
 use Rattle.gate_turn.specs.Places.{known}
 use Rattle.gate_turn.specs.declared.pass.Pass.{Pass}
 use Rattle.gate_senders.specs.declared.kept.Kept.{Kept}
+use Rattle.conn_turns.specs.Lines.{Line}
 use Rattle.conn_loop.specs.declared.live.LiveEnd.{LiveEnd}
 use Rattle.conn_loop.specs.declared.conn.Conn.{Conn}
 use Rattle.conn_loop.specs.Conn.{line_of, GoesOn, HasSeen}
@@ -31,6 +33,20 @@ module _ {O I C : Type 0} {G : Ghosts O} {H : Ghosts I} {K : ClockGhosts C} wher
       ∙ (ap (λ (x : C). connection_at told carried out (known pass).seen (K.last x) (line_in e) e.inbox.now) k
       ∙ (ap (λ (x : Conn). connection_at told carried out (known pass).seen (K.last clock) (line_of x) e.inbox.now) n
       ∙ ap (λ (x : Inbox I H). connection_at told carried out (known pass).seen (K.last clock) (line_of conn) x) b))
+
+  -- what is so of two live ends, of these and later of those, is so of the connections that these make
+  pub lent_in : (Q : ConnectionAt I H → ConnectionAt I H → Type 0) (told told' : Option LinkTold) (carried carried' : Option Carried) (out out' : Option (List ℕ)) (e f : LiveEnd O I C G H K)
+      (conn : Conn) (pass : Pass (Kept O G)) (box box' : Inbox I H) (clock : C) (line : Line) (seen : History) (last : ℕ)
+      → e.conn.now ≡ conn → e.pass.now ≡ pass → e.inbox.now ≡ box → e.clock.now ≡ clock → line_in f ≡ line → (pass_in f).seen ≡ seen → f.inbox.now ≡ box' → K.last f.clock.now ≡ last
+      → Q (connection_in told carried out e) (connection_in told' carried' out' f)
+      → Q (connection_at told carried out (known pass).seen (K.last clock) (line_of conn) box) (connection_at told' carried' out' seen last line box')
+  lent_in Q told told' carried carried' out out' e f conn pass box box' clock line seen last n p b k n' p' b' k' q =
+      let later : connection_in told' carried' out' f ≡ connection_at told' carried' out' seen last line box' =
+      ap (λ (x : History). connection_at told' carried' out' x (K.last f.clock.now) (line_in f) f.inbox.now) p'
+      ∙ (ap (λ (x : ℕ). connection_at told' carried' out' seen x (line_in f) f.inbox.now) k'
+      ∙ (ap (λ (x : Line). connection_at told' carried' out' seen last x f.inbox.now) n' ∙ ap (λ (x : Inbox I H). connection_at told' carried' out' seen last line x) b')) in
+      subst (λ (x : ConnectionAt I H). Q x (connection_at told' carried' out' seen last line box')) (new_in told carried out e conn pass box clock n p b k)
+      (subst (λ (y : ConnectionAt I H). Q (connection_in told carried out e) y) later q)
 
   -- its connection is cut, and nothing else of it changes
   pub given_in_cut : {tells : Type 0} (P : List InboxRecord → Type 0) (eager : Bool) (why : Option ServeFault) (old : ConnectionAt I H) (told : Option LinkTold) (carried : Option Carried) (out : Option (List ℕ)) (e f : LiveEnd O I C G H K)

@@ -1,5 +1,6 @@
 -- Connections of a life one behind another, and how it ends.
-use Rattle.std.proofs.Common.{⊤, ◌≡◌, ◌⊎◌, inl, inr, ℕ, ◌+◌, ◌-◌, ◌<◌, ◌≤◌, Bool, true, false, All, List, [], ◌∷◌, ◌++◌, length, Option, Some, None, Result, Ok, Err, refl, sym, ap, subst, ◌∙◌, arith, append-nil, append_assoc, length-append}
+use Rattle.std.proofs.Common.{◌≡◌, ◌⊎◌, inl, inr, ℕ, ◌+◌, ◌-◌, ◌<◌, ◌≤◌, Bool, true, false, All, List, [], ◌∷◌, ◌++◌, length, Option, Some, None, Result, Ok, Err, refl, sym, ap, subst, ◌∙◌, arith, append-nil, append_assoc, length-append}
+use Rattle.std.specs.Bool.{⊤}
 use Rattle.std.specs.Prelude.{IsSome, IfSome, IsTrue, is_some}
 use Rattle.std.specs.List.{AllByRecursion, flat_map}
 use Rattle.std.specs.Option.{option_map}
@@ -241,6 +242,31 @@ module _ {J : Type 0} {G : Ghosts J} where
   gains_with : (a b c : Inbox J G) (cs : List Connection) (x : Connection) → Gains a b (adds_of cs) → Gains b c x.adds → Gains a c (adds_of (cs ++ x ∷ []))
   gains_with a b c cs x first later = subst (Gains a c) (sym (adds_append cs x)) (gains_on a b c (adds_of cs) x.adds first later)
 
+  -- what is known of the records that connections added, and of those that one more did, is known of all
+  abbrev pub Joined : (P Q R : List InboxRecord → Type 0) (old mid : LifeAt J G) → Type 0
+  Joined P Q R old mid = (xs ys : List InboxRecord) → Gains old.box mid.box xs → P xs → Q ys → R (xs ++ ys)
+
+  with_one : (P Q R : List InboxRecord → Type 0) (old mid : LifeAt J G) (cs : List Connection) (x : Connection) → Joined P Q R old mid → Gains old.box mid.box (adds_of cs) → P (adds_of cs) → Q x.adds → R (adds_of (cs ++ x ∷ []))
+  with_one P Q R old mid cs x join gains known one = subst R (sym (adds_append cs x)) (join (adds_of cs) x.adds gains known one)
+
+  -- where none was added
+  with_none : (P Q R : List InboxRecord → Type 0) (old mid : LifeAt J G) (cs : List Connection) → Joined P Q R old mid → Gains old.box mid.box (adds_of cs) → P (adds_of cs) → Q [] → R (adds_of cs)
+  with_none P Q R old mid cs join gains known none = subst R (append-nil (adds_of cs)) (join (adds_of cs) [] gains known none)
+
+  -- where there was no link
+  pub round_none : {L : Type 0} (tells : Type 0) (carried : L → Option Carried) (known : Option Connection → Type 0) (n : ℕ) (dialed later : Option DialerTold) (out : Option (List ℕ)) (seen : History) (m : State) (box : Inbox J G) (fault : ServeFault)
+      → IsNext carried dialed later (Err fault) → ((phase : Phase) → ◌≡◌ {A = Result (Option L) ServeFault} (Err fault) (Err (faults.Unfinished phase)) → phase ≡ phase_of m) → known None
+      → IsRound tells known n (life_at dialed out seen box) (life_at later out seen box) m m (Err fault)
+  round_none tells carried known n dialed later out seen m box faults.Output next phase none = absurd next
+  round_none tells carried known n dialed later out seen m box faults.Journal next phase none = absurd next
+  round_none tells carried known n dialed later out seen m box (faults.Changed at) next phase none = absurd next
+  round_none tells carried known n dialed later out seen m box faults.Dial next phase none = (made_none dialed later out seen m box next, none)
+  round_none tells carried known n dialed later out seen m box (faults.Unfinished p) next phase none = (made_none dialed later out seen m box next.0, phase p refl, next.1, none)
+  round_none tells carried known n dialed later out seen m box (faults.Rejected template code) next phase none = absurd next
+  round_none tells carried known n dialed later out seen m box (faults.Full entries bytes) next phase none = absurd next
+  round_none tells carried known n dialed later out seen m box faults.Turns next phase none = absurd next
+  round_none tells carried known n dialed later out seen m box faults.Memory next phase none = absurd next
+
 module _ {J : Type 0} {G : Ghosts J} {tells : Type 0} where
   -- ---- one connection
 
@@ -382,40 +408,18 @@ module _ {J : Type 0} {G : Ghosts J} {tells : Type 0} where
   round_given known n old new m m' faults.Turns is g = g
   round_given known n old new m m' faults.Memory is g = inr g
 
-  -- where there was no link
-  pub round_none : {L : Type 0} (carried : L → Option Carried) (known : Option Connection → Type 0) (n : ℕ) (dialed later : Option DialerTold) (out : Option (List ℕ)) (seen : History) (m : State) (box : Inbox J G) (fault : ServeFault)
-      → IsNext carried dialed later (Err fault) → ((phase : Phase) → ◌≡◌ {A = Result (Option L) ServeFault} (Err fault) (Err (faults.Unfinished phase)) → phase ≡ phase_of m) → known None
-      → IsRound tells known n (life_at dialed out seen box) (life_at later out seen box) m m (Err fault)
-  round_none carried known n dialed later out seen m box faults.Output next phase none = absurd next
-  round_none carried known n dialed later out seen m box faults.Journal next phase none = absurd next
-  round_none carried known n dialed later out seen m box (faults.Changed at) next phase none = absurd next
-  round_none carried known n dialed later out seen m box faults.Dial next phase none = (made_none dialed later out seen m box next, none)
-  round_none carried known n dialed later out seen m box (faults.Unfinished p) next phase none = (made_none dialed later out seen m box next.0, phase p refl, next.1, none)
-  round_none carried known n dialed later out seen m box (faults.Rejected template code) next phase none = absurd next
-  round_none carried known n dialed later out seen m box (faults.Full entries bytes) next phase none = absurd next
-  round_none carried known n dialed later out seen m box faults.Turns next phase none = absurd next
-  round_none carried known n dialed later out seen m box faults.Memory next phase none = absurd next
-
   pub lived_none : {L : Type 0} (P : List InboxRecord → Type 0) (G' : LinkGhosts L) (clock : ℕ) (dialed : Option DialerTold) (out : Option (List ℕ)) (seen : History) (m : State) (box : Inbox J G)
       → P [] → (l : LivedTo tells G' clock clock 1 (life_at dialed out seen box) (life_at dialed out seen box) m m) × P (adds_of l.ended)
-  lived_none P G' clock dialed out seen m box known =
-      (
-        record {
-          ended = [];
-          links = tt;
-          clock = omega arith;
-          number = refl;
-          lived = record { were = (refl, refl); gains = gains_none box box refl; lines = Appends-nil out; came = came_none dialed; tells = λ told. All-nil IsTold; timely = tt; faithful = λ t. tt; followed = All-nil IsFollowed };
-        },
-        known,
-      )
-
-  -- what is known of the records that connections added, and of those that one more did, is known of all
-  abbrev pub Joined : (P Q R : List InboxRecord → Type 0) (old mid : LifeAt J G) → Type 0
-  Joined P Q R old mid = (xs ys : List InboxRecord) → Gains old.box mid.box xs → P xs → Q ys → R (xs ++ ys)
-
-  with_one : (P Q R : List InboxRecord → Type 0) (old mid : LifeAt J G) (cs : List Connection) (x : Connection) → Joined P Q R old mid → Gains old.box mid.box (adds_of cs) → P (adds_of cs) → Q x.adds → R (adds_of (cs ++ x ∷ []))
-  with_one P Q R old mid cs x join gains known one = subst R (sym (adds_append cs x)) (join (adds_of cs) x.adds gains known one)
+  lived_none P G' clock dialed out seen m box known = (
+    record {
+      ended = [];
+      links = tt;
+      clock = omega arith;
+      number = refl;
+      lived = record { were = (refl, refl); gains = gains_none box box refl; lines = Appends-nil out; came = came_none dialed; tells = λ told. All-nil IsTold; timely = tt; faithful = λ t. tt; followed = All-nil IsFollowed };
+    },
+    known,
+  )
 
   pub lived_more : {L : Type 0} (P Q R : List InboxRecord → Type 0) (G' : LinkGhosts L) (p q t n : ℕ) (old mid new : LifeAt J G) (m m' m'' : State)
       → ((l : LivedTo tells G' p q n old mid m m') × P (adds_of l.ended)) → IsRound tells (IsRoundOf G' q t Q) n mid new m' m'' (Ok None) → Joined P Q R old mid
@@ -541,10 +545,6 @@ module _ {J : Type 0} {G : Ghosts J} {tells : Type 0} where
         clock = subst (ByClock p t) (sym (append-nil cs)) (clock_later p q t cs l.clock later);
       } in
       (served, subst (λ (ds : List Connection). R (adds_of ds)) (sym (append-nil cs)) k)
-
-  -- where none was added
-  with_none : (P Q R : List InboxRecord → Type 0) (old mid : LifeAt J G) (cs : List Connection) → Joined P Q R old mid → Gains old.box mid.box (adds_of cs) → P (adds_of cs) → Q [] → R (adds_of cs)
-  with_none P Q R old mid cs join gains known none = subst R (append-nil (adds_of cs)) (join (adds_of cs) [] gains known none)
 
   pub over_stopped : {L : Type 0} (P : List InboxRecord → Type 0) (G' : LinkGhosts L) (p q n : ℕ) (old new : LifeAt J G) (m m' : State)
       → ((l : LivedTo tells G' p q n old new m m') × P (adds_of l.ended)) → (s : ServedOver tells G' p q old new m (Ok ends.Stopped)) × P (adds_of (all_of s.life.ended s.life.given_up))

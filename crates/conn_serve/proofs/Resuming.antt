@@ -1,5 +1,5 @@
 -- A life whose business took its place first, which changes nothing of what the inbox holds.
-use Rattle.std.proofs.Common.{◌≡◌, ◌≤◌, ℕ, Bool, true, false, List, [], ◌++◌, Option, Some, None, Result, Ok, Err, refl, sym, ap, subst, ◌∙◌}
+use Rattle.std.proofs.Common.{◌≡◌, ◌≤◌, ℕ, false, List, [], ◌++◌, Option, Result, Ok, Err, refl, sym, subst, ◌∙◌}
 use Rattle.std.specs.Prelude.{IfErr}
 use Rattle.std.proofs.lemmas.Bool.{false≢true}
 use Rattle.session_model.specs.Journal.{History}
@@ -8,7 +8,7 @@ use Rattle.fixp_machine.specs.Machine.{State}
 use Rattle.gw_links.specs.Dialers.{DialerTold}
 use Rattle.gw_links.specs.declared.link.Link.{Ghosts as LinkGhosts}
 use Rattle.jr_dated.specs.declared.journal.Journal.{Ghosts}
-use Rattle.jr_boxes.specs.declared.limits.Limits.{Limits}
+use Rattle.jr_dated.specs.declared.limits.Limits.{Limits}
 use Rattle.jr_kept.specs.declared.inbox.Inbox.{Inbox}
 use Rattle.jr_kept.specs.Inbox.{SameContent, limits_of, flow_of, is_broken, size_of, faults_of}
 use Rattle.conn_steps.specs.Settling.{Refuses, HaveRoom, SameKind}
@@ -52,13 +52,13 @@ module _ {J : Type 0} {G : Ghosts J} where
     };
   }
 
-module _ {J : Type 0} {G : Ghosts J} {tells : Type 0} where
+module _ {J : Type 0} {G : Ghosts J} (tells : Type 0) where
   pub blamed_resumed : (old mid new : FaultsAt J G) (connections : Result LifeEnd ServeFault) → old.out ≤ mid.out → old.dialer ≤ mid.dialer → old.pass.faults ≤ mid.pass.faults
       → faults_of old.box ≤ faults_of mid.box → faults_of mid.box ≤ faults_of new.box → SameKind old.box mid.box → IfErr connections (IsBlamed tells mid new) → IfErr connections (IsBlamed tells old new)
   blamed_resumed old mid new (Ok end) out dialer pass inbox later kind b = tt
   blamed_resumed old mid new (Err fault) out dialer pass inbox later kind b = blamed_since old mid new fault out dialer pass inbox later kind b
 
-module _ {J : Type 0} {G : Ghosts J} {tells : Type 0} {L : Type 0} (P : List InboxRecord → Type 0) (links : LinkGhosts L) (before behind : ℕ) where
+module _ {J : Type 0} {G : Ghosts J} (tells : Type 0) {L : Type 0} (P : List InboxRecord → Type 0) (links : LinkGhosts L) (before behind : ℕ) where
   -- the connections were served so, and this is known of the records that they added
   abbrev pub OverSo : (old new : LifeAt J G) → State → Result LifeEnd ServeFault → Type 0
   OverSo old new m result = (s : ServedOver tells links before behind old new m result) × P (adds_of (all_of s.life.ended s.life.given_up))
@@ -94,9 +94,9 @@ module _ {J : Type 0} {G : Ghosts J} {tells : Type 0} {L : Type 0} (P : List Inb
       subst (λ (x : State). OverSo (life_at dialed out seen box) new x result) is (over_content dialed out seen box mid new m result content limits s)
 
 -- no connection was served, since the business did not take its place
-pub none_resumed : {J : Type 0} {G : Ghosts J} {tells : Type 0} {L : Type 0} (P : List InboxRecord → Type 0) (links : LinkGhosts L) (clock : ℕ) (dialed : Option DialerTold) (out : Option (List ℕ)) (seen : History) (box mid : Inbox J G) (m : State)
+pub none_resumed : {J : Type 0} {G : Ghosts J} (tells : Type 0) {L : Type 0} (P : List InboxRecord → Type 0) (links : LinkGhosts L) (clock : ℕ) (dialed : Option DialerTold) (out : Option (List ℕ)) (seen : History) (box mid : Inbox J G) (m : State)
     → SameContent box mid → limits_of mid ≡ limits_of box → P []
     → (s : ServedOver tells links clock clock (life_at dialed out seen box) (life_at dialed out seen mid) m (Ok ends.Stopped)) × P (adds_of (all_of s.life.ended s.life.given_up))
-none_resumed P links clock dialed out seen box mid m content limits known =
-    over_resumed P links clock clock dialed out seen box mid (life_at dialed out seen mid) m m (Ok ends.Stopped) content limits refl
+none_resumed tells P links clock dialed out seen box mid m content limits known =
+    over_resumed tells P links clock clock dialed out seen box mid (life_at dialed out seen mid) m m (Ok ends.Stopped) content limits refl
     (over_stopped P links clock clock 1 (life_at dialed out seen mid) (life_at dialed out seen mid) m m (lived_none P links clock dialed out seen m mid known))

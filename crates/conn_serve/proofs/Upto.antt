@@ -1,11 +1,14 @@
 -- How far a business answered: turn by turn, and connection by connection.
-use Rattle.std.proofs.Common.{⊤, ◌≡◌, ◌≢◌, ◌⊎◌, inl, inr, ℕ, ◌≤◌, Bool, true, false, true≢false, List, [], ◌∷◌, ◌++◌, length, is_some, Option, Some, None, Result, Ok, Err, refl, sym, ap, subst, ◌∙◌, arith, append-nil, append_assoc}
+use Rattle.std.proofs.Common.{◌≡◌, ◌≢◌, ◌⊎◌, inl, inr, ℕ, Bool, true, false, true≢false, List, [], ◌∷◌, ◌++◌, length, is_some, Option, Some, None, Result, Ok, Err, refl, sym, ap, subst, ◌∙◌, append-nil, append_assoc}
+use Rattle.std.specs.Bool.{⊤}
 use Rattle.std.proofs.Math.Logic.{∥∥₁_map}
 use Rattle.std.proofs.lemmas.Option.{none-some}
 use mathlib.Core.List.{IsPrefix}
-use Rattle.session_model.specs.Inbox.{InboxRecord, apply, skip, negotiated, peer_finished, applied, payloads_of, has_peer_finished}
+use Rattle.session_model.specs.Inbox.{InboxRecord, apply, skip, negotiated, peer_finished, applied, has_peer_finished}
 use Rattle.session_model.specs.Plans.{GoesOn}
 use Rattle.session_model.proofs.Lists.{prefix_self, prefix_of_append, prefix_trans}
+use Rattle.fixp_machine.specs.Machine.{State}
+use Rattle.gw_links.specs.declared.link.Link.{Ghosts as LinkGhosts}
 use Rattle.jr_dated.specs.declared.journal.Journal.{Ghosts}
 use Rattle.jr_dated.specs.declared.faults.FetchFault.{FetchFault}
 use Rattle.jr_dated.specs.declared.faults.FetchFault.TheVariants as fetch
@@ -27,8 +30,10 @@ use Rattle.conn_turns.proofs.Delivering.{applied_payloads, frames_deliver_applie
 use Rattle.turn_laws.specs.Turns.{adds_in, tells_in}
 use Rattle.conn_steps.specs.Settling.{Gains}
 use Rattle.conn_door.specs.declared.answer.ServeFault.{ServeFault}
-use Rattle.conn_door.specs.Answers.{submit_fault}
-use Rattle.conn_serve.specs.Answering.{call_fault, resume_fault, messages_of, BusinessAt, AnsweredTo, Answers, AnswersMore, AnsweringAt, AnsweredLife}
+use Rattle.conn_door.specs.declared.answer.LifeEnd.{LifeEnd}
+use Rattle.conn_serve.specs.Answering.{call_fault, resume_fault, messages_of, BusinessAt, AnsweredTo, Answers, AnswersMore, AnsweringAt, AnsweredLife, AnsweredEach}
+use Rattle.conn_serve.specs.Moments.{LifeAt}
+use Rattle.conn_serve.specs.Served.{IsRound, IsRoundOf}
 
 -- ---- records
 
@@ -223,7 +228,7 @@ module _ {J : Type 0} {G : Ghosts J} where
     pub more_turn : (d : BusinessAt) (mid new : Inbox J G) (told finished : Bool) (news : List NewsItem) (xs ys : List InboxRecord) → Gains box mid xs → Gains mid new ys
         → told ≡ is_some (peer_last_of mid) → finished ≡ is_some (peer_last_of new) → delivered_in news ≡ messages_of ys
         → ((p : ℕ → Part) (opening : List InboxRecord) (before : List (List ℕ)) (adds more : List InboxRecord) → told ≡ has_peer_finished (opening ++ adds) → finished ≡ has_peer_finished (opening ++ (adds ++ more)) → delivered_in news ≡ messages_of more
-          → Answers ⊤ c p opening before adds → Answers ⊤ d p opening before (adds ++ more))
+        → Answers ⊤ c p opening before adds → Answers ⊤ d p opening before (adds ++ more))
         → AnswersMore ⊤ b c box xs → AnswersMore ⊤ b d box (xs ++ ys)
     more_turn d mid new told finished news xs ys gains later was is delivered call m p opening before adds h a =
         let h' : HoldsBox mid (opening ++ (adds ++ xs)) [] = subst (λ l. HoldsBox mid l []) (append_assoc opening adds xs) (gains.holds (opening ++ adds) h) in
@@ -250,3 +255,9 @@ module _ {J : Type 0} {G : Ghosts J} where
       told = λ i t h. behind i (messages_of i) h (told i t (holds_stands old.box i h));
       read = λ i h. ∥∥₁_map (read i (holds_stands old.box i h)) (λ r. (r.0, r.1, behind i r.0 h r.2));
     }
+
+  -- ---- a round, by what it is known to answer
+
+  pub round_at : {L : Type 0} (tells : Type 0) (links : LinkGhosts L) (before behind : ℕ) (b c : BusinessAt) (box : Inbox J G) (n : ℕ) (old new : LifeAt J G) (m m' : State) (r q : Result (Option LifeEnd) ServeFault) → r ≡ q
+      → IsRound tells (IsRoundOf links before behind (AnswersMore (AnsweredEach r) b c box)) n old new m m' r → IsRound tells (IsRoundOf links before behind (AnswersMore (AnsweredEach q) b c box)) n old new m m' q
+  round_at tells links before behind b c box n old new m m' r q is round = subst (λ (x : Result (Option LifeEnd) ServeFault). IsRound tells (IsRoundOf links before behind (AnswersMore (AnsweredEach x) b c box)) n old new m m' x) is round

@@ -18,8 +18,7 @@ ghost use Rattle.conn_serve.specs.Turned.{MayBegin};
 ghost use Rattle.conn_door.specs.Senders.{SomeMarked};
 ghost use Rattle.conn_serve.specs.Opening.{opened_state, ServedBy, ServedThrough};
 ghost use Rattle.conn_serve.specs.Answering.{business_of, refused_in, business_at, answering_at, AnsweredSo};
-ghost use Rattle.conn_serve.specs.Served.{ServedOver};
-ghost use Rattle.conn_serve.specs.Moments.{serving_at, life_at, faults_at};
+ghost use Rattle.conn_serve.specs.Moments.{serving_at};
 
 use crate::answering::{Answering, resume_business};
 use crate::life::{serve_connections, serve_then_shut};

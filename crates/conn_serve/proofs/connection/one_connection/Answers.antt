@@ -1,4 +1,5 @@
-use Rattle.std.proofs.Common.{⊤, ◌≡◌, refl, ap, subst, ◌∙◌, arith}
+use Rattle.std.proofs.Common.{◌≡◌, refl, ap, subst, ◌∙◌, arith}
+use Rattle.std.specs.Bool.{⊤}
 use Rattle.conn_turns.specs.Lines.{Line}
 use Rattle.conn_loop.specs.Ends.{line_in}
 use Rattle.conn_loop.proofs.Lasting.{stays_on}
@@ -65,9 +66,9 @@ returns-in-Err-clause-given_up g c =
 
 pub returns-in-Ok-Some-clause-turned : goal.returns-in-Ok-Some-clause-turned
 returns-in-Ok-Some-clause-turned g c = λ close e.
-    turned_first (λ adds. AnswersMore ⊤ (business_at g.B.Business.stands g.B.Business.plan g.B.Business.count g.B.Business.part c.args.answering.now) (business_at g.B.Business.stands g.B.Business.plan g.B.Business.count g.B.Business.part c.answer_turn-2.new.answering) c.args.end.now.inbox.now adds) _ (connection_in _ _ _ c.args.end.now) (connection_in _ _ _ c.turn_once.new.end) (line_in c.begin.new.self) _ _ _ c.begin.ensures.begun (record { time = c.begin.ensures.limit; is = refl; later = c.begin.ensures.stays.ticks })
-    (on_adding (λ adds. AnswersMore ⊤ (business_at g.B.Business.stands g.B.Business.plan g.B.Business.count g.B.Business.part c.args.answering.now) (business_at g.B.Business.stands g.B.Business.plan g.B.Business.count g.B.Business.part c.loop.answering) c.args.end.now.inbox.now adds) (λ adds. delivered_in (items_of c.turn_once.new.teller.news) ≡ messages_of adds) (λ adds. AnswersMore ⊤ (business_at g.B.Business.stands g.B.Business.plan g.B.Business.count g.B.Business.part c.args.answering.now) (business_at g.B.Business.stands g.B.Business.plan g.B.Business.count g.B.Business.part c.answer_turn-2.new.answering) c.args.end.now.inbox.now adds) _ _ (connection_in _ _ _ c.loop.end) (connection_in _ _ _ c.turn_once.new.end) _ 1 c.loop.invariant.turned c.in-Ok-Some.ensures.turned
-    (λ xs ys gains later m delivered. more_turn (business_at g.B.Business.stands g.B.Business.plan g.B.Business.count g.B.Business.part c.args.answering.now) (business_at g.B.Business.stands g.B.Business.plan g.B.Business.count g.B.Business.part c.loop.answering) c.args.end.now.inbox.now (business_at g.B.Business.stands g.B.Business.plan g.B.Business.count g.B.Business.part c.answer_turn-2.new.answering) c.loop.end.inbox.now c.turn_once.new.end.inbox.now _ _ (items_of c.turn_once.new.teller.news) xs ys gains later c.peer_finished-told.ensures c.peer_finished-finished-2.ensures delivered c.answer_turn-2.ensures.answered m))
+    turned_first (λ adds. AnswersMore ⊤ (business_at g.B.Business.stands g.B.Business.plan g.B.Business.count g.B.Business.part c.args.answering.now) (business_at g.B.Business.stands g.B.Business.plan g.B.Business.count g.B.Business.part c.answer_turn-in-Ok-Some.new.answering) c.args.end.now.inbox.now adds) _ (connection_in _ _ _ c.args.end.now) (connection_in _ _ _ c.turn_once.new.end) (line_in c.begin.new.self) _ _ _ c.begin.ensures.begun (record { time = c.begin.ensures.limit; is = refl; later = c.begin.ensures.stays.ticks })
+    (on_adding (λ adds. AnswersMore ⊤ (business_at g.B.Business.stands g.B.Business.plan g.B.Business.count g.B.Business.part c.args.answering.now) (business_at g.B.Business.stands g.B.Business.plan g.B.Business.count g.B.Business.part c.loop.answering) c.args.end.now.inbox.now adds) (λ adds. delivered_in (items_of c.turn_once.new.teller.news) ≡ messages_of adds) (λ adds. AnswersMore ⊤ (business_at g.B.Business.stands g.B.Business.plan g.B.Business.count g.B.Business.part c.args.answering.now) (business_at g.B.Business.stands g.B.Business.plan g.B.Business.count g.B.Business.part c.answer_turn-in-Ok-Some.new.answering) c.args.end.now.inbox.now adds) _ _ (connection_in _ _ _ c.loop.end) (connection_in _ _ _ c.turn_once.new.end) _ 1 c.loop.invariant.turned c.in-Ok-Some.ensures.turned
+    (λ xs ys gains later m delivered. more_turn (business_at g.B.Business.stands g.B.Business.plan g.B.Business.count g.B.Business.part c.args.answering.now) (business_at g.B.Business.stands g.B.Business.plan g.B.Business.count g.B.Business.part c.loop.answering) c.args.end.now.inbox.now (business_at g.B.Business.stands g.B.Business.plan g.B.Business.count g.B.Business.part c.answer_turn-in-Ok-Some.new.answering) c.loop.end.inbox.now c.turn_once.new.end.inbox.now _ _ (items_of c.turn_once.new.teller.news) xs ys gains later c.peer_finished-told.ensures c.peer_finished-finished-in-Ok-Some.ensures delivered c.answer_turn-in-Ok-Some.ensures.answered m))
 
 pub returns-in-Ok-Some-clause-stays : goal.returns-in-Ok-Some-clause-stays
 returns-in-Ok-Some-clause-stays g c = stays_on _ _ _ c.loop.invariant.stays c.turn_once.ensures.stays
@@ -79,7 +80,7 @@ loop-preserved g c =
     record {
       stays = stays_on _ _ _ was.stays one.stays;
       turned = (on_adding (λ adds. AnswersMore ⊤ (business_at g.B.Business.stands g.B.Business.plan g.B.Business.count g.B.Business.part c.args.answering.now) (business_at g.B.Business.stands g.B.Business.plan g.B.Business.count g.B.Business.part c.loop.answering) c.args.end.now.inbox.now adds) (λ adds. delivered_in (items_of c.turn_once.new.teller.news) ≡ messages_of adds) (λ adds. AnswersMore ⊤ (business_at g.B.Business.stands g.B.Business.plan g.B.Business.count g.B.Business.part c.args.answering.now) (business_at g.B.Business.stands g.B.Business.plan g.B.Business.count g.B.Business.part c.answer_turn.new.answering) c.args.end.now.inbox.now adds) _ _ (connection_in _ _ _ c.loop.end) (connection_in _ _ _ c.turn_once.new.end) _ 1 c.loop.invariant.turned c.in-Ok-None.ensures.turned
-    (λ xs ys gains later m delivered. more_turn (business_at g.B.Business.stands g.B.Business.plan g.B.Business.count g.B.Business.part c.args.answering.now) (business_at g.B.Business.stands g.B.Business.plan g.B.Business.count g.B.Business.part c.loop.answering) c.args.end.now.inbox.now (business_at g.B.Business.stands g.B.Business.plan g.B.Business.count g.B.Business.part c.answer_turn.new.answering) c.loop.end.inbox.now c.turn_once.new.end.inbox.now _ _ (items_of c.turn_once.new.teller.news) xs ys gains later c.peer_finished-told.ensures c.peer_finished-finished.ensures delivered c.answer_turn.ensures.answered m));
+          (λ xs ys gains later m delivered. more_turn (business_at g.B.Business.stands g.B.Business.plan g.B.Business.count g.B.Business.part c.args.answering.now) (business_at g.B.Business.stands g.B.Business.plan g.B.Business.count g.B.Business.part c.loop.answering) c.args.end.now.inbox.now (business_at g.B.Business.stands g.B.Business.plan g.B.Business.count g.B.Business.part c.answer_turn.new.answering) c.loop.end.inbox.now c.turn_once.new.end.inbox.now _ _ (items_of c.turn_once.new.teller.news) xs ys gains later c.peer_finished-told.ensures c.peer_finished-finished.ensures delivered c.answer_turn.ensures.answered m));
       may = c.in-Ok-None.ensures.goes (cc);
       out = omega (arith, was.out, one.never_falls);
       place = one.place ∙ was.place;

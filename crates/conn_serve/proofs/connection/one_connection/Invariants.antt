@@ -1,4 +1,5 @@
-use Rattle.std.proofs.Common.{⊤, ◌≡◌, ◌≤◌}
+use Rattle.std.proofs.Common.{◌≡◌, ◌≤◌}
+use Rattle.std.specs.Bool.{⊤}
 use Rattle.gate_business.specs.Business.{lock_of}
 use Rattle.conn_serve.specs.Answering.{business_of, business_at, AnswersMore}
 use Rattle.conn_loop.specs.Ends.{line_in, MayTurn, Stays}

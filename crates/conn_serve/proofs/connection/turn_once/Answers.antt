@@ -1,4 +1,5 @@
-use Rattle.std.proofs.Common.{⊤, ◌≡◌, ap, ◌∙◌}
+use Rattle.std.proofs.Common.{◌≡◌, ap, ◌∙◌}
+use Rattle.std.specs.Bool.{⊤}
 use Rattle.std.proofs.lemmas.Result.{on_ok_weaker}
 use Rattle.conn_turns.specs.declared.news.News.{News}
 use Rattle.conn_turns.specs.News.{items_of, delivered_in}
@@ -15,9 +16,11 @@ pub returns-then-is_ok-clause-given_up : goal.returns-then-is_ok-clause-given_up
 returns-then-is_ok-clause-given_up g c =
     let made = c.make_turn-answer.ensures in
     let cut = c.cut.ensures in
-    (given_in_cut (λ adds. ⊤) _ _ _ _ _ _ c.make_turn-answer.new.end c.cut.new.self cut.pass cut.inbox cut.clock
-    (given_told c.make_turn-answer.result c.in-Err.fault _ _ (connection_in _ _ _ c.args.end.now) (connection_in _ _ _ c.make_turn-answer.new.end) _ c.requires.may.goes.unended
-    made.stays.looks.seen made.stays.ticks made.whole made.cut c.in-Err.ensures.front c.in-Err.ensures.cause, tt)).0
+    (given_in_cut (λ adds. ⊤) _ _ _ _ _ _ c.make_turn-answer.new.end c.cut.new.self cut.pass cut.inbox cut.clock (
+      given_told c.make_turn-answer.result c.in-Err.fault _ _ (connection_in _ _ _ c.args.end.now) (connection_in _ _ _ c.make_turn-answer.new.end) _ c.requires.may.goes.unended
+          made.stays.looks.seen made.stays.ticks made.whole made.cut c.in-Err.ensures.front c.in-Err.ensures.cause,
+      tt,
+    )).0
 
 pub returns-then-is_ok-clause-stays : goal.returns-then-is_ok-clause-stays
 returns-then-is_ok-clause-stays g c = stays_on _ _ _ c.make_turn-answer.ensures.stays c.cut.ensures.stays

@@ -1,13 +1,13 @@
-use Rattle.std.proofs.Common.{⊤, Ok, refl, ap, subst, ◌∙◌, arith}
+use Rattle.std.proofs.Common.{Ok, refl, ap, ◌∙◌, arith}
+use Rattle.std.specs.Bool.{⊤}
 use Rattle.gate_turn.specs.Places.{known}
 use Rattle.conn_steps.proofs.Inboxes.{kind_self, kind_on}
 use Rattle.conn_loop.proofs.Working.{looks_self, looks_on}
 use Rattle.conn_serve.specs.Answers.{IsOfTurn}
-use Rattle.conn_serve.specs.Answering.{business_at, AnswersMore, AnsweredEach}
-use Rattle.conn_serve.specs.Served.{IsRound, IsRoundOf}
+use Rattle.conn_serve.specs.Answering.{business_at, AnswersMore}
 use Rattle.conn_serve.proofs.Making.{blamed_since}
 use Rattle.conn_serve.proofs.Living.{lived_none, lived_more, over_stopped, over_ok, over_err}
-use Rattle.conn_serve.proofs.Upto.{more_none, more_on}
+use Rattle.conn_serve.proofs.Upto.{more_none, more_on, round_at}
 use Rattle.conn_serve.specs.Moments.{life_at, faults_at}
 use Rattle.conn_serve.proofs.life.serve_connections.Goals as goal
 
@@ -46,7 +46,7 @@ returns-in-Some-clause-looks g c = looks_on _ _ _ c.loop-number.invariant.looks 
 
 pub returns-in-Some-clause-served : goal.returns-in-Some-clause-served
 returns-in-Some-clause-served g c =
-    over_ok (λ adds. AnswersMore ⊤ (business_at g.B.Business.stands g.B.Business.plan g.B.Business.count g.B.Business.part c.args.answering.now) (business_at g.B.Business.stands g.B.Business.plan g.B.Business.count g.B.Business.part c.loop-number.answering) c.args.inbox.now adds) (λ adds. AnswersMore ⊤ (business_at g.B.Business.stands g.B.Business.plan g.B.Business.count g.B.Business.part c.loop-number.answering) (business_at g.B.Business.stands g.B.Business.plan g.B.Business.count g.B.Business.part c.serve_next-answer.new.answering) c.loop-number.inbox adds) (λ adds. AnswersMore ⊤ (business_at g.B.Business.stands g.B.Business.plan g.B.Business.count g.B.Business.part c.args.answering.now) (business_at g.B.Business.stands g.B.Business.plan g.B.Business.count g.B.Business.part c.serve_next-answer.new.answering) c.args.inbox.now adds) _ _ _ _ c.in-Some.end _ (life_at _ _ _ c.args.inbox.now) (life_at _ _ _ c.loop-number.inbox) (life_at _ _ _ c.serve_next-answer.new.inbox) _ _ _ c.loop-number.invariant.lived (subst (λ r. IsRound _ (IsRoundOf _ _ _ (λ adds. AnswersMore (AnsweredEach r) (business_at g.B.Business.stands g.B.Business.plan g.B.Business.count g.B.Business.part c.loop-number.answering) (business_at g.B.Business.stands g.B.Business.plan g.B.Business.count g.B.Business.part c.serve_next-answer.new.answering) c.loop-number.inbox adds)) _ (life_at _ _ _ c.loop-number.inbox) (life_at _ _ _ c.serve_next-answer.new.inbox) _ _ r) (c.in-Ok.is ∙ ap Ok c.in-Some.is) c.serve_next-answer.ensures.round)
+    over_ok (λ adds. AnswersMore ⊤ (business_at g.B.Business.stands g.B.Business.plan g.B.Business.count g.B.Business.part c.args.answering.now) (business_at g.B.Business.stands g.B.Business.plan g.B.Business.count g.B.Business.part c.loop-number.answering) c.args.inbox.now adds) (λ adds. AnswersMore ⊤ (business_at g.B.Business.stands g.B.Business.plan g.B.Business.count g.B.Business.part c.loop-number.answering) (business_at g.B.Business.stands g.B.Business.plan g.B.Business.count g.B.Business.part c.serve_next-answer.new.answering) c.loop-number.inbox adds) (λ adds. AnswersMore ⊤ (business_at g.B.Business.stands g.B.Business.plan g.B.Business.count g.B.Business.part c.args.answering.now) (business_at g.B.Business.stands g.B.Business.plan g.B.Business.count g.B.Business.part c.serve_next-answer.new.answering) c.args.inbox.now adds) _ _ _ _ c.in-Some.end _ (life_at _ _ _ c.args.inbox.now) (life_at _ _ _ c.loop-number.inbox) (life_at _ _ _ c.serve_next-answer.new.inbox) _ _ _ c.loop-number.invariant.lived (round_at _ _ _ _ (business_at g.B.Business.stands g.B.Business.plan g.B.Business.count g.B.Business.part c.loop-number.answering) (business_at g.B.Business.stands g.B.Business.plan g.B.Business.count g.B.Business.part c.serve_next-answer.new.answering) c.loop-number.inbox _ (life_at _ _ _ c.loop-number.inbox) (life_at _ _ _ c.serve_next-answer.new.inbox) _ _ _ _ (c.in-Ok.is ∙ ap Ok c.in-Some.is) c.serve_next-answer.ensures.round)
     (λ xs ys gains first later. more_on (business_at g.B.Business.stands g.B.Business.plan g.B.Business.count g.B.Business.part c.args.answering.now) (business_at g.B.Business.stands g.B.Business.plan g.B.Business.count g.B.Business.part c.loop-number.answering) c.args.inbox.now ⊤ (business_at g.B.Business.stands g.B.Business.plan g.B.Business.count g.B.Business.part c.serve_next-answer.new.answering) c.loop-number.inbox xs ys gains first later) c.serve_next-answer.ensures.ticks
 
 pub returns-in-Err-clause-ticks : goal.returns-in-Err-clause-ticks
@@ -77,7 +77,7 @@ loop-number-preserved g c =
       may = one.goes (c.in-Ok.is ∙ ap Ok c.in_default.is);
       lent = one.lent;
       lived = lived_more (λ adds. AnswersMore ⊤ (business_at g.B.Business.stands g.B.Business.plan g.B.Business.count g.B.Business.part c.args.answering.now) (business_at g.B.Business.stands g.B.Business.plan g.B.Business.count g.B.Business.part c.loop-number.answering) c.args.inbox.now adds) (λ adds. AnswersMore ⊤ (business_at g.B.Business.stands g.B.Business.plan g.B.Business.count g.B.Business.part c.loop-number.answering) (business_at g.B.Business.stands g.B.Business.plan g.B.Business.count g.B.Business.part c.serve_next-answer.new.answering) c.loop-number.inbox adds) (λ adds. AnswersMore ⊤ (business_at g.B.Business.stands g.B.Business.plan g.B.Business.count g.B.Business.part c.args.answering.now) (business_at g.B.Business.stands g.B.Business.plan g.B.Business.count g.B.Business.part c.serve_next-answer.new.answering) c.args.inbox.now adds) _ _ _ _ _ (life_at _ _ _ c.args.inbox.now) (life_at _ _ _ c.loop-number.inbox) (life_at _ _ _ c.serve_next-answer.new.inbox) _ _ _ was.lived
-          (subst (λ r. IsRound _ (IsRoundOf _ _ _ (λ adds. AnswersMore (AnsweredEach r) (business_at g.B.Business.stands g.B.Business.plan g.B.Business.count g.B.Business.part c.loop-number.answering) (business_at g.B.Business.stands g.B.Business.plan g.B.Business.count g.B.Business.part c.serve_next-answer.new.answering) c.loop-number.inbox adds)) _ (life_at _ _ _ c.loop-number.inbox) (life_at _ _ _ c.serve_next-answer.new.inbox) _ _ r) (c.in-Ok.is ∙ ap Ok c.in_default.is) one.round)
+          (round_at _ _ _ _ (business_at g.B.Business.stands g.B.Business.plan g.B.Business.count g.B.Business.part c.loop-number.answering) (business_at g.B.Business.stands g.B.Business.plan g.B.Business.count g.B.Business.part c.serve_next-answer.new.answering) c.loop-number.inbox _ (life_at _ _ _ c.loop-number.inbox) (life_at _ _ _ c.serve_next-answer.new.inbox) _ _ _ _ (c.in-Ok.is ∙ ap Ok c.in_default.is) one.round)
           (λ xs ys gains first later. more_on (business_at g.B.Business.stands g.B.Business.plan g.B.Business.count g.B.Business.part c.args.answering.now) (business_at g.B.Business.stands g.B.Business.plan g.B.Business.count g.B.Business.part c.loop-number.answering) c.args.inbox.now ⊤ (business_at g.B.Business.stands g.B.Business.plan g.B.Business.count g.B.Business.part c.serve_next-answer.new.answering) c.loop-number.inbox xs ys gains first later);
       kind = kind_on c.args.inbox.now c.loop-number.inbox c.serve_next-answer.new.inbox was.inbox one.never_falls.0 was.kind one.kind;
       inbox = omega (arith, was.inbox, one.never_falls.0);

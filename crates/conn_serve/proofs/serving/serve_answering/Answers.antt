@@ -1,4 +1,5 @@
-use Rattle.std.proofs.Common.{⊤, inl, inr, refl, Ok, Err, ap, sym, ◌∙◌, arith}
+use Rattle.std.proofs.Common.{inl, inr, refl, Ok, Err, ap, sym, ◌∙◌, arith}
+use Rattle.std.specs.Bool.{⊤}
 use Rattle.gate_turn.specs.Places.{known}
 use Rattle.gate_senders.specs.Gate.{opening_of}
 use Rattle.conn_turns.specs.Lines.{Line}
@@ -22,8 +23,8 @@ returns-in_default-clause-through g c = record {
   business = inr (refl, refl);
 }
 
-pub serve_connections-requires-clause-may : goal.serve_connections-requires-clause-may
-serve_connections-requires-clause-may g c =
+pub serve_connections-connections-requires-clause-may : goal.serve_connections-connections-requires-clause-may
+serve_connections-connections-requires-clause-may g c κs within =
     let r = c.requires in
     let took = c.resume_business.ensures in
     may_resumed _ (known c.args.pass.now) c.args.inbox.now c.resume_business.new.inbox took.content took.kind
@@ -34,7 +35,7 @@ returns-in-Some-clause-through g c =
     let took = c.resume_business.ensures in
     let old = answering_at _ _ _ _ (known c.args.pass.now) c.args.inbox.now (business_at g.B.Business.stands g.B.Business.plan g.B.Business.count g.B.Business.part c.args.answering.now) in
     let new = answering_at _ _ _ _ (known c.args.pass.now) c.resume_business.new.inbox (business_at g.B.Business.stands g.B.Business.plan g.B.Business.count g.B.Business.part c.resume_business.new.answering) in
-    let none = none_resumed (AnsweredLife ⊤ old new) g.N.Link.Link (g.C.Clock.last c.args.clock.now) _ _ _ c.args.inbox.now c.resume_business.new.inbox _ took.content took.kind.0 (life_resumed old new took.told took.read) in
+    let none = none_resumed g.O.Journal.tells (AnsweredLife ⊤ old new) g.N.Link.Link (g.C.Clock.last c.args.clock.now) _ _ _ c.args.inbox.now c.resume_business.new.inbox _ took.content took.kind.0 (life_resumed old new took.told took.read) in
     record {
       connections = Ok ends.Stopped;
       life = none.0;
@@ -46,18 +47,18 @@ returns-in-Some-clause-through g c =
 pub returns-clause-through : goal.returns-clause-through
 returns-clause-through g c =
     let took = c.resume_business.ensures in
-    let one = c.serve_connections.ensures in
+    let one = c.serve_connections-connections.ensures in
     let old = answering_at _ _ _ _ (known c.args.pass.now) c.args.inbox.now (business_at g.B.Business.stands g.B.Business.plan g.B.Business.count g.B.Business.part c.args.answering.now) in
-    let mid = answering_at _ _ _ _ (known c.args.pass.now) c.resume_business.new.inbox (business_at g.B.Business.stands g.B.Business.plan g.B.Business.count g.B.Business.part c.resume_business.new.answering) in
-    let new = answering_at _ _ _ _ (known c.serve_connections.new.pass) c.serve_connections.new.inbox (business_at g.B.Business.stands g.B.Business.plan g.B.Business.count g.B.Business.part c.serve_connections.new.answering) in
-    let each = AnsweredEach c.serve_connections.result in
-    let served = over_resumed (AnsweredLife each old new) g.N.Link.Link _ _ _ _ _ c.args.inbox.now c.resume_business.new.inbox (life_at _ _ _ c.serve_connections.new.inbox) _ _ c.serve_connections.result took.content took.kind.0 (ap (λ (l : Line). l.machine) c.in-Ok.ensures)
-        (one.served.0, life_more old mid new each _ took.content took.told took.read one.served.1) in
+    let mid = answering_at (g.N.Dialer.told c.args.dialer.now) (g.K.Sink.taken c.args.out.now) 0 0 (known c.args.pass.now) c.resume_business.new.inbox (business_at g.B.Business.stands g.B.Business.plan g.B.Business.count g.B.Business.part c.resume_business.new.answering) in
+    let new = answering_at _ _ _ _ (known c.serve_connections-connections.new.pass) c.serve_connections-connections.new.inbox (business_at g.B.Business.stands g.B.Business.plan g.B.Business.count g.B.Business.part c.serve_connections-connections.new.answering) in
+    let each = AnsweredEach c.serve_connections-connections.result in
+    let served = over_resumed g.O.Journal.tells (AnsweredLife each old new) g.N.Link.Link _ _ _ _ _ c.args.inbox.now c.resume_business.new.inbox (life_at _ _ _ c.serve_connections-connections.new.inbox) _ _ c.serve_connections-connections.result took.content took.kind.0 (ap (λ (l : Line). l.machine) c.in-Ok.ensures)
+    (one.served.0, life_more old mid new each _ took.content took.told took.read one.served.1) in
     record {
-      connections = c.serve_connections.result;
+      connections = c.serve_connections-connections.result;
       life = served.0;
-      blamed = blamed_resumed (faults_at _ _ (known c.args.pass.now) c.args.inbox.now) (faults_at _ _ (known c.args.pass.now) c.resume_business.new.inbox) (faults_at _ _ (known c.serve_connections.new.pass) c.serve_connections.new.inbox) c.serve_connections.result
+      blamed = blamed_resumed g.O.Journal.tells (faults_at _ _ (known c.args.pass.now) c.args.inbox.now) (faults_at _ _ (known c.args.pass.now) c.resume_business.new.inbox) (faults_at _ _ (known c.serve_connections-connections.new.pass) c.serve_connections-connections.new.inbox) c.serve_connections-connections.result
           (omega arith) (omega arith) (omega arith) took.never_falls one.never_falls.0 (kind_resumed c.args.inbox.now c.resume_business.new.inbox took.kind (took.unbroken (sym c.refused.ensures ∙ c.in_default-refused.is))) one.blamed;
-      answer = ?;
+      answer = c.answer_of.ensures ∙ ap (answer_of c.serve_connections-connections.result) c.refused-2.ensures;
       business = inl served.1;
     }
