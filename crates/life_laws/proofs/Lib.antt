@@ -10,4 +10,3 @@ pub mod Seen
 pub mod Senders
 pub mod Passes
 pub mod Boxes
-pub mod Answering

@@ -2,4 +2,3 @@ pub mod Lives
 pub mod Plans
 pub mod PlanLaws
 pub mod PlanLives
-pub mod Answered

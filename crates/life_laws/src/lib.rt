@@ -4,13 +4,9 @@
 //! `serve_connections` are written in.
 #![tactic(auto)]
 
-mod answered;
 mod lives;
 mod plans;
 
-pub use answered::{
-    answering_goes_on, answers_are_kept, answers_keep_outbox, continues_completes, continues_goes_on,
-};
 pub use lives::{
     life_may_turn, life_opens, opened_in_range, opened_opens, served_is_a_loop_life,
     served_is_turned, served_keeps,

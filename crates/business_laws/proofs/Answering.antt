@@ -24,7 +24,7 @@ use Rattle.gate_business.proofs.Making.{prefix_drop, prefix_whole}
 use Rattle.conn_turns.proofs.Delivering.{applied_payloads}
 use Rattle.conn_serve.specs.Answering.{messages_of}
 use Rattle.life_laws.specs.Plans.{plan_in, MadeOf, IsAllMade, LosesMessages, AllMade, LosesOwn, PlansMade, KeepsPlans, LosesNext, GoesOnBy}
-use Rattle.life_laws.specs.Answered.{plans_over, answering_plan, PassesAnswered, KeepsAnswers, AnswersOnBy, ContinuesGoesOn, ContinuesCompletes, AnsweringGoesOn, AnswersAreKept, AnswersKeepOutbox}
+use Rattle.business_laws.specs.Answered.{plans_over, answering_plan, PassesAnswered, KeepsAnswers, AnswersOnBy, ContinuesGoesOn, ContinuesCompletes, AnsweringGoesOn, AnswersAreKept, AnswersKeepOutbox}
 use Rattle.life_laws.proofs.Planned.{plans_are_kept}
 use Rattle.life_laws.proofs.Lost.{plans_go_on}
 use Rattle.life_laws.proofs.Outboxes.{history_of-outbox_of, entries-outbox_of, outbox_begins}
@@ -254,7 +254,7 @@ module _ (plan : ℕ → List (List ℕ) → List (List ℕ)) (count : ℕ) (goe
   continues : (s : ℕ) → Continues (answering_plan plan count s closing_messages) (sent_by (entries (outbox_of o)) s) (sent_by (entries (outbox_of x)) s)
   continues s =
       let longer : IsPrefix (plan_in over_answered s []) (answering_plan plan count s closing_messages) = subst (λ ps. IsPrefix ps (answering_plan plan count s closing_messages)) (plan_any plan count (messages_of k.answered) (messages_of k.answered) [] s)
-          (answering_goes_on plan count goes s (messages_of k.answered) closing_messages (messages_later k.answered life.served.closing_inbox k.reached)) in
+      (answering_goes_on plan count goes s (messages_of k.answered) closing_messages (messages_later k.answered life.served.closing_inbox k.reached)) in
       subst (λ (es : List Entry). Continues (answering_plan plan count s closing_messages) (sent_by es s) (sent_by (entries (outbox_of x)) s)) (sym (entries-outbox_of o))
       (subst (λ (es : List Entry). Continues (answering_plan plan count s closing_messages) (sent_by o.made s) (sent_by es s)) (sym (entries-outbox_of x))
       (continues_longer (plan_in over_answered s []) (answering_plan plan count s closing_messages) (sent_by o.made s) (sent_by x.made s) longer (k.keeps.each s)))

@@ -1,5 +1,0 @@
-use Rattle.life_laws.proofs.Answering.{answers_keep_outbox}
-use Rattle.life_laws.proofs.answered.answers_keep_outbox.Goals as goal
-
-pub returns : goal.returns
-returns c = record { law = answers_keep_outbox }
