@@ -1,15 +1,13 @@
 -- The plans of a business over a life: those over what it answered are plans of senders, which do not look at what was applied.
-use Rattle.std.proofs.Common.{◌≡◌, ◌≢◌, ◌⊎◌, inl, inr, ⊎_elim, ℕ, zero, suc, ◌+◌, ◌<◌, ◌≤◌, Bool, true, false, true≢false, List, [], ◌∷◌, ◌++◌, map, length, take, drop, slice_get, slice_index_or, Some, refl, sym, ap, subst, ◌∙◌, arith, append-nil, append_assoc, length-append, drop-drop}
+use Rattle.std.proofs.Common.{◌≡◌, ◌≢◌, ◌⊎◌, inl, inr, ⊎_elim, ℕ, zero, suc, ◌+◌, ◌<◌, ◌≤◌, true, false, true≢false, List, [], ◌∷◌, ◌++◌, map, length, take, drop, slice_get, slice_index_or, Some, refl, sym, ap, subst, ◌∙◌, arith, append-nil, append_assoc, length-append, drop-drop}
 use Rattle.std.proofs.lemmas.Bool.{cases_lt}
 use Rattle.std.proofs.lemmas.List.{length-map, get_or_past}
 use mathlib.Core.List.{IsPrefix}
-use mathlib.Core.Logic.{dite}
-use native.Mathlib.Decide.{ℕ_discrete}
 use Rattle.session_model.specs.Journal.{Entry, History, OutboxRecord, entry, finish, counts_from, is_finished, history_of, entries, entries_of, BeginsHistory, InOrder}
 use Rattle.session_model.specs.Inbox.{InboxRecord, applied, payloads_of, has_peer_finished}
 use Rattle.session_model.specs.Plans.{GoesOn, sent_by, Continues, Completes, SendersDone}
 use Rattle.session_model.specs.Lives.{Life, IsImage, KeepsOutbox}
-use Rattle.session_model.proofs.Lists.{prefix_trans, prefix_continued, prefix_self, drop_length, length-counts_from}
+use Rattle.session_model.proofs.Lists.{prefix_trans, prefix_continued, length-counts_from}
 use Rattle.jr_boxes.specs.Outboxes.{outbox_of}
 use Rattle.jr_kept.specs.Entries.{entries_made}
 use Rattle.gate_senders.specs.Shown.{entries_after}
@@ -23,7 +21,7 @@ use Rattle.gate_business.specs.Business as business
 use Rattle.gate_business.proofs.Making.{prefix_drop, prefix_whole}
 use Rattle.conn_turns.proofs.Delivering.{applied_payloads}
 use Rattle.conn_serve.specs.Answering.{messages_of}
-use Rattle.life_laws.specs.Plans.{plan_in, MadeOf, IsAllMade, LosesMessages, AllMade, LosesOwn, PlansMade, KeepsPlans, LosesNext, GoesOnBy}
+use Rattle.life_laws.specs.Plans.{plan_in, MadeOf, LosesMessages, AllMade, LosesOwn, PlansMade}
 use Rattle.business_laws.specs.Answered.{plans_over, answering_plan, PassesAnswered, KeepsAnswers, AnswersOnBy, ContinuesGoesOn, ContinuesCompletes, AnsweringGoesOn, AnswersAreKept, AnswersKeepOutbox}
 use Rattle.life_laws.proofs.Planned.{plans_are_kept}
 use Rattle.life_laws.proofs.Lost.{plans_go_on}
