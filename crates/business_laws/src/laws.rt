@@ -1,6 +1,7 @@
 //! Laws over the plans of a business, which are over what its own end applied.
 
 ghost use Rattle.business_laws.specs.Answered.{AnsweringGoesOn, AnswersAreKept, AnswersKeepOutbox, ContinuesCompletes, ContinuesGoesOn};
+ghost use Rattle.business_laws.specs.Lacking.{UnmadeIsEnough, NotKeptWithoutIt};
 
 /// What continues a plan over some applied messages, and then the plan over more of them, continues the latter.
 pub fn continues_goes_on()
@@ -25,4 +26,14 @@ pub fn answers_are_kept()
 /// An outbox that keeps the plans of a business, and is in order, keeps what the session model asks of it.
 pub fn answers_keep_outbox()
     ensures law { AnswersKeepOutbox }
+{}
+
+/// One clause more is enough.
+pub fn unmade_is_enough()
+    ensures law { UnmadeIsEnough }
+{}
+
+/// Without it the law is false.
+pub fn not_kept_without_it()
+    ensures law { NotKeptWithoutIt }
 {}

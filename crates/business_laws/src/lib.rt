@@ -7,5 +7,5 @@ mod laws;
 
 pub use laws::{
     answering_goes_on, answers_are_kept, answers_keep_outbox, continues_completes,
-    continues_goes_on,
+    continues_goes_on, not_kept_without_it, unmade_is_enough,
 };
