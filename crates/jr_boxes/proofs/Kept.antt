@@ -3,6 +3,7 @@ use Rattle.std.proofs.Common.{◌≡◌, ℕ, suc, ◌+◌, ◌<◌, List, [], �
 use Rattle.std.proofs.lemmas.Option.{slice_get_within}
 use Rattle.session_model.specs.Inbox.{InboxRecord, apply, skip, negotiated, peer_finished, applied}
 use Rattle.fixp_msgs.specs.declared.flow.Flow.{Flow}
+use Rattle.jr_places.specs.Numbers.{numbers_of}
 use Rattle.jr_record.specs.declared.record.Record.{Record}
 use Rattle.jr_record.specs.declared.record.Record.TheVariants as kinds
 use Rattle.jr_boxes.specs.declared.notes.Notes.{Notes}
@@ -13,7 +14,7 @@ use Rattle.jr_boxes.proofs.Noting.{noted_more, follows}
 
 -- the same notes, whatever room they have
 abbrev pub SameNotes : Notes → Notes → Type 0
-SameNotes old new = Becomes old new old.next old.negotiated old.peer_last old.places.items
+SameNotes old new = Becomes old new old.next old.negotiated old.peer_last (numbers_of old.places)
 
 pub notices_same : (old new : Notes) → SameNotes old new → (i : List InboxRecord) → Notices old i → Notices new i
 notices_same old new same i n = record {

@@ -5,6 +5,7 @@ use Rattle.session_model.specs.Journal.{counts_from}
 use Rattle.session_model.proofs.Inboxes.{next_number-append}
 use Rattle.session_model.proofs.Lists.{past_greatest-counts_from, past_greatest-pos}
 use Rattle.fixp_msgs.specs.declared.flow.Flow.{Flow}
+use Rattle.jr_places.specs.Numbers.{numbers_of}
 use Rattle.jr_record.specs.declared.record.Record.{Record}
 use Rattle.jr_record.specs.declared.record.Record.TheVariants as kinds
 use Rattle.jr_boxes.specs.declared.notes.Notes.{Notes}
@@ -118,13 +119,13 @@ noted_more flow records old new at (kinds.PeerFinished last) here n may noted = 
 noted_more flow records old new at kinds.Finish here n may noted = absurd may
 
 -- the places stay below the number of records
-still : (old new : Notes) (at : ℕ) → new.places.items ≡ old.places.items → IsWithin old at → IsWithin new (at + 1)
+still : (old new : Notes) (at : ℕ) → numbers_of new.places ≡ numbers_of old.places → IsWithin old at → IsWithin new (at + 1)
 still old new at same within = subst (λ (ks : List ℕ). (k : ℕ) → k < length ks → slice_index ks k < at + 1) (sym same) (λ k here. omega (arith, within k here))
 
 pub within_more : (old new : Notes) (at : ℕ) (r : Record) → HasNoted old new at r → IsWithin old at → IsWithin new (at + 1)
 within_more old new at (kinds.Entry _ _ _) noted within = absurd noted
 within_more old new at (kinds.Apply number payload) noted within =
-    subst (λ (ks : List ℕ). (k : ℕ) → k < length ks → slice_index ks k < at + 1) (sym noted.places_are) (all_below old.places.items at within)
+    subst (λ (ks : List ℕ). (k : ℕ) → k < length ks → slice_index ks k < at + 1) (sym noted.places_are) (all_below (numbers_of old.places) at within)
   where
     all_below : (ks : List ℕ) (n : ℕ) → ((k : ℕ) → k < length ks → slice_index ks k < n) → (k : ℕ) → k < length (ks ++ n ∷ []) → slice_index (ks ++ n ∷ []) k < n + 1
     all_below [] n below zero within = omega arith

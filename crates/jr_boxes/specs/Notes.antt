@@ -3,6 +3,7 @@ use Rattle.std.specs.Prelude.{◌≡◌, ℕ, ◌+◌, ◌<◌, ◌≤◌, ◌^�
 use Rattle.session_model.specs.Inbox.{InboxRecord, apply, skip, negotiated, peer_finished, next_number}
 use Rattle.fixp_msgs.specs.declared.flow.Flow.{Flow}
 use Rattle.fixp_msgs.specs.declared.flow.Flow.TheVariants as flows
+use Rattle.jr_places.specs.Numbers.{numbers_of}
 use Rattle.jr_record.specs.declared.record.Record.{Record}
 use Rattle.jr_record.specs.declared.record.Record.TheVariants as kinds
 use Rattle.jr_boxes.specs.Inboxes.{IsInbox, has_negotiated, peer_last_in}
@@ -21,7 +22,7 @@ pub record Notices (n : Notes) (i : List InboxRecord) : Type 0 where
   pub next : n.next ≡ next_number i
   pub negotiated : n.negotiated ≡ has_negotiated i
   pub peer_last : n.peer_last ≡ peer_last_in i
-  pub places : n.places.items ≡ places_from 0 i
+  pub places : numbers_of n.places ≡ places_from 0 i
 
 -- the records are those of an inbox, and were noted
 pub record Noted (flow : Flow) (records : List Record) (n : Notes) : Type 0 where
@@ -31,7 +32,7 @@ pub record Noted (flow : Flow) (records : List Record) (n : Notes) : Type 0 wher
 
 -- each place is below this one
 abbrev pub IsWithin : Notes → ℕ → Type 0
-IsWithin n count = (k : ℕ) → k < length n.places.items → slice_index n.places.items k < count
+IsWithin n count = (k : ℕ) → k < length (numbers_of n.places) → slice_index (numbers_of n.places) k < count
 
 -- What may stand behind the records noted
 abbrev pub MayFollow : Flow → Notes → Record → Type 0
@@ -47,12 +48,12 @@ pub record Becomes (old new : Notes) (next : ℕ) (negotiated : Bool) (peer_last
   pub next_is : new.next ≡ next
   pub negotiated_is : new.negotiated ≡ negotiated
   pub peer_last_is : new.peer_last ≡ peer_last
-  pub places_are : new.places.items ≡ places
+  pub places_are : numbers_of new.places ≡ places
 
 abbrev pub HasNoted : Notes → Notes → ℕ → Record → Type 0
 HasNoted old new at (kinds.Entry _ _ _) = ⊥
-HasNoted old new at (kinds.Apply number _) = Becomes old new (number + 1) old.negotiated old.peer_last (old.places.items ++ at ∷ [])
-HasNoted old new at (kinds.Skip from count) = Becomes old new (from + count) old.negotiated old.peer_last old.places.items
-HasNoted old new at kinds.Negotiated = Becomes old new old.next true old.peer_last old.places.items
-HasNoted old new at (kinds.PeerFinished last) = Becomes old new old.next old.negotiated (Some last) old.places.items
+HasNoted old new at (kinds.Apply number _) = Becomes old new (number + 1) old.negotiated old.peer_last (numbers_of old.places ++ at ∷ [])
+HasNoted old new at (kinds.Skip from count) = Becomes old new (from + count) old.negotiated old.peer_last (numbers_of old.places)
+HasNoted old new at kinds.Negotiated = Becomes old new old.next true old.peer_last (numbers_of old.places)
+HasNoted old new at (kinds.PeerFinished last) = Becomes old new old.next old.negotiated (Some last) (numbers_of old.places)
 HasNoted old new at kinds.Finish = ⊥

@@ -1,11 +1,11 @@
 //! Noting the records of an inbox.
 
 ghost use Rattle.std.specs.Prelude.{◌≡◌, ◌↔◌, ℕ, ◌+◌, ◌<◌, ◌≤◌, ◌^◌, List, [], ◌∷◌, ◌++◌, IsTrue, IfOk, OnOk};
-ghost use Rattle.std.specs.Vec.{vec_len, vec_capacity};
 ghost use Rattle.jr_record.specs.Records.{IsRecord};
 ghost use Rattle.fixp_msgs.specs.declared.flow.Flow.TheVariants as flows;
 
 use fixp_msgs::Flow;
+use jr_places::Segments;
 use jr_record::Record;
 use std::alloc::{AllocError, Global};
 
@@ -16,11 +16,12 @@ pub struct Notes {
     pub next: u64,
     pub negotiated: bool,
     pub peer_last: Option<u64>,
-    pub places: Vec<u64>,
+    pub places: Segments,
     ghost from_one: { 1 ≤ next },
 }
 
 impl Notes {
+    ghost use Rattle.jr_places.specs.Numbers.{numbers_of, HasRoomForOne};
     ghost use Rattle.jr_boxes.specs.Notes.{Becomes, HasNoted, MayFollow, Notices};
 
     /// Those of no records.
@@ -31,7 +32,7 @@ impl Notes {
             next: 1,
             negotiated: false,
             peer_last: None,
-            places: Vec::new(alloc),
+            places: Segments::new(alloc),
         }
     }
 
@@ -63,29 +64,26 @@ impl Notes {
 
     /// Makes room for one more place; an error changes nothing.
     pub fn reserve(&mut self) -> Result<(), AllocError>
-        ensures same { Becomes self.old self.new self.old.next self.old.negotiated self.old.peer_last self.old.places.items }
-        ensures room { OnOk result (vec_len self.new.places < vec_capacity self.new.places) }
+        ensures same { Becomes self.old self.new self.old.next self.old.negotiated self.old.peer_last (numbers_of self.old.places) }
+        ensures room { OnOk result (HasRoomForOne self.new.places) }
     {
-        self.places.reserve(1)
+        self.places.reserve()
     }
 
     /// Notes a message of a place, for which there is room.
     pub fn push(&mut self, at: u64, number: u64)
-        requires room { vec_len self.old.places < vec_capacity self.old.places }
+        requires room { HasRoomForOne self.old.places }
         requires most { number < 2 ^ 63 }
-        ensures noted { Becomes self.old self.new (number + 1) self.old.negotiated self.old.peer_last (self.old.places.items ++ at ∷ []) }
+        ensures noted { Becomes self.old self.new (number + 1) self.old.negotiated self.old.peer_last (numbers_of self.old.places ++ at ∷ []) }
     {
-        match self.places.push(at) {
-            Ok(()) => {}
-            Err(_) => unreachable!(),
-        }
+        self.places.push_reserved(at);
         self.next = number + 1;
     }
 
     /// Notes a message, where its number is the next one and below 2^64 - 1.
     fn note_apply(&mut self, at: u64, number: u64) -> Result<bool, AllocError>
         ensures fits { IfOk result (λ fits. IsTrue fits ↔ ((number ≡ self.old.next) × (number + 1 < 2 ^ 64))) }
-        ensures noted { IfOk result (λ fits. IsTrue fits → Becomes self.old self.new (number + 1) self.old.negotiated self.old.peer_last (self.old.places.items ++ at ∷ [])) }
+        ensures noted { IfOk result (λ fits. IsTrue fits → Becomes self.old self.new (number + 1) self.old.negotiated self.old.peer_last (numbers_of self.old.places ++ at ∷ [])) }
     {
         if number != self.next || number == u64::MAX {
             return Ok(false);
@@ -99,7 +97,7 @@ impl Notes {
     fn note_skip(&mut self, flow: Flow, from: u64, count: u64) -> bool
         requires some { 1 ≤ count }
         ensures fits { IsTrue result ↔ ((flow ≡ flows.Idempotent) × (from ≡ self.old.next) × (1 ≤ count) × (from + count < 2 ^ 64)) }
-        ensures noted { IsTrue result → Becomes self.old self.new (from + count) self.old.negotiated self.old.peer_last self.old.places.items }
+        ensures noted { IsTrue result → Becomes self.old self.new (from + count) self.old.negotiated self.old.peer_last (numbers_of self.old.places) }
     {
         if !matches!(flow, Flow::Idempotent) || from != self.next || count > u64::MAX - from {
             return false;

@@ -7,7 +7,7 @@ use Rattle.jr_record.specs.declared.record.Record.{Record}
 use Rattle.jr_dated.specs.Dated.{Dated, stamped, undated}
 use Rattle.jr_dated.specs.Images.{IsJournal}
 use Rattle.jr_boxes.specs.declared.faults.Which.{Which}
-use Rattle.jr_segments.specs.Numbers.{numbers_of}
+use Rattle.jr_places.specs.Numbers.{numbers_of}
 use Rattle.jr_segments.specs.Journal.{OnlyRead, RestsOn, instead}
 use Rattle.jr_segments.specs.declared.journal.SegJournal.{SegJournal}
 use Rattle.jr_segments.proofs.Instead.{get_instead, take_before, take_instead}

@@ -9,6 +9,7 @@ use Rattle.session_model.specs.Inbox.{Numbered, InboxRecord, apply, next_number}
 use Rattle.session_model.proofs.Inboxes.{next_number-append}
 use Rattle.fixp_msgs.specs.Payload.{IsApplication}
 use Rattle.fixp_msgs.specs.declared.flow.Flow.{Flow}
+use Rattle.jr_places.specs.Numbers.{numbers_of}
 use Rattle.jr_record.specs.declared.record.Record.{Record}
 use Rattle.jr_record.specs.declared.record.Record.TheVariants as kinds
 use Rattle.jr_record.specs.declared.faults.AppendFault.{AppendFault}
@@ -209,7 +210,7 @@ pub record NotesMore (n m : Notes) (at count : ℕ) : Type 0 where
   pub next_is : m.next ≡ n.next + count
   pub negotiated_is : m.negotiated ≡ n.negotiated
   pub peer_last_is : m.peer_last ≡ n.peer_last
-  pub places_are : m.places.items ≡ n.places.items ++ counts_from at count
+  pub places_are : numbers_of m.places ≡ numbers_of n.places ++ counts_from at count
 
 module _ {J : Type 0} (stands : J → List Dated → Type 0) (leaves : J → Option (List Dated) → Type 0) (old new : J) (flow : Flow) (n m : Notes) where
   -- messages were applied under one commit
@@ -328,34 +329,34 @@ on_fault append.Memory is p = absurd (cc)
 on_fault append.Fault is p = p
 
 -- messages that were noted ahead, of which those that were added stay
-pub noted_part : (n k m : Notes) (at first added count len : ℕ) → Becomes n k n.next n.negotiated n.peer_last (n.places.items ++ counts_from at len)
-    → Becomes k m (first + added) k.negotiated k.peer_last (take (count + added) k.places.items) → count ≡ length n.places.items → first ≡ n.next → added ≤ len → NotesMore n m at added
+pub noted_part : (n k m : Notes) (at first added count len : ℕ) → Becomes n k n.next n.negotiated n.peer_last (numbers_of n.places ++ counts_from at len)
+    → Becomes k m (first + added) k.negotiated k.peer_last (take (count + added) (numbers_of k.places)) → count ≡ length (numbers_of n.places) → first ≡ n.next → added ≤ len → NotesMore n m at added
 noted_part n k m at first added count len ahead settled counted is few = record {
   next_is = settled.next_is ∙ ap (λ (x : ℕ). x + added) is;
   negotiated_is = settled.negotiated_is ∙ ahead.negotiated_is;
   peer_last_is = settled.peer_last_is ∙ ahead.peer_last_is;
   places_are =
       settled.places_are ∙ ap (λ (ks : List ℕ). take (count + added) ks) ahead.places_are
-      ∙ ap (λ (x : ℕ). take (x + added) (n.places.items ++ counts_from at len)) counted ∙ cut_places n.places.items at len added few;
+      ∙ ap (λ (x : ℕ). take (x + added) (numbers_of n.places ++ counts_from at len)) counted ∙ cut_places (numbers_of n.places) at len added few;
 }
 
 -- or none of them
-pub noted_none : (n k m : Notes) (at first count len : ℕ) → Becomes n k n.next n.negotiated n.peer_last (n.places.items ++ counts_from at len)
-    → Becomes k m first k.negotiated k.peer_last (take count k.places.items) → count ≡ length n.places.items → first ≡ n.next → SameNotes n m
+pub noted_none : (n k m : Notes) (at first count len : ℕ) → Becomes n k n.next n.negotiated n.peer_last (numbers_of n.places ++ counts_from at len)
+    → Becomes k m first k.negotiated k.peer_last (take count (numbers_of k.places)) → count ≡ length (numbers_of n.places) → first ≡ n.next → SameNotes n m
 noted_none n k m at first count len ahead settled counted is = record {
   next_is = settled.next_is ∙ is;
   negotiated_is = settled.negotiated_is ∙ ahead.negotiated_is;
   peer_last_is = settled.peer_last_is ∙ ahead.peer_last_is;
   places_are =
       settled.places_are ∙ ap (λ (ks : List ℕ). take count ks) ahead.places_are
-      ∙ ap (λ (x : ℕ). take x (n.places.items ++ counts_from at len)) (counted ∙ sym (add-zero (length n.places.items)))
-      ∙ cut_places n.places.items at len 0 (omega arith) ∙ append-nil n.places.items;
+      ∙ ap (λ (x : ℕ). take x (numbers_of n.places ++ counts_from at len)) (counted ∙ sym (add-zero (length (numbers_of n.places))))
+      ∙ cut_places (numbers_of n.places) at len 0 (omega arith) ∙ append-nil (numbers_of n.places);
 }
 
 -- the places of so many messages more stay below the number of records
-pub within_part : (n m : Notes) (at added : ℕ) → NotesMore n m at added → ((k : ℕ) → k < length n.places.items → slice_index n.places.items k < at)
-    → (k : ℕ) → k < length m.places.items → slice_index m.places.items k < at + added
-within_part n m at added noted below = subst (λ (ks : List ℕ). (k : ℕ) → k < length ks → slice_index ks k < at + added) (sym noted.places_are) (below_more n.places.items at added below)
+pub within_part : (n m : Notes) (at added : ℕ) → NotesMore n m at added → ((k : ℕ) → k < length (numbers_of n.places) → slice_index (numbers_of n.places) k < at)
+    → (k : ℕ) → k < length (numbers_of m.places) → slice_index (numbers_of m.places) k < at + added
+within_part n m at added noted below = subst (λ (ks : List ℕ). (k : ℕ) → k < length ks → slice_index ks k < at + added) (sym noted.places_are) (below_more (numbers_of n.places) at added below)
 
 pub length-counts_from : (n k : ℕ) → length (counts_from n k) ≡ k
 length-counts_from n zero = refl

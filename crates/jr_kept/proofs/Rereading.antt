@@ -4,6 +4,7 @@ use Rattle.std.proofs.Math.Logic.{∥∥₁_elim, ∥∥₁_map}
 use Rattle.std.proofs.lemmas.List.{map-append, take_all}
 use Rattle.session_model.specs.Inbox.{Numbered, InboxRecord, apply, applied, payloads_of}
 use Rattle.fixp_msgs.specs.declared.flow.Flow.{Flow}
+use Rattle.jr_places.specs.Numbers.{numbers_of}
 use Rattle.jr_record.specs.declared.record.Record.{Record}
 use Rattle.jr_record.specs.declared.record.Record.TheVariants as kinds
 use Rattle.jr_dated.specs.Dated.{Dated, undated}
@@ -69,11 +70,11 @@ mapped f [] k x is = absurd (cc)
 mapped f (y ∷ xs) zero x is = let same : y ≡ x = cc in ap (λ z. Some (f z)) same
 mapped f (y ∷ xs) (suc k) x is = mapped f xs k x is
 
-pub message_there : (i : List InboxRecord) (n : Notes) (k : ℕ) (r : Record) → Notices n i → k < length n.places.items → slice_get (records_of_inbox i) (slice_index n.places.items k) ≡ Some r → MessageThere i k r
+pub message_there : (i : List InboxRecord) (n : Notes) (k : ℕ) (r : Record) → Notices n i → k < length (numbers_of n.places) → slice_get (records_of_inbox i) (slice_index (numbers_of n.places) k) ≡ Some r → MessageThere i k r
 message_there i n k r is within read =
     let p = placed 0 i k (subst (λ (ks : List ℕ). k < length ks) is.places within) in
-    let place : slice_index n.places.items k ≡ slice_index (places_from 0 i) k - 0 = ap (λ (ks : List ℕ). slice_index ks k) is.places ∙ omega arith in
-    let here : slice_get i (slice_index n.places.items k) ≡ Some (apply p.message) = ap (λ (q : ℕ). slice_get i q) place ∙ p.found in
-    let spelled : slice_get (records_of_inbox i) (slice_index n.places.items k) ≡ Some (record_of (apply p.message)) = mapped record_of i (slice_index n.places.items k) (apply p.message) here in
+    let place : slice_index (numbers_of n.places) k ≡ slice_index (places_from 0 i) k - 0 = ap (λ (ks : List ℕ). slice_index ks k) is.places ∙ omega arith in
+    let here : slice_get i (slice_index (numbers_of n.places) k) ≡ Some (apply p.message) = ap (λ (q : ℕ). slice_get i q) place ∙ p.found in
+    let spelled : slice_get (records_of_inbox i) (slice_index (numbers_of n.places) k) ≡ Some (record_of (apply p.message)) = mapped record_of i (slice_index (numbers_of n.places) k) (apply p.message) here in
     let same : r ≡ record_of (apply p.message) = cc in
     record { number = p.message.number; payload = p.message.payload; is = same; there = mapped (λ (m : Numbered). m.payload) (applied i) k p.message p.applied_is }

@@ -2,6 +2,7 @@
 use Rattle.std.specs.Prelude.{◌≡◌, ◌↔◌, ℕ, ◌+◌, ◌<◌, Bool, false, List, [], length, slice_get, slice_index, Option, Some}
 use Rattle.session_model.specs.Inbox.{InboxRecord}
 use Rattle.fixp_msgs.specs.declared.flow.Flow.{Flow}
+use Rattle.jr_places.specs.Numbers.{numbers_of}
 use Rattle.jr_record.specs.declared.record.Record.{Record}
 use Rattle.jr_record.specs.declared.record.Record.TheVariants as kinds
 use Rattle.jr_dated.specs.declared.journal.Journal.{Ghosts}
@@ -44,11 +45,11 @@ module _ {J : Type 0} {G : Ghosts J} where
   peer_last_of box = box.notes.peer_last
 
   abbrev pub count_of : Inbox J G → ℕ
-  count_of box = length box.notes.places.items
+  count_of box = length (numbers_of box.notes.places)
 
   -- the places of these messages among its records, from 0 on
   abbrev pub places_of : Inbox J G → List ℕ
-  places_of box = box.notes.places.items
+  places_of box = numbers_of box.notes.places
 
   -- its flow, how many bytes its journal takes, the moment that its next record is given, its limits, the count of its journal's
   -- faults, and whether that is broken

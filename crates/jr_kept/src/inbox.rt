@@ -311,7 +311,7 @@ impl<J: Journal> Inbox<J> {
         ensures never_falls { faults_of self.old ≤ faults_of self.new }
         ensures same { (limits_of self.new ≡ limits_of self.old) × (flow_of self.new ≡ flow_of self.old) }
     {
-        let at = self.notes.places[i as usize - 1];
+        let at = self.notes.places.get(i as usize - 1);
         let (r, _moment) = self.journal.read(at)?;
         match message_in(r) {
             Some(payload) => Ok(payload),

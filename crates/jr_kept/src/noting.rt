@@ -5,6 +5,7 @@ ghost use Rattle.std.specs.List.{AllByRecursion};
 ghost use Rattle.gw_outside.specs.Faults.{HasRisen};
 ghost use Rattle.session_model.specs.Journal.{counts_from};
 ghost use Rattle.fixp_msgs.specs.Payload.{IsApplication};
+ghost use Rattle.jr_places.specs.Numbers.{numbers_of};
 ghost use Rattle.jr_record.specs.Records.{IsRecord};
 ghost use Rattle.jr_dated.specs.Dated.{Dated, undated};
 ghost use Rattle.jr_dated.specs.Journals.{Holds, Unchanged as SameJournal};
@@ -18,6 +19,7 @@ use fixp_msgs::Flow;
 use gw_outside::Bytes;
 use jr_boxes::{BoxFault, Notes};
 use jr_dated::{Journal, Records};
+use jr_places::Segments;
 use jr_record::Record;
 use std::alloc::{AllocError, Global};
 
@@ -80,14 +82,14 @@ pub fn applies(alloc: Global, first: u64, payloads: &[Bytes]) -> Result<Records,
 /// Notes so many messages ahead of their append, at these places of the records; an error changes nothing that is noted.
 pub fn note_ahead(notes: &mut Notes, at: u64, n: usize) -> Result<(), AllocError>
     requires room { at + n < 2 ^ 64 }
-    ensures ok { OnOk result (Becomes notes.old notes.new notes.old.next notes.old.negotiated notes.old.peer_last (notes.old.places.items ++ counts_from at n)) }
-    ensures err { OnErr result (Becomes notes.old notes.new notes.old.next notes.old.negotiated notes.old.peer_last notes.old.places.items) }
+    ensures ok { OnOk result (Becomes notes.old notes.new notes.old.next notes.old.negotiated notes.old.peer_last (numbers_of notes.old.places ++ counts_from at n)) }
+    ensures err { OnErr result (Becomes notes.old notes.new notes.old.next notes.old.negotiated notes.old.peer_last (numbers_of notes.old.places)) }
 {
     let held = notes.places.len();
     match push_places(&mut notes.places, at, n) {
         Ok(()) => Ok(()),
         Err(full) => {
-            notes.places.truncate(held);
+            notes.places.shorten(held);
             Err(full)
         }
     }
@@ -96,17 +98,17 @@ pub fn note_ahead(notes: &mut Notes, at: u64, n: usize) -> Result<(), AllocError
 /// Keeps the first places, so many, and takes the next number to be this one.
 pub fn settle(notes: &mut Notes, count: usize, next: u64)
     requires least { 1 ≤ next }
-    ensures settled { Becomes notes.old notes.new next notes.old.negotiated notes.old.peer_last (take count notes.old.places.items) }
+    ensures settled { Becomes notes.old notes.new next notes.old.negotiated notes.old.peer_last (take count (numbers_of notes.old.places)) }
 {
-    notes.places.truncate(count);
+    notes.places.shorten(count);
     notes.next = next;
 }
 
 /// Notes so many places, from this one on; an error may leave some of them noted.
-fn push_places(places: &mut Vec<u64>, at: u64, n: usize) -> Result<(), AllocError>
+fn push_places(places: &mut Segments, at: u64, n: usize) -> Result<(), AllocError>
     requires room { at + n < 2 ^ 64 }
-    ensures ok { OnOk result (places.new.items ≡ places.old.items ++ counts_from at n) }
-    ensures begins { take (length places.old.items) places.new.items ≡ places.old.items }
+    ensures ok { OnOk result (numbers_of places.new ≡ numbers_of places.old ++ counts_from at n) }
+    ensures begins { take (length (numbers_of places.old)) (numbers_of places.new) ≡ numbers_of places.old }
 {
     for i in 0..n {
         places.push(at + i as u64)?;

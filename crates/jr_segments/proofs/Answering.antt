@@ -12,7 +12,7 @@ use Rattle.jr_record.specs.Records.{IsRecord}
 use Rattle.jr_dated.specs.Dated.{Dated}
 use Rattle.jr_dated.specs.Images.{IsJournal, Leaves}
 use Rattle.jr_dated.specs.Journals.{Unchanged}
-use Rattle.jr_segments.specs.Numbers.{numbers_of}
+use Rattle.jr_places.specs.Numbers.{numbers_of}
 use Rattle.jr_segments.specs.Resting.{Keeps, SomeRest, places_from}
 use Rattle.jr_segments.specs.Reading.{Spans, Fetched}
 use Rattle.jr_segments.specs.Fronts.{length-places_from}

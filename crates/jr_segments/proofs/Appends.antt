@@ -11,7 +11,7 @@ use Rattle.jr_segments.specs.Behind.{AllClosed}
 use Rattle.jr_dated.specs.Dated.{Dated, IsDated, dated, undated}
 use Rattle.jr_dated.specs.Images.{IsJournal, Leaves, sizes}
 use Rattle.jr_dated.specs.Journals.{Holds, HoldsEither, Unchanged}
-use Rattle.jr_segments.specs.Numbers.{numbers_of}
+use Rattle.jr_places.specs.Numbers.{numbers_of}
 use Rattle.jr_segments.specs.Resting.{Keeps, SomeRest, front_of, places_from}
 use Rattle.jr_segments.specs.Fronts.{all-append, dated_legal, dated_within, undated-append, undated-dated, places_from-append, sizes-append}
 use Rattle.jr_segments.specs.Settled.{closed_holds, closed_by, settled, left_either}

@@ -5,7 +5,6 @@ mod Fetching
 mod Fitting
 mod Headers
 pub mod Instead
-mod Joining
 mod Pushing
 pub mod Rereads
 mod Scans

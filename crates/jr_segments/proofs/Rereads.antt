@@ -14,7 +14,7 @@ use Rattle.jr_dated.specs.Dated.{Dated, IsDated, stamped}
 use Rattle.jr_dated.specs.Images.{IsJournal}
 use Rattle.jr_dated.proofs.Verdicts.{at_most_one_verdict}
 use Rattle.jr_segments.specs.Behind.{IsClosedBehind}
-use Rattle.jr_segments.specs.Numbers.{numbers_of}
+use Rattle.jr_places.specs.Numbers.{numbers_of}
 use Rattle.jr_segments.specs.Resting.{Keeps, Rests, SomeRest, front_of}
 use Rattle.jr_segments.specs.Reading.{Spans, Fetched}
 use Rattle.jr_segments.specs.Lawful.{counted_by}

@@ -13,7 +13,7 @@ use Rattle.jr_dated.specs.declared.formats.Format.{Format}
 use Rattle.jr_dated.specs.Dated.{Dated, stamped}
 use Rattle.jr_dated.specs.Formats.{header_of, LegalIn, spelled_in, IsDamagedIn}
 use Rattle.jr_dated.proofs.Sizes.{length-header, most_in}
-use Rattle.jr_segments.specs.Numbers.{numbers_of}
+use Rattle.jr_places.specs.Numbers.{numbers_of}
 use Rattle.jr_segments.specs.Opening.{places_by, Refuses, LacksHeader, Takes, IsRead, IsFound}
 use Rattle.jr_segments.specs.declared.index.Index.{Index}
 use Rattle.jr_segments.specs.declared.scan.Found.{Found}

@@ -11,7 +11,7 @@ use Rattle.jr_dated.specs.declared.limits.Limits.{Limits}
 use Rattle.jr_dated.specs.Dated.{Dated, IsDated, dated, undated, latest_of}
 use Rattle.jr_dated.specs.Images.{IsJournal, Leaves, sizes, journal_size}
 use Rattle.jr_dated.specs.Journals.{Holds}
-use Rattle.jr_segments.specs.Numbers.{numbers_of}
+use Rattle.jr_places.specs.Numbers.{numbers_of}
 use Rattle.jr_segments.specs.Resting.{Keeps, Rests, front_of, places_from}
 use Rattle.jr_segments.specs.declared.journal.SegJournal.{SegJournal}
 

@@ -5,9 +5,7 @@ pub mod Fronts
 pub mod Growing
 pub mod Journal
 pub mod Lawful
-pub mod Numbers
 pub mod Opening
 pub mod Reading
 pub mod Resting
-pub mod Segmented
 pub mod Settled

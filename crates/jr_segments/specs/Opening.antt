@@ -8,7 +8,7 @@ use Rattle.jr_record.specs.Images.{gated, Breaks, IsClosed}
 use Rattle.jr_dated.specs.declared.formats.Format.{Format}
 use Rattle.jr_dated.specs.Dated.{Dated, stamped, latest_of}
 use Rattle.jr_dated.specs.Formats.{header_of, LegalIn, spelled_in, IsJournalIn, IsDamagedIn, IsNotFormattedIn}
-use Rattle.jr_segments.specs.Numbers.{numbers_of}
+use Rattle.jr_places.specs.Numbers.{numbers_of}
 use Rattle.jr_segments.specs.declared.index.Index.{Index}
 use Rattle.jr_segments.specs.declared.scan.Front.{Front}
 use Rattle.jr_segments.specs.declared.scan.Front.TheVariants as front

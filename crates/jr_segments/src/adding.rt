@@ -5,12 +5,12 @@ ghost use Rattle.std.specs.List.{AllByRecursion};
 ghost use Rattle.jr_record.specs.Records.{IsRecord, is_control as exempt};
 ghost use Rattle.jr_dated.specs.Images.{record_size as size_of};
 ghost use Rattle.jr_dated.specs.Journals.{fitting};
-ghost use Rattle.jr_segments.specs.Numbers.{numbers_of};
+ghost use Rattle.jr_places.specs.Numbers.{numbers_of};
 ghost use Rattle.jr_segments.specs.Resting.{places_from};
 ghost use Rattle.jr_segments.specs.Growing.{GoesOn};
 
-use crate::segments::Segments;
 use jr_dated::{Limits, record_size};
+use jr_places::Segments;
 use jr_record::Record;
 use std::alloc::AllocError;
 

@@ -1,9 +1,9 @@
 //! What is kept in memory of a journal's records: where each one stands, and their greatest moment.
 
 ghost use Rattle.std.specs.Prelude.{◌≡◌, max, [], ◌∷◌, ◌++◌, OnOk};
-ghost use Rattle.jr_segments.specs.Numbers.{numbers_of};
+ghost use Rattle.jr_places.specs.Numbers.{numbers_of};
 
-use crate::segments::Segments;
+use jr_places::Segments;
 use std::alloc::{AllocError, Global};
 
 /// Where the gate of each record stands, in bytes from the journal's beginning, and the greatest moment of the records.

@@ -1,7 +1,7 @@
 //! The journal and the places of its records in memory.
 
 ghost use Rattle.std.specs.Prelude.{◌≡◌, ◌≤◌, ◌<◌, ◌+◌, ◌*◌, ◌^◌, Bool, false, ℕ, List, length};
-ghost use Rattle.jr_segments.specs.Numbers.{numbers_of};
+ghost use Rattle.jr_places.specs.Numbers.{numbers_of};
 ghost use Rattle.jr_segments.specs.Resting.{SomeRest};
 
 use crate::adding::{add_places, count_fitting, is_past};
@@ -10,14 +10,14 @@ use crate::faults::AddFault;
 use crate::index::Index;
 use crate::reading::read_back;
 use crate::scan::{Found, read_journal};
-use crate::segments::Segments;
 use gw_outside::Disk;
 use jr_dated::{FetchFault, Format, Journal, Limits, Records};
+use jr_places::Segments;
 use jr_record::{AppendFault, OpenFault, Record};
 use std::alloc::Global;
 use std::{mem, slice};
 
-/// A journal with moments on one disk, which keeps the places of its records in memory, eight bytes apiece, and reads a
+/// A journal with moments on one disk, which keeps the places of its records in memory, four bytes apiece, and reads a
 /// record by one call of the disk.
 #[derive(Drop)]
 pub struct SegJournal<D: Disk> {

@@ -11,8 +11,6 @@ mod index;
 mod journal;
 mod reading;
 mod scan;
-mod segment;
-mod segments;
 
 pub use formatting::{format, is_old_format};
 pub use journal::SegJournal;

@@ -7,7 +7,7 @@ ghost use Rattle.gw_outside.specs.Faults.{HasRisen};
 ghost use Rattle.jr_record.specs.declared.faults.OpenFault.TheVariants.{Fault};
 ghost use Rattle.jr_record.specs.Records.{IsRecord};
 ghost use Rattle.jr_dated.specs.Formats.{header_of, size_in};
-ghost use Rattle.jr_segments.specs.Numbers.{numbers_of};
+ghost use Rattle.jr_places.specs.Numbers.{numbers_of};
 ghost use Rattle.jr_segments.specs.Opening.{Refuses, LacksHeader, IsFront, Takes, Stops, IsRead, IsFound};
 
 use crate::behind::GATE;

@@ -6,7 +6,7 @@ use Rattle.gw_outside.specs.Faults.{TakesFront}
 use Rattle.jr_record.specs.declared.record.Record.{Record}
 use Rattle.jr_dated.specs.Dated.{Dated, stamped}
 use Rattle.jr_boxes.specs.declared.faults.Which.{Which}
-use Rattle.jr_segments.specs.Numbers.{numbers_of}
+use Rattle.jr_places.specs.Numbers.{numbers_of}
 use Rattle.jr_segments.specs.Resting.{Keeps}
 use Rattle.jr_segments.specs.Journal.{OnlyRead, RestsOn, instead}
 use Rattle.jr_segments.specs.declared.journal.SegJournal.{SegJournal}

@@ -1,5 +1,5 @@
 use Rattle.std.proofs.Common.{length}
-use Rattle.jr_segments.specs.Numbers.{numbers_of}
+use Rattle.jr_places.specs.Numbers.{numbers_of}
 use Rattle.jr_segments.proofs.Pushing.{Pushed}
 use Rattle.jr_segments.proofs.adding.push_places.Given as goal
 

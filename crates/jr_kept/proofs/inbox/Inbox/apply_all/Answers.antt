@@ -1,6 +1,7 @@
 use Rattle.std.proofs.Common.{◌≡◌, ◌+◌, ◌≤◌, ◌++◌, ℕ, List, [], length, Err, refl, sym, ap, subst, ◌∙◌, arith, length-append}
 use Rattle.session_model.specs.Journal.{counts_from}
 use Rattle.session_model.specs.Inbox.{InboxRecord}
+use Rattle.jr_places.specs.Numbers.{numbers_of}
 use Rattle.jr_record.specs.declared.record.Record.{Record}
 use Rattle.jr_record.specs.declared.faults.AppendFault.TheVariants as append
 use Rattle.jr_dated.specs.declared.limits.Limits.{Limits}
@@ -29,7 +30,7 @@ invariant_of-self-in-Ok g c =
     let all : length (applies c.args.first c.args.payloads.now) ≡ length c.args.payloads.now = length-applies c.args.first c.args.payloads.now in
     let few : length fit ≤ length (applies c.args.first c.args.payloads.now) = fitting_few old.limits size (applies c.args.first c.args.payloads.now) in
     let noted = noted_part old.notes c.note_ahead.new.notes c.settle.new.notes c.len.result c.args.first c.in-Ok.added c.len-count.result (length c.args.payloads.now)
-    (record { next_is = c.in_ok-note_ahead.ensures.ok.next_is; negotiated_is = c.in_ok-note_ahead.ensures.ok.negotiated_is; peer_last_is = c.in_ok-note_ahead.ensures.ok.peer_last_is; places_are = c.in_ok-note_ahead.ensures.ok.places_are }) c.settle.ensures.settled (c.len-count.ensures ∙ old.notes.places.ok.0) c.requires.next (omega (arith, added, all, few)) in
+    (record { next_is = c.in_ok-note_ahead.ensures.ok.next_is; negotiated_is = c.in_ok-note_ahead.ensures.ok.negotiated_is; peer_last_is = c.in_ok-note_ahead.ensures.ok.peer_last_is; places_are = c.in_ok-note_ahead.ensures.ok.places_are }) c.settle.ensures.settled c.len-count.ensures.count c.requires.next (omega (arith, added, all, few)) in
     let below = within_part old.notes c.settle.new.notes c.len.result c.in-Ok.added noted (λ k here. omega (arith, old.within k here, c.len.ensures.value)) in
     record {
       limited = c.append_fitting.ensures.limits ∙ old.limited;
@@ -54,7 +55,7 @@ returns-then-added-payloads-clause-full g c =
     let all : length (applies c.args.first c.args.payloads.now) ≡ length c.args.payloads.now = length-applies c.args.first c.args.payloads.now in
     let few : length fit ≤ length (applies c.args.first c.args.payloads.now) = fitting_few old.limits size (applies c.args.first c.args.payloads.now) in
     let noted = noted_part old.notes c.note_ahead.new.notes c.settle.new.notes c.len.result c.args.first c.in-Ok.added c.len-count.result (length c.args.payloads.now)
-    (record { next_is = c.in_ok-note_ahead.ensures.ok.next_is; negotiated_is = c.in_ok-note_ahead.ensures.ok.negotiated_is; peer_last_is = c.in_ok-note_ahead.ensures.ok.peer_last_is; places_are = c.in_ok-note_ahead.ensures.ok.places_are }) c.settle.ensures.settled (c.len-count.ensures ∙ old.notes.places.ok.0) c.requires.next (omega (arith, added, all, few)) in
+    (record { next_is = c.in_ok-note_ahead.ensures.ok.next_is; negotiated_is = c.in_ok-note_ahead.ensures.ok.negotiated_is; peer_last_is = c.in_ok-note_ahead.ensures.ok.peer_last_is; places_are = c.in_ok-note_ahead.ensures.ok.places_are }) c.settle.ensures.settled c.len-count.ensures.count c.requires.next (omega (arith, added, all, few)) in
     applied_part g.J.Journal.stands g.J.Journal.leaves old.journal c.append_fitting.new.journal old.flow old.notes c.settle.new.notes c.len.result (g.J.Journal.moment old.journal) c.args.first c.in-Ok.added old.limits size
     c.args.payloads.now rs are c.in-Ok.ensures.added c.requires.next (omega (arith, c.requires.most, old.limits.few)) noted (λ records stands. (g.met.J.Journal.counted old.journal records stands).0 ∙ sym c.len.ensures.value) c.in-Ok.ensures.ok
 
@@ -87,12 +88,12 @@ returns-then-added-payloads-clause-tells g c =
     let all : length (applies c.args.first c.args.payloads.now) ≡ length c.args.payloads.now = length-applies c.args.first c.args.payloads.now in
     let few : length fit ≤ length (applies c.args.first c.args.payloads.now) = fitting_few old.limits size (applies c.args.first c.args.payloads.now) in
     let noted = noted_part old.notes c.note_ahead.new.notes c.settle.new.notes c.len.result c.args.first c.in-Ok.added c.len-count.result (length c.args.payloads.now)
-    (record { next_is = c.in_ok-note_ahead.ensures.ok.next_is; negotiated_is = c.in_ok-note_ahead.ensures.ok.negotiated_is; peer_last_is = c.in_ok-note_ahead.ensures.ok.peer_last_is; places_are = c.in_ok-note_ahead.ensures.ok.places_are }) c.settle.ensures.settled (c.len-count.ensures ∙ old.notes.places.ok.0) c.requires.next (omega (arith, added, all, few)) in
+    (record { next_is = c.in_ok-note_ahead.ensures.ok.next_is; negotiated_is = c.in_ok-note_ahead.ensures.ok.negotiated_is; peer_last_is = c.in_ok-note_ahead.ensures.ok.peer_last_is; places_are = c.in_ok-note_ahead.ensures.ok.places_are }) c.settle.ensures.settled c.len-count.ensures.count c.requires.next (omega (arith, added, all, few)) in
     record {
       next = noted.next_is ∙ ap (λ (n : ℕ). old.notes.next + n) added;
       negotiated = noted.negotiated_is;
       peer_last = noted.peer_last_is;
-      count = omega (arith, added, ap length noted.places_are, length-append old.notes.places.items (counts_from c.len.result c.in-Ok.added), length-counts_from c.len.result c.in-Ok.added);
+      count = omega (arith, added, ap length noted.places_are, length-append (numbers_of old.notes.places) (counts_from c.len.result c.in-Ok.added), length-counts_from c.len.result c.in-Ok.added);
       size = c.in-Ok.ensures.grown.bytes ∙ ap (λ (xs : List Record). size + sizes xs) are;
     }
 
@@ -110,7 +111,7 @@ returns-in-Ok-clause-ok g c i held =
     let all : length (applies c.args.first c.args.payloads.now) ≡ length c.args.payloads.now = length-applies c.args.first c.args.payloads.now in
     let few : length fit ≤ length (applies c.args.first c.args.payloads.now) = fitting_few old.limits size (applies c.args.first c.args.payloads.now) in
     let noted = noted_part old.notes c.note_ahead.new.notes c.settle.new.notes c.len.result c.args.first c.in-Ok.added c.len-count.result (length c.args.payloads.now)
-    (record { next_is = c.in_ok-note_ahead.ensures.ok.next_is; negotiated_is = c.in_ok-note_ahead.ensures.ok.negotiated_is; peer_last_is = c.in_ok-note_ahead.ensures.ok.peer_last_is; places_are = c.in_ok-note_ahead.ensures.ok.places_are }) c.settle.ensures.settled (c.len-count.ensures ∙ old.notes.places.ok.0) c.requires.next (omega (arith, added, all, few)) in
+    (record { next_is = c.in_ok-note_ahead.ensures.ok.next_is; negotiated_is = c.in_ok-note_ahead.ensures.ok.negotiated_is; peer_last_is = c.in_ok-note_ahead.ensures.ok.peer_last_is; places_are = c.in_ok-note_ahead.ensures.ok.places_are }) c.settle.ensures.settled c.len-count.ensures.count c.requires.next (omega (arith, added, all, few)) in
     subst (λ (more : List InboxRecord). HoldsAs g.J.Journal.stands g.J.Journal.leaves c.append_fitting.new.journal old.flow c.settle.new.notes (i ++ more) []) (fitting_all old.limits size (applies c.args.first c.args.payloads.now) (omega (arith, added, all, c.if-added-payloads.false)))
     (applied_part g.J.Journal.stands g.J.Journal.leaves old.journal c.append_fitting.new.journal old.flow old.notes c.settle.new.notes c.len.result (g.J.Journal.moment old.journal) c.args.first c.in-Ok.added old.limits size
     c.args.payloads.now rs are c.in-Ok.ensures.added c.requires.next (omega (arith, c.requires.most, old.limits.few)) noted (λ records stands. (g.met.J.Journal.counted old.journal records stands).0 ∙ sym c.len.ensures.value) c.in-Ok.ensures.ok i held)
@@ -144,12 +145,12 @@ returns-in-Ok-clause-tells g c =
     let all : length (applies c.args.first c.args.payloads.now) ≡ length c.args.payloads.now = length-applies c.args.first c.args.payloads.now in
     let few : length fit ≤ length (applies c.args.first c.args.payloads.now) = fitting_few old.limits size (applies c.args.first c.args.payloads.now) in
     let noted = noted_part old.notes c.note_ahead.new.notes c.settle.new.notes c.len.result c.args.first c.in-Ok.added c.len-count.result (length c.args.payloads.now)
-    (record { next_is = c.in_ok-note_ahead.ensures.ok.next_is; negotiated_is = c.in_ok-note_ahead.ensures.ok.negotiated_is; peer_last_is = c.in_ok-note_ahead.ensures.ok.peer_last_is; places_are = c.in_ok-note_ahead.ensures.ok.places_are }) c.settle.ensures.settled (c.len-count.ensures ∙ old.notes.places.ok.0) c.requires.next (omega (arith, added, all, few)) in
+    (record { next_is = c.in_ok-note_ahead.ensures.ok.next_is; negotiated_is = c.in_ok-note_ahead.ensures.ok.negotiated_is; peer_last_is = c.in_ok-note_ahead.ensures.ok.peer_last_is; places_are = c.in_ok-note_ahead.ensures.ok.places_are }) c.settle.ensures.settled c.len-count.ensures.count c.requires.next (omega (arith, added, all, few)) in
     record {
       next = noted.next_is ∙ ap (λ (n : ℕ). old.notes.next + n) added;
       negotiated = noted.negotiated_is;
       peer_last = noted.peer_last_is;
-      count = omega (arith, added, ap length noted.places_are, length-append old.notes.places.items (counts_from c.len.result c.in-Ok.added), length-counts_from c.len.result c.in-Ok.added);
+      count = omega (arith, added, ap length noted.places_are, length-append (numbers_of old.notes.places) (counts_from c.len.result c.in-Ok.added), length-counts_from c.len.result c.in-Ok.added);
       size = c.in-Ok.ensures.grown.bytes ∙ ap (λ (xs : List Record). size + sizes xs) are;
     }
 
@@ -158,7 +159,7 @@ invariant_of-self-in-Err g c =
     let old = c.args.self.now in
     let same = noted_none old.notes c.note_ahead.new.notes c.settle-in-Err.new.notes c.len.result c.args.first c.len-count.result (length c.args.payloads.now)
     (record { next_is = c.in_ok-note_ahead.ensures.ok.next_is; negotiated_is = c.in_ok-note_ahead.ensures.ok.negotiated_is; peer_last_is = c.in_ok-note_ahead.ensures.ok.peer_last_is; places_are = c.in_ok-note_ahead.ensures.ok.places_are })
-    c.settle-in-Err.ensures.settled (c.len-count.ensures ∙ old.notes.places.ok.0) c.requires.next in
+    c.settle-in-Err.ensures.settled c.len-count.ensures.count c.requires.next in
     let new = c.append_fitting.new.journal in
     record {
       limited = c.append_fitting.ensures.limits ∙ old.limited;
@@ -175,7 +176,7 @@ returns-clause-unchanged g c =
     let old = c.args.self.now in
     let same = noted_none old.notes c.note_ahead.new.notes c.settle-in-Err.new.notes c.len.result c.args.first c.len-count.result (length c.args.payloads.now)
     (record { next_is = c.in_ok-note_ahead.ensures.ok.next_is; negotiated_is = c.in_ok-note_ahead.ensures.ok.negotiated_is; peer_last_is = c.in_ok-note_ahead.ensures.ok.peer_last_is; places_are = c.in_ok-note_ahead.ensures.ok.places_are })
-    c.settle-in-Err.ensures.settled (c.len-count.ensures ∙ old.notes.places.ok.0) c.requires.next in
+    c.settle-in-Err.ensures.settled c.len-count.ensures.count c.requires.next in
     unbegun_if c.in-Err.fault c.not_applied.result c.not_applied.ensures.value (λ memory.
     record {
       content = same_content old _ (c.in-Err.ensures.memory (ap Err memory)) same refl c.in-Err.ensures.kept.1;
@@ -188,7 +189,7 @@ returns-clause-fault g c failed =
     let old = c.args.self.now in
     let same = noted_none old.notes c.note_ahead.new.notes c.settle-in-Err.new.notes c.len.result c.args.first c.len-count.result (length c.args.payloads.now)
     (record { next_is = c.in_ok-note_ahead.ensures.ok.next_is; negotiated_is = c.in_ok-note_ahead.ensures.ok.negotiated_is; peer_last_is = c.in_ok-note_ahead.ensures.ok.peer_last_is; places_are = c.in_ok-note_ahead.ensures.ok.places_are })
-    c.settle-in-Err.ensures.settled (c.len-count.ensures ∙ old.notes.places.ok.0) c.requires.next in
+    c.settle-in-Err.ensures.settled c.len-count.ensures.count c.requires.next in
     let size = g.J.Journal.size old.journal in
     let fit = fitting_applies old c.args.first c.args.payloads.now in
     let rs = fitting (g.J.Journal.limits old.journal) size c.in_ok-batch.batch in

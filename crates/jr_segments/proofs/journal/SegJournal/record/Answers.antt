@@ -1,6 +1,6 @@
 use Rattle.std.proofs.Common.{◌≡◌}
 use Rattle.jr_dated.specs.Dated.{stamped}
-use Rattle.jr_segments.specs.Numbers.{numbers_of}
+use Rattle.jr_places.specs.Numbers.{numbers_of}
 use Rattle.jr_segments.proofs.Answering.{some_same, read_none}
 use Rattle.jr_segments.proofs.Rereads.{rests_instead, untold_none}
 use Rattle.jr_segments.proofs.journal.SegJournal.record.Goals as goal

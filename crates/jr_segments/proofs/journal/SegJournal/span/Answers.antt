@@ -1,5 +1,5 @@
 use Rattle.std.proofs.Common.{arith}
-use Rattle.jr_segments.specs.Numbers.{numbers_of}
+use Rattle.jr_places.specs.Numbers.{numbers_of}
 use Rattle.jr_segments.proofs.Spanning.{spans_at}
 use Rattle.jr_segments.proofs.journal.SegJournal.span.Goals as goal
 

@@ -1,5 +1,5 @@
 use Rattle.std.proofs.Common.{refl, arith}
-use Rattle.jr_segments.specs.Numbers.{numbers_of}
+use Rattle.jr_places.specs.Numbers.{numbers_of}
 use Rattle.jr_segments.proofs.Answering.{raised_unchanged, some_raised}
 use Rattle.jr_segments.proofs.journal.SegJournalJournal.at.Goals as goal
 

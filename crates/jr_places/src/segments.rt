@@ -1,8 +1,10 @@
 //! Numbers in segments, so that to add one copies none. Contracts see them as a list.
 
 ghost use Rattle.std.specs.Prelude.{◌≡◌, ◌<◌, ◌≤◌, ◌^◌, ◌+◌, ◌-◌, [], ◌∷◌, ◌++◌, length, take, slice_index, OnOk, OnErr};
-ghost use Rattle.jr_segments.specs.Segmented.{joined};
+ghost use Rattle.jr_places.specs.Listed.{listed};
+ghost use Rattle.jr_places.specs.Segmented.{joined};
 
+use crate::run::Run;
 use crate::segment::Segment;
 use std::alloc::{AllocError, Global};
 use std::mem;
@@ -18,15 +20,15 @@ const MOST: usize = 1 << 40;
 pub struct Segments {
     alloc: Global,
     full: Vec<Segment>,
-    last: Vec<u64>,
+    last: Run,
     count: usize,
-    ghost room: { length last.items ≤ 4096 },
-    ghost counted: { count ≡ length (joined full.items last.items) },
+    ghost room: { length (listed last) ≤ 4096 },
+    ghost counted: { count ≡ length (joined full.items (listed last)) },
     ghost few: { count ≤ 2 ^ 40 },
 }
 
 impl Segments {
-    ghost use Rattle.jr_segments.specs.Numbers.{numbers_of};
+    ghost use Rattle.jr_places.specs.Numbers.{numbers_of, HasRoomForOne};
 
     /// No numbers.
     pub fn new(alloc: Global) -> Segments
@@ -35,7 +37,7 @@ impl Segments {
         Segments {
             alloc,
             full: Vec::new(alloc),
-            last: Vec::new(alloc),
+            last: Run::new(alloc),
             count: 0,
         }
     }
@@ -55,9 +57,9 @@ impl Segments {
     {
         let segment = i / SEGMENT;
         if segment < self.full.len() {
-            self.full[segment].numbers[i % SEGMENT]
+            self.full[segment].numbers.get(i % SEGMENT)
         } else {
-            self.last[i - SEGMENT * self.full.len()]
+            self.last.get(i - SEGMENT * self.full.len())
         }
     }
 
@@ -66,34 +68,50 @@ impl Segments {
         ensures ok { OnOk result (numbers_of self.new ≡ numbers_of self.old ++ n ∷ []) }
         ensures err { OnErr result (numbers_of self.new ≡ numbers_of self.old) }
     {
-        if self.count >= MOST {
-            return Err(AllocError);
-        }
-        self.make_room()?;
-        self.last.push(n)?;
-        self.count += 1;
+        self.reserve()?;
+        self.push_reserved(n);
         Ok(())
     }
 
+    /// Makes room for one more number; an error changes no number.
+    pub fn reserve(&mut self) -> Result<(), AllocError>
+        ensures same { numbers_of self.new ≡ numbers_of self.old }
+        ensures room { OnOk result (HasRoomForOne self.new) }
+    {
+        if self.count >= MOST {
+            return Err(AllocError);
+        }
+        self.begin_segment()?;
+        self.last.reserve()
+    }
+
+    /// Adds a number behind the others, for which there is room.
+    pub fn push_reserved(&mut self, n: u64)
+        requires room { HasRoomForOne self.old }
+        ensures numbers { numbers_of self.new ≡ numbers_of self.old ++ n ∷ [] }
+    {
+        self.last.push_reserved(n);
+        self.count += 1;
+    }
+
     /// Begins a new segment where the last one is full.
-    fn make_room(&mut self) -> Result<(), AllocError>
+    fn begin_segment(&mut self) -> Result<(), AllocError>
         ensures same { numbers_of self.new ≡ numbers_of self.old }
         ensures count { self.new.count ≡ self.old.count }
-        ensures room { OnOk result (length self.new.last.items < 4096) }
+        ensures room { OnOk result (length (listed self.new.last) < 4096) }
     {
         if self.last.len() < SEGMENT {
             return Ok(());
         }
         self.full.reserve(1)?;
-        let next = Vec::with_capacity(self.alloc, SEGMENT)?;
+        let next = Run::with_capacity(self.alloc, SEGMENT)?;
         let numbers = mem::replace(&mut self.last, next);
         self.full.push_reserved(Segment { numbers });
         Ok(())
     }
 
-    /// Keeps the first `count` numbers.
+    /// Keeps the first `count` numbers, or all where there are fewer.
     pub fn shorten(&mut self, count: usize)
-        requires within { count ≤ length (numbers_of self.old) }
         ensures front { numbers_of self.new ≡ take count (numbers_of self.old) }
     {
         'shortening: while self.len() > count {
@@ -107,13 +125,22 @@ impl Segments {
         ensures front { numbers_of self.new ≡ take (length (numbers_of self.old) - 1) (numbers_of self.old) }
         ensures count { self.new.count + 1 ≡ self.old.count }
     {
-        if self.last.is_empty() {
+        self.reopen_segment();
+        self.last.pop();
+        self.count -= 1;
+    }
+
+    /// Takes the last full segment back where there is nothing behind it.
+    fn reopen_segment(&mut self)
+        ensures same { numbers_of self.new ≡ numbers_of self.old }
+        ensures count { self.new.count ≡ self.old.count }
+        ensures some { 0 < length (numbers_of self.old) → 0 < length (listed self.new.last) }
+    {
+        if self.last.len() == 0 {
             if let Some(segment) = self.full.pop() {
                 let Segment { numbers } = segment;
                 self.last = numbers;
             }
         }
-        let _ = self.last.pop();
-        self.count -= 1;
     }
 }

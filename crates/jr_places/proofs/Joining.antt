@@ -2,33 +2,34 @@
 use Rattle.std.proofs.Common.{◌≡◌, ℕ, zero, suc, ◌+◌, ◌-◌, ◌*◌, ◌<◌, ◌≤◌, List, [], ◌∷◌, ◌++◌, length, get_or, take, sym, ◌∙◌, ap, arith, append_assoc, length-append}
 use Rattle.std.proofs.lemmas.List.{append-nil, get_or_append_left, get_or-append-add, get_or-append_right}
 use Rattle.std.specs.List.{flat_map}
-use Rattle.jr_segments.specs.Segmented.{joined}
-use Rattle.jr_segments.specs.declared.segment.Segment.{Segment}
+use Rattle.jr_places.specs.Listed.{listed}
+use Rattle.jr_places.specs.Segmented.{joined}
+use Rattle.jr_places.specs.declared.segment.Segment.{Segment}
 
-split : (s : Segment) (full : List Segment) (last : List ℕ) → joined (s ∷ full) last ≡ s.numbers.items ++ joined full last
-split s full last = append_assoc s.numbers.items (flat_map (λ (t : Segment). t.numbers.items) full) last
+split : (s : Segment) (full : List Segment) (last : List ℕ) → joined (s ∷ full) last ≡ (listed s.numbers) ++ joined full last
+split s full last = append_assoc (listed s.numbers) (flat_map (λ (t : Segment). (listed t.numbers)) full) last
 
 parts : (full : List Segment) (last : List ℕ) → joined full last ≡ joined full [] ++ last
-parts full last = ap (λ (ns : List ℕ). ns ++ last) (sym (append-nil (flat_map (λ (t : Segment). t.numbers.items) full)))
+parts full last = ap (λ (ns : List ℕ). ns ++ last) (sym (append-nil (flat_map (λ (t : Segment). (listed t.numbers)) full)))
 
 pub length-joined : (full : List Segment) (last : List ℕ) → length (joined full last) ≡ 4096 * length full + length last
 length-joined [] last = omega arith
 length-joined (s ∷ full) last =
-    omega (arith, length-joined full last, s.whole, ap length (split s full last), length-append s.numbers.items (joined full last))
+    omega (arith, length-joined full last, s.whole, ap length (split s full last), length-append (listed s.numbers) (joined full last))
 
 -- a number of a full segment
-pub in_full : (full : List Segment) (last : List ℕ) (q r : ℕ) (s : Segment) → q < length full → r < 4096 → s ≡ get_or full q s → get_or (joined full last) (4096 * q + r) 0 ≡ get_or s.numbers.items r 0
+pub in_full : (full : List Segment) (last : List ℕ) (q r : ℕ) (s : Segment) → q < length full → r < 4096 → s ≡ get_or full q s → get_or (joined full last) (4096 * q + r) 0 ≡ get_or (listed s.numbers) r 0
 in_full [] last q r s within small is = absurd (omega arith)
 in_full (t ∷ full) last zero r s within small is =
-    let here : get_or (joined (t ∷ full) last) r 0 ≡ get_or t.numbers.items r 0 =
-    ap (λ (ns : List ℕ). get_or ns r 0) (split t full last) ∙ get_or_append_left t.numbers.items (joined full last) 0 r (omega (arith, t.whole)) in
+    let here : get_or (joined (t ∷ full) last) r 0 ≡ get_or (listed t.numbers) r 0 =
+    ap (λ (ns : List ℕ). get_or ns r 0) (split t full last) ∙ get_or_append_left (listed t.numbers) (joined full last) 0 r (omega (arith, t.whole)) in
     let place : 4096 * zero + r ≡ r = omega arith in
-    ap (λ (n : ℕ). get_or (joined (t ∷ full) last) n 0) place ∙ here ∙ ap (λ (x : Segment). get_or x.numbers.items r 0) (sym is)
+    ap (λ (n : ℕ). get_or (joined (t ∷ full) last) n 0) place ∙ here ∙ ap (λ (x : Segment). get_or (listed x.numbers) r 0) (sym is)
 in_full (t ∷ full) last (suc q) r s within small is =
-    let place : 4096 * suc q + r ≡ length t.numbers.items + (4096 * q + r) = omega (arith, t.whole) in
+    let place : 4096 * suc q + r ≡ length (listed t.numbers) + (4096 * q + r) = omega (arith, t.whole) in
     ap (λ (n : ℕ). get_or (joined (t ∷ full) last) n 0) place
-    ∙ ap (λ (ns : List ℕ). get_or ns (length t.numbers.items + (4096 * q + r)) 0) (split t full last)
-    ∙ get_or-append-add t.numbers.items (joined full last) (4096 * q + r) 0
+    ∙ ap (λ (ns : List ℕ). get_or ns (length (listed t.numbers) + (4096 * q + r)) 0) (split t full last)
+    ∙ get_or-append-add (listed t.numbers) (joined full last) (4096 * q + r) 0
     ∙ in_full full last q r s (omega arith) small is
 
 -- a number behind them
@@ -38,10 +39,10 @@ in_last full last i behind =
     ap (λ (ns : List ℕ). get_or ns i 0) (parts full last) ∙ get_or-append_right (joined full []) last (4096 * length full) i 0 n behind
 
 -- the numbers of one segment more, that begins or ends
-pub one_segment_more : (full : List Segment) (last : List ℕ) (s : Segment) → s.numbers.items ≡ last → joined (full ++ s ∷ []) [] ≡ joined full last
-one_segment_more [] last s is = append-nil (s.numbers.items ++ []) ∙ append-nil s.numbers.items ∙ is
+pub one_segment_more : (full : List Segment) (last : List ℕ) (s : Segment) → (listed s.numbers) ≡ last → joined (full ++ s ∷ []) [] ≡ joined full last
+one_segment_more [] last s is = append-nil ((listed s.numbers) ++ []) ∙ append-nil (listed s.numbers) ∙ is
 one_segment_more (t ∷ full) last s is =
-    split t (full ++ s ∷ []) [] ∙ ap (λ (ns : List ℕ). t.numbers.items ++ ns) (one_segment_more full last s is) ∙ sym (split t full last)
+    split t (full ++ s ∷ []) [] ∙ ap (λ (ns : List ℕ). (listed t.numbers) ++ ns) (one_segment_more full last s is) ∙ sym (split t full last)
 
 -- the numbers without the last of them
 pub without_last : (full : List Segment) (last : List ℕ) → 0 < length last → joined full (take (length last - 1) last) ≡ take (length (joined full last) - 1) (joined full last)
