@@ -1,9 +1,10 @@
-//! Cases of devices: reads `devices.txt`, plays the calls of each line on a source, a sink or a disk in memory or on a file,
+//! Cases of devices: reads `devices.txt`, plays the calls of each line on a source, a sink, a disk or lines in memory or on a file,
 //! and prints what each call gave. What it has to print stands in `stdout`, worked out by hand.
 
 mod disks;
 mod failing;
 mod files;
+mod lines;
 mod streams;
 
 use std::alloc::{AllocError, Global};
@@ -16,6 +17,7 @@ fn add_case(alloc: Global, kind: &str, rest: &str, line: &mut String) -> Result<
         "source" => streams::add_source(alloc, rest, line),
         "sink" => streams::add_sink(alloc, rest, line),
         "disk" => disks::add_disk(alloc, rest, line),
+        "lines" => lines::add_lines(alloc, rest, line),
         _ => line.push_str("no case"),
     }
 }

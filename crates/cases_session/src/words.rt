@@ -3,6 +3,7 @@
 //! has to print stands in `stdout`, worked out by hand. What else is taken and refused is shown by the built program, in `tried/`.
 
 mod configurations;
+mod feed;
 mod lines;
 mod words;
 
@@ -21,7 +22,21 @@ fn line_of(alloc: Global, line: &str) -> Result<String, AllocError> {
         Some(("deliver", words)) => lines::deliver_line(alloc, words),
         Some(("notapplied", words)) => lines::not_applied_line(alloc, words),
         Some(("connection", words)) => lines::connection_line(alloc, words),
-        _ => line.to_string(alloc),
+        Some((kind, words)) => feed_line(alloc, kind, words),
+        None => line.to_string(alloc),
+    }
+}
+
+/// What a case of lines that come while a session runs shows.
+fn feed_line(alloc: Global, kind: &str, words: &str) -> Result<String, AllocError> {
+    match kind {
+        "fed" => feed::fed_line(alloc, words),
+        "piece" => feed::piece_line(alloc, words),
+        "has" => feed::has_line(alloc, words),
+        "accepted" => feed::accepted_line(alloc, words),
+        "refused" => feed::refused_line(alloc, words),
+        "tail" => feed::tail_line(alloc, words),
+        _ => format!(in alloc; "{kind}: {words}"),
     }
 }
 

@@ -7,7 +7,7 @@ use fixp_shake::{Phase, Violation};
 use std::alloc::{AllocError, Global};
 
 /// The text of lines, without the last line feed.
-fn shown(alloc: Global, lines: &[u8]) -> Result<String, AllocError> {
+pub(super) fn shown(alloc: Global, lines: &[u8]) -> Result<String, AllocError> {
     let text = std::str::from_utf8(lines).unwrap_or("no text");
     text.trim_end().to_string(alloc)
 }

@@ -1,0 +1,154 @@
+//! Lines that come while a session runs: what each says, the pieces in which messages go, the lines of ACCEPTED, and the end of OUT.
+
+use crate::words::lines::shown;
+use cases_words::{digits, halves, number};
+use conn_accepted::{Why, push_accepted_line, push_has_line, push_refused_line};
+use conn_tail::read_tail;
+use fixp_msgs::is_application;
+use gw_fakes::MemDisk;
+use gw_outside::Disk;
+use plan_feed::{Fed, Piece, Wrong, push_wrong, read_line};
+use sbe_value::Bytes;
+use std::alloc::{AllocError, Global};
+
+/// The number of a word, as far as 16 bits go.
+fn small(word: &str) -> u16 {
+    number(word).min(65_535) as u16
+}
+
+/// The text of some parts with a plus between them, each so many times as stands before its star; a bar stands for a line feed.
+fn text(alloc: Global, parts: &str) -> Result<Vec<u8>, AllocError> {
+    let mut text = Vec::new(alloc);
+    for part in parts.split('+') {
+        let (count, part) = part.split_once('*').unwrap_or(("1", part));
+        for _time in 0..number(count) {
+            for byte in part.as_bytes() {
+                text.push(if *byte == b'|' { b'\n' } else { *byte })?;
+            }
+        }
+    }
+    Ok(text)
+}
+
+/// What a line says.
+pub fn fed_line(alloc: Global, words: &str) -> Result<String, AllocError> {
+    let (senders, parts) = halves(words);
+    let senders = small(senders);
+    let line = text(alloc, parts)?;
+    match read_line(alloc, senders, line.as_slice())? {
+        Fed::Payload { sender, payload } if payload.len() > 20 => {
+            format!(in alloc; "fed {sender} of {} bytes", payload.len())
+        }
+        Fed::Payload { sender, payload } => {
+            let payload = digits(alloc, payload.as_slice())?;
+            format!(in alloc; "fed {sender} {payload}")
+        }
+        Fed::Wrong(wrong) => {
+            let mut lines = Vec::new(alloc);
+            push_wrong(&mut lines, senders, wrong)?;
+            shown(alloc, lines.as_slice())
+        }
+    }
+}
+
+/// The payload of an application message, of so many bytes.
+fn payload(alloc: Global, size: u64) -> Result<Bytes, AllocError> {
+    let mut bytes = Vec::from_slice(alloc, &[0xEB, 0x50])?;
+    for _byte in 2..size {
+        bytes.push(0)?;
+    }
+    Ok(Bytes::from(bytes))
+}
+
+/// Adds the sender of a piece, and how many messages it has.
+fn add_piece(piece: &Piece, line: &mut String) -> Result<(), AllocError> {
+    let (sender, count) = (piece.sender(), piece.payloads().len());
+    write!(line, " {sender}x{count}")
+}
+
+/// Adds a message to the piece, which is shown and begun anew where it does not take it.
+fn add_message(
+    alloc: Global,
+    piece: &mut Piece,
+    sender: u16,
+    size: u64,
+    line: &mut String,
+) -> Result<(), AllocError> {
+    let payload = payload(alloc, size)?;
+    if !is_application(payload.as_slice()) {
+        return line.push_str(" none");
+    }
+    if !piece.takes(sender, payload.len()) {
+        add_piece(piece, line)?;
+        piece.clear(alloc);
+    }
+    piece.add(sender, payload)
+}
+
+/// The pieces of messages, of which each word names so many: `COUNT*SENDER:SIZE`.
+pub fn piece_line(alloc: Global, words: &str) -> Result<String, AllocError> {
+    let mut line = String::from_str(alloc, "piece")?;
+    let mut piece = Piece::new(alloc);
+    for word in words.split(' ') {
+        let (count, message) = word.split_once('*').unwrap_or(("1", word));
+        let (sender, size) = message.split_once(':').unwrap_or(("1", message));
+        for _message in 0..number(count) {
+            add_message(alloc, &mut piece, small(sender), number(size), &mut line)?;
+        }
+    }
+    add_piece(&piece, &mut line)?;
+    Ok(line)
+}
+
+/// How many messages the outbox has of a sender.
+pub fn has_line(alloc: Global, words: &str) -> Result<String, AllocError> {
+    let (sender, count) = halves(words);
+    let mut lines = Vec::new(alloc);
+    push_has_line(&mut lines, small(sender), number(count))?;
+    shown(alloc, lines.as_slice())
+}
+
+/// A message that is stable.
+pub fn accepted_line(alloc: Global, words: &str) -> Result<String, AllocError> {
+    let (entry, others) = halves(words);
+    let (sender, count) = halves(others);
+    let mut lines = Vec::new(alloc);
+    push_accepted_line(&mut lines, number(entry), small(sender), number(count))?;
+    shown(alloc, lines.as_slice())
+}
+
+/// Why a line was not sent, by a name.
+fn why_named(name: &str) -> Why {
+    match name {
+        "long" => Why::TooLong,
+        "full" => Why::Full,
+        "closed" => Why::Closed,
+        "failed" => Why::Failed,
+        "memory" => Why::Memory,
+        _ => Why::Wrong(Wrong::Form),
+    }
+}
+
+/// A line that was not sent, where there are two senders.
+pub fn refused_line(alloc: Global, words: &str) -> Result<String, AllocError> {
+    let (count, name) = halves(words);
+    let mut lines = Vec::new(alloc);
+    push_refused_line(&mut lines, 2, number(count), why_named(name))?;
+    shown(alloc, lines.as_slice())
+}
+
+/// The end of a file of lines.
+pub fn tail_line(alloc: Global, parts: &str) -> Result<String, AllocError> {
+    let text = text(alloc, parts)?;
+    let mut disk = MemDisk::without_faults(alloc, 100_000)?;
+    if disk.write_at(0, text.as_slice()).is_err() {
+        return format!(in alloc; "tail no room");
+    }
+    match read_tail(alloc, &mut disk) {
+        Ok(tail) => {
+            let (whole, last) = (tail.whole, tail.last);
+            format!(in alloc; "tail {whole} {last:?}")
+        }
+        Err(fault) => format!(in alloc; "tail {fault:?}"),
+    }
+}

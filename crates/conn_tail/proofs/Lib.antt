@@ -1,0 +1,5 @@
+mod Contents
+mod Told
+mod Whole
+mod Walk
+mod Delivers

@@ -1,0 +1,130 @@
+//! A file that is read backwards, a piece at a time.
+
+ghost use Rattle.std.specs.Prelude.{◌≡◌, ℕ, ◌+◌, ◌-◌, ◌<◌, ◌≤◌, ◌^◌, List, length, take, drop, None, IfOk, OnOk, IsErrOf, slice_index};
+ghost use Rattle.std.specs.Option.{ForSome};
+ghost use Rattle.gw_outside.specs.Disk.{LeavesSame};
+ghost use Rattle.gw_outside.specs.Faults.{HasRisen};
+ghost use Rattle.conn_tail.specs.Places.{IsLine, StandsAt};
+
+use crate::fault::TailFault;
+use gw_outside::Disk;
+use std::alloc::Global;
+
+/// How many bytes are read at once.
+pub(crate) const PIECE: usize = 65_536;
+
+/// Where the first bytes of a piece stand in the file, and how many of them.
+#[derive(Clone, Copy)]
+pub(crate) struct Part {
+    pub(crate) at: u64,
+    pub(crate) size: usize,
+}
+
+/// Reads a piece that has the byte at this place, as far back as a piece goes.
+fn load<D: Disk>(disk: &mut D, piece: &mut [u8], place: u64) -> Result<Part, TailFault>
+    requires piece { length piece.old ≡ 65536 }
+    requires small { place < 2 ^ 40 }
+    requires place { ForSome (D.told disk.old) (λ content. place < length content) }
+    ensures before { IfOk result (λ part. part.at ≤ place) }
+    ensures behind { IfOk result (λ part. place < part.at + part.size) }
+    ensures most { IfOk result (λ part. part.size ≤ 65536) }
+    ensures stands { IfOk result (λ part. ForSome (D.told disk.old) (λ content. StandsAt content piece.new part.at part.size)) }
+    ensures content { D.told disk.new ≡ D.told disk.old }
+    ensures images { LeavesSame (D.may_leave disk.old) (D.may_leave disk.new) }
+    ensures counted { D.faults disk.old ≤ D.faults disk.new }
+    ensures fault { IsErrOf result TailFault.Disk → HasRisen (D.faults disk.old) (D.faults disk.new) }
+    ensures short { IsErrOf result TailFault.Short → D.told disk.old ≡ None }
+{
+    let at = (place + 1).saturating_sub(PIECE as u64);
+    let size = disk.read_at(at, piece)?;
+    if at + (size as u64) <= place {
+        return Err(TailFault::Short);
+    }
+    Ok(Part { at, size })
+}
+
+/// Has the byte at a place stand in the piece.
+fn bring<D: Disk>(
+    disk: &mut D,
+    piece: &mut [u8],
+    part: &mut Part,
+    place: u64,
+) -> Result<(), TailFault>
+    requires piece { length piece.old ≡ 65536 }
+    requires most { part.old.size ≤ 65536 }
+    requires small { place < 2 ^ 40 }
+    requires place { ForSome (D.told disk.old) (λ content. place < length content) }
+    requires stands { ForSome (D.told disk.old) (λ content. StandsAt content piece.old part.old.at part.old.size) }
+    ensures before { OnOk result (part.new.at ≤ place) }
+    ensures behind { OnOk result (place < part.new.at + part.new.size) }
+    ensures most { OnOk result (part.new.size ≤ 65536) }
+    ensures stands { OnOk result (ForSome (D.told disk.old) (λ content. StandsAt content piece.new part.new.at part.new.size)) }
+    ensures content { D.told disk.new ≡ D.told disk.old }
+    ensures images { LeavesSame (D.may_leave disk.old) (D.may_leave disk.new) }
+    ensures counted { D.faults disk.old ≤ D.faults disk.new }
+    ensures fault { IsErrOf result TailFault.Disk → HasRisen (D.faults disk.old) (D.faults disk.new) }
+    ensures short { IsErrOf result TailFault.Short → D.told disk.old ≡ None }
+{
+    if place >= part.at && place - part.at < part.size as u64 {
+        return Ok(());
+    }
+    *part = load(disk, piece, place)?;
+    Ok(())
+}
+
+/// The byte at a place, from the piece where it stands there.
+fn byte_at<D: Disk>(
+    disk: &mut D,
+    piece: &mut [u8],
+    part: &mut Part,
+    place: u64,
+) -> Result<u8, TailFault>
+    requires piece { length piece.old ≡ 65536 }
+    requires most { part.old.size ≤ 65536 }
+    requires small { place < 2 ^ 40 }
+    requires place { ForSome (D.told disk.old) (λ content. place < length content) }
+    requires stands { ForSome (D.told disk.old) (λ content. StandsAt content piece.old part.old.at part.old.size) }
+    ensures byte { IfOk result (λ byte. ForSome (D.told disk.old) (λ content. byte ≡ slice_index content place)) }
+    ensures stands { OnOk result (ForSome (D.told disk.old) (λ content. StandsAt content piece.new part.new.at part.new.size)) }
+    ensures most { OnOk result (part.new.size ≤ 65536) }
+    ensures content { D.told disk.new ≡ D.told disk.old }
+    ensures images { LeavesSame (D.may_leave disk.old) (D.may_leave disk.new) }
+    ensures counted { D.faults disk.old ≤ D.faults disk.new }
+    ensures fault { IsErrOf result TailFault.Disk → HasRisen (D.faults disk.old) (D.faults disk.new) }
+    ensures short { IsErrOf result TailFault.Short → D.told disk.old ≡ None }
+{
+    bring(disk, piece, part, place)?;
+    Ok(piece[(place - part.at) as usize])
+}
+
+/// Where the line begins that ends before this place.
+pub(crate) fn line_start<D: Disk>(
+    disk: &mut D,
+    piece: &mut [u8],
+    part: &mut Part,
+    end: u64,
+) -> Result<u64, TailFault>
+    requires piece { length piece.old ≡ 65536 }
+    requires most { part.old.size ≤ 65536 }
+    requires small { end ≤ 2 ^ 40 }
+    requires within { ForSome (D.told disk.old) (λ content. end ≤ length content) }
+    requires stands { ForSome (D.told disk.old) (λ content. StandsAt content piece.old part.old.at part.old.size) }
+    ensures start { IfOk result (λ start. ForSome (D.told disk.old) (λ content. IsLine content start end)) }
+    ensures before { IfOk result (λ start. start ≤ end) }
+    ensures stands { OnOk result (ForSome (D.told disk.old) (λ content. StandsAt content piece.new part.new.at part.new.size)) }
+    ensures most { OnOk result (part.new.size ≤ 65536) }
+    ensures content { D.told disk.new ≡ D.told disk.old }
+    ensures images { LeavesSame (D.may_leave disk.old) (D.may_leave disk.new) }
+    ensures counted { D.faults disk.old ≤ D.faults disk.new }
+    ensures fault { IsErrOf result TailFault.Disk → HasRisen (D.faults disk.old) (D.faults disk.new) }
+    ensures short { IsErrOf result TailFault.Short → D.told disk.old ≡ None }
+{
+    let mut start = end;
+    while start > 0 {
+        if byte_at(disk, piece, part, start - 1)? == b'\n' {
+            return Ok(start);
+        }
+        start -= 1;
+    }
+    Ok(0)
+}

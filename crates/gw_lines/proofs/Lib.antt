@@ -1,0 +1,4 @@
+mod Fronts
+mod Returns
+pub mod Steps
+mod TextLines

@@ -1,0 +1,3 @@
+pub mod Wrongs
+pub mod Laws
+pub mod Pieces
