@@ -49,7 +49,7 @@ pub enum ServeFault {
 }
 
 /// What a refusal of a sender is to a life: a closed outbox is none.
-pub(crate) fn refused_submit(fault: SubmitFault) -> Option<ServeFault>
+pub fn refused_submit(fault: SubmitFault) -> Option<ServeFault>
     ensures { result ≡ submit_fault fault }
 {
     match fault {

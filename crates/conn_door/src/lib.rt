@@ -7,7 +7,7 @@ mod behind;
 mod senders;
 mod signals;
 
-pub use answer::{LifeEnd, ServeFault, answer_of};
+pub use answer::{LifeEnd, ServeFault, answer_of, refused_submit};
 pub use behind::submit_behind;
 pub use senders::submit_all;
 pub use signals::Signals;

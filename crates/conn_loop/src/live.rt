@@ -1,10 +1,10 @@
 //! A live end: a connection with what its turns need beside a link. That is the gate of its outbox with the connection's pass, its
 //! inbox, and its clock, all of which it borrows. Relies on `Conn` for each of its calls.
 
-ghost use Rattle.std.specs.Prelude.{◌≡◌, ◌⊎◌, ◌<◌, ◌≤◌, ◌^◌, ℕ, [], max, true, length, Ok, Err, Some, None, IfOk, IfErr, IsSome, OnOk};
+ghost use Rattle.std.specs.Prelude.{◌≡◌, ◌⊎◌, ◌<◌, ◌≤◌, ◌^◌, ℕ, [], max, true, length, Ok, Err, Some, None, IfOk, IfErr, IsSome, OnOk, is_some};
 ghost use Rattle.gw_outside.specs.Faults.{HasRisen};
 ghost use Rattle.fixp_replies.specs.declared.act.Ending.TheVariants as endings;
-ghost use Rattle.jr_kept.specs.Inbox.{faults_of, is_broken, size_of, count_of};
+ghost use Rattle.jr_kept.specs.Inbox.{faults_of, is_broken, size_of, count_of, peer_last_of};
 ghost use Rattle.gate_turn.specs.Views.{HasFailed};
 ghost use Rattle.gate_turn.specs.Places.{known};
 ghost use Rattle.gate_turn.specs.Calls.{IsFree};
@@ -129,6 +129,13 @@ impl<'a, O: Journal, I: Journal, C: Clock> LiveEnd<'a, O, I, C> {
         ensures clock { self.new.clock.now ≡ self.old.clock.now }
     {
         self.conn.cut()
+    }
+
+    /// Whether the inbox has recorded that the peer finished.
+    pub fn peer_finished(&self) -> bool
+        ensures { result ≡ is_some (peer_last_of self.now.inbox.now) }
+    {
+        self.inbox.peer_last().is_some()
     }
 
     /// The machine, as it stands.

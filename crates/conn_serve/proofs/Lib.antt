@@ -6,3 +6,5 @@ pub mod Living
 pub mod Opening
 pub mod Marking
 pub mod Following
+pub mod Resuming
+pub mod Upto

@@ -1,5 +1,6 @@
 -- Connections of a life one behind another, and how it ends.
 use Rattle.std.proofs.Common.{◌≡◌, ◌⊎◌, inl, inr, ℕ, ◌+◌, ◌-◌, ◌<◌, ◌≤◌, Bool, true, false, All, List, [], ◌∷◌, ◌++◌, length, Option, Some, None, Result, Ok, Err, refl, sym, ap, subst, ◌∙◌, arith, append-nil, append_assoc, length-append}
+use Rattle.std.specs.Bool.{⊤}
 use Rattle.std.specs.Prelude.{IsSome, IfSome, IsTrue, is_some}
 use Rattle.std.specs.List.{AllByRecursion, flat_map}
 use Rattle.std.specs.Option.{option_map}
@@ -13,7 +14,8 @@ use Rattle.session_model.specs.Inbox.{InboxRecord}
 use Rattle.session_model.proofs.Lists.{all_append}
 use Rattle.fixp_replies.specs.declared.act.Ending.{Ending}
 use Rattle.fixp_replies.specs.declared.act.Ending.TheVariants as endings
-use Rattle.fixp_machine.specs.Machine.{State}
+use Rattle.fixp_shake.specs.declared.phase.Phase.{Phase}
+use Rattle.fixp_machine.specs.Machine.{State, phase_of}
 use Rattle.gw_links.specs.Links.{Carried, HasCarried, CarriedNothing, carry}
 use Rattle.gw_links.specs.Dialers.{DialerTold, returned}
 use Rattle.gw_links.specs.declared.link.Link.{Ghosts as LinkGhosts}
@@ -37,11 +39,11 @@ use Rattle.conn_door.specs.declared.answer.ServeFault.TheVariants as faults
 use Rattle.conn_door.specs.declared.answer.LifeEnd.{LifeEnd}
 use Rattle.conn_door.specs.declared.answer.LifeEnd.TheVariants as ends
 use Rattle.conn_serve.specs.Answers.{end_behind, IsOfConnection}
-use Rattle.conn_serve.specs.Connections.{LinkSeen, IsOver, ByClock, Connection, IsFaithfulLeg, turned, HasEnded, AllEnded, ClosesAs, Follows, IsFollowed, AreFollowed, adds_of}
+use Rattle.conn_serve.specs.Connections.{IsOver, ByClock, Connection, IsFaithfulLeg, turned, HasEnded, AllEnded, ClosesAs, Follows, IsFollowed, AreFollowed, all_of, adds_of}
 use Rattle.conn_serve.specs.Lines.{news_lines, close_line, lines_from}
 use Rattle.conn_serve.specs.Causes.{lacks_at, Tells, TellsUntil, TellsNews, AreLate, TellsAll}
 use Rattle.conn_serve.specs.Turned.{TurnedOn, GivenUpOn, MayBegin}
-use Rattle.conn_serve.specs.Served.{AllCame, carried_by, IsTold, IsNextLink, IsLifeAnswer, lacks_lines, IsOverBy, ServedLife, ServedOver, Lived, EndedOne, GaveOneUp, MadeNone, IsRound}
+use Rattle.conn_serve.specs.Served.{IsNext, AllCame, carried_by, IsTold, IsNextLink, IsLifeAnswer, lacks_lines, IsRoundOf, ServedLife, ServedOver, Lived, EndedOne, GaveOneUp, MadeNone, IsRound}
 use Rattle.conn_serve.proofs.Turning.{lines_on, tells_all, no_more}
 use Rattle.conn_serve.specs.Moments.{LifeAt, connection_at, life_at}
 
@@ -240,14 +242,40 @@ module _ {J : Type 0} {G : Ghosts J} where
   gains_with : (a b c : Inbox J G) (cs : List Connection) (x : Connection) → Gains a b (adds_of cs) → Gains b c x.adds → Gains a c (adds_of (cs ++ x ∷ []))
   gains_with a b c cs x first later = subst (Gains a c) (sym (adds_append cs x)) (gains_on a b c (adds_of cs) x.adds first later)
 
+  -- what is known of the records that connections added, and of those that one more did, is known of all
+  abbrev pub Joined : (P Q R : List InboxRecord → Type 0) (old mid : LifeAt J G) → Type 0
+  Joined P Q R old mid = (xs ys : List InboxRecord) → Gains old.box mid.box xs → P xs → Q ys → R (xs ++ ys)
+
+  with_one : (P Q R : List InboxRecord → Type 0) (old mid : LifeAt J G) (cs : List Connection) (x : Connection) → Joined P Q R old mid → Gains old.box mid.box (adds_of cs) → P (adds_of cs) → Q x.adds → R (adds_of (cs ++ x ∷ []))
+  with_one P Q R old mid cs x join gains known one = subst R (sym (adds_append cs x)) (join (adds_of cs) x.adds gains known one)
+
+  -- where none was added
+  with_none : (P Q R : List InboxRecord → Type 0) (old mid : LifeAt J G) (cs : List Connection) → Joined P Q R old mid → Gains old.box mid.box (adds_of cs) → P (adds_of cs) → Q [] → R (adds_of cs)
+  with_none P Q R old mid cs join gains known none = subst R (append-nil (adds_of cs)) (join (adds_of cs) [] gains known none)
+
+  -- where there was no link
+  pub round_none : {L : Type 0} (tells : Type 0) (carried : L → Option Carried) (known : Option Connection → Type 0) (n : ℕ) (dialed later : Option DialerTold) (out : Option (List ℕ)) (seen : History) (m : State) (box : Inbox J G) (fault : ServeFault)
+      → IsNext carried dialed later (Err fault) → ((phase : Phase) → ◌≡◌ {A = Result (Option L) ServeFault} (Err fault) (Err (faults.Unfinished phase)) → phase ≡ phase_of m) → known None
+      → IsRound tells known n (life_at dialed out seen box) (life_at later out seen box) m m (Err fault)
+  round_none tells carried known n dialed later out seen m box faults.Output next phase none = absurd next
+  round_none tells carried known n dialed later out seen m box faults.Journal next phase none = absurd next
+  round_none tells carried known n dialed later out seen m box (faults.Changed at) next phase none = absurd next
+  round_none tells carried known n dialed later out seen m box faults.Dial next phase none = (made_none dialed later out seen m box next, none)
+  round_none tells carried known n dialed later out seen m box (faults.Unfinished p) next phase none = (made_none dialed later out seen m box next.0, phase p refl, next.1, none)
+  round_none tells carried known n dialed later out seen m box (faults.Rejected template code) next phase none = absurd next
+  round_none tells carried known n dialed later out seen m box (faults.Full entries bytes) next phase none = absurd next
+  round_none tells carried known n dialed later out seen m box faults.Turns next phase none = absurd next
+  round_none tells carried known n dialed later out seen m box faults.Memory next phase none = absurd next
+
 module _ {J : Type 0} {G : Ghosts J} {tells : Type 0} where
   -- ---- one connection
 
-  pub ended_one : {L : Type 0} (G' : LinkGhosts L) (first last : L) (n : ℕ) (lacking : Bool) (dialed between later : Option DialerTold) (out mid_out now_out : Option (List ℕ)) (before seen : History) (clock ticked : ℕ) (l new : Line) (box since : Inbox J G) (close : Close)
-      → IsNextLink G'.carried first dialed between → TurnedOn tells G'.eager (connection_at (G'.told first) (G'.carried first) out before clock l box) (connection_at (G'.told last) (G'.carried last) mid_out seen ticked new since)
+  pub ended_one : {L : Type 0} (P : List InboxRecord → Type 0) (G' : LinkGhosts L) (first last : L) (n : ℕ) (lacking : Bool) (dialed between later : Option DialerTold) (out mid_out now_out : Option (List ℕ)) (before seen : History) (clock ticked : ℕ) (l new : Line) (box since : Inbox J G) (close : Close)
+      → IsNextLink G'.carried first dialed between → ((t : TurnedOn tells G'.eager (connection_at (G'.told first) (G'.carried first) out before clock l box) (connection_at (G'.told last) (G'.carried last) mid_out seen ticked new since)) × P t.turned.adds)
       → later ≡ option_map (returned (G'.carried last)) between → ClosesAs close new.machine.ending → (close ≡ closes.LinkFault → HasRisen (G'.faults first) (G'.faults last)) → Tells lacking mid_out now_out (connection_line n close)
-      → EndedOne tells (IsOverBy G' clock ticked) n lacking (life_at dialed out before box) (life_at later now_out seen since) l.machine new.machine close
-  ended_one G' first last n lacking dialed between later out mid_out now_out before seen clock ticked l new box since close next on back closed lost lines =
+      → EndedOne tells (IsRoundOf G' clock ticked P) n lacking (life_at dialed out before box) (life_at later now_out seen since) l.machine new.machine close
+  ended_one P G' first last n lacking dialed between later out mid_out now_out before seen clock ticked l new box since close next turned_on back closed lost lines =
+      let on = turned_on.0 in
       let t = on.turned in
       let leg : TurnedLeg = record { moment = on.moment; turns = t.turns; cut = None } in
       let given : given_on leg ≡ flat_map given_in t.turns = ap (flat_map given_in) (append-nil t.turns) in
@@ -265,7 +293,7 @@ module _ {J : Type 0} {G : Ghosts J} {tells : Type 0} where
           close = Some close;
           carried = G'.carried last;
         };
-        link = (over_these G' first last before seen on.clock ticked (first_line l.machine on.moment) new, on.began.later, omega arith);
+        is_known = ((over_these G' first last before seen on.clock ticked (first_line l.machine on.moment) new, on.began.later, omega arith), turned_on.1);
         closed = refl;
         ended = record {
           last = new;
@@ -300,10 +328,11 @@ module _ {J : Type 0} {G : Ghosts J} {tells : Type 0} where
         tells = λ told. still_tells (G'.carried first) (G'.carried last) _ _ t.moved.carries (next.tells told);
       }
 
-  pub gave_one : {L : Type 0} (G' : LinkGhosts L) (first last : L) (why : Option ServeFault) (dialed between later : Option DialerTold) (out now_out : Option (List ℕ)) (before seen : History) (clock ticked : ℕ) (l new : Line) (box since : Inbox J G)
-      → IsNextLink G'.carried first dialed between → GivenUpOn tells G'.eager why (connection_at (G'.told first) (G'.carried first) out before clock l box) (connection_at (G'.told last) (G'.carried last) now_out seen ticked new since)
-      → later ≡ option_map (returned (G'.carried last)) between → GaveOneUp tells (IsOverBy G' clock ticked) why (life_at dialed out before box) (life_at later now_out seen since) l.machine
-  gave_one G' first last why dialed between later out now_out before seen clock ticked l new box since next on back =
+  pub gave_one : {L : Type 0} (P : List InboxRecord → Type 0) (G' : LinkGhosts L) (first last : L) (why : Option ServeFault) (dialed between later : Option DialerTold) (out now_out : Option (List ℕ)) (before seen : History) (clock ticked : ℕ) (l new : Line) (box since : Inbox J G)
+      → IsNextLink G'.carried first dialed between → ((g : GivenUpOn tells G'.eager why (connection_at (G'.told first) (G'.carried first) out before clock l box) (connection_at (G'.told last) (G'.carried last) now_out seen ticked new since)) × P (g.given_up.adds ++ g.given_up.cut_added))
+      → later ≡ option_map (returned (G'.carried last)) between → GaveOneUp tells (IsRoundOf G' clock ticked P) why (life_at dialed out before box) (life_at later now_out seen since) l.machine
+  gave_one P G' first last why dialed between later out now_out before seen clock ticked l new box since next given_on back =
+      let on = given_on.0 in
       let g = on.given_up in
       let began : TurnAt = record { told = G'.told first; carried = G'.carried first; seen = before; clock = on.clock; line = first_line l.machine on.moment } in
       let behind : TurnAt = record { told = G'.told last; carried = G'.carried last; seen = seen; clock = ticked; line = new } in
@@ -318,7 +347,7 @@ module _ {J : Type 0} {G : Ghosts J} {tells : Type 0} where
           close = None;
           carried = G'.carried last;
         };
-        link = (over_these G' first last before seen on.clock ticked (first_line l.machine on.moment) new, on.began.later, omega arith);
+        is_known = ((over_these G' first last before seen on.clock ticked (first_line l.machine on.moment) new, on.began.later, omega arith), given_on.1);
         unclosed = refl;
         last = g.behind.line;
         is = record {
@@ -350,55 +379,59 @@ module _ {J : Type 0} {G : Ghosts J} {tells : Type 0} where
 
   -- ---- a round
 
-  pub round_lacking : (over : LinkSeen → Type 0) (n : ℕ) (old new : LifeAt J G) (m m' : State) (close : Close) (fault : ServeFault) (H : Type 0)
-      → ((fault ≡ faults.Output) × H) ⊎ (fault ≡ faults.Memory) → EndedOne tells over n true old new m m' close
-      → IsRound tells over n old new m m' (Err fault)
-  round_lacking over n old new m m' close fault H (inl a) e =
-      subst (λ (f : ServeFault). IsRound tells over n old new m m' (Err f)) (sym a.0) (inl (close, e))
-  round_lacking over n old new m m' close fault H (inr b) e =
-      subst (λ (f : ServeFault). IsRound tells over n old new m m' (Err f)) (sym b) (inl (close, e))
+  pub round_lacking : (known : Option Connection → Type 0) (n : ℕ) (old new : LifeAt J G) (m m' : State) (close : Close) (fault : ServeFault) (H : Type 0)
+      → ((fault ≡ faults.Output) × H) ⊎ (fault ≡ faults.Memory) → EndedOne tells known n true old new m m' close
+      → IsRound tells known n old new m m' (Err fault)
+  round_lacking known n old new m m' close fault H (inl a) e =
+      subst (λ (f : ServeFault). IsRound tells known n old new m m' (Err f)) (sym a.0) (inl (close, e))
+  round_lacking known n old new m m' close fault H (inr b) e =
+      subst (λ (f : ServeFault). IsRound tells known n old new m m' (Err f)) (sym b) (inl (close, e))
 
-  pub round_ended : (over : LinkSeen → Type 0) (n : ℕ) (old new : LifeAt J G) (m m' : State) (close : Close)
-      → EndedOne tells over n false old new m m' close → IsRound tells over n old new m m' (end_behind close)
-  round_ended over n old new m m' (closes.Ended endings.Finished) e = e
-  round_ended over n old new m m' (closes.Ended (endings.PeerTerminated code)) e = (closes.Ended (endings.PeerTerminated code), tt, e)
-  round_ended over n old new m m' (closes.Ended endings.LinkEnded) e = (closes.Ended endings.LinkEnded, tt, e)
-  round_ended over n old new m m' (closes.Ended (endings.Rejected template code)) e = e
-  round_ended over n old new m m' (closes.Ended (endings.Violation violation)) e = (closes.Ended (endings.Violation violation), tt, e)
-  round_ended over n old new m m' closes.LinkFault e = (closes.LinkFault, tt, e)
+  pub round_ended : (known : Option Connection → Type 0) (n : ℕ) (old new : LifeAt J G) (m m' : State) (close : Close)
+      → EndedOne tells known n false old new m m' close → IsRound tells known n old new m m' (end_behind close)
+  round_ended known n old new m m' (closes.Ended endings.Finished) e = e
+  round_ended known n old new m m' (closes.Ended (endings.PeerTerminated code)) e = (closes.Ended (endings.PeerTerminated code), tt, e)
+  round_ended known n old new m m' (closes.Ended endings.LinkEnded) e = (closes.Ended endings.LinkEnded, tt, e)
+  round_ended known n old new m m' (closes.Ended (endings.Rejected template code)) e = e
+  round_ended known n old new m m' (closes.Ended (endings.Violation violation)) e = (closes.Ended (endings.Violation violation), tt, e)
+  round_ended known n old new m m' closes.LinkFault e = (closes.LinkFault, tt, e)
 
-  pub round_given : (over : LinkSeen → Type 0) (n : ℕ) (old new : LifeAt J G) (m m' : State) (fault : ServeFault)
-      → IsOfConnection fault → GaveOneUp tells over (Some fault) old new m → IsRound tells over n old new m m' (Err fault)
-  round_given over n old new m m' faults.Output is g = inr g
-  round_given over n old new m m' faults.Journal is g = g
-  round_given over n old new m m' (faults.Changed at) is g = g
-  round_given over n old new m m' faults.Dial is g = absurd is
-  round_given over n old new m m' (faults.Unfinished phase) is g = absurd is
-  round_given over n old new m m' (faults.Rejected template code) is g = absurd is
-  round_given over n old new m m' (faults.Full entries bytes) is g = g
-  round_given over n old new m m' faults.Turns is g = g
-  round_given over n old new m m' faults.Memory is g = inr g
+  pub round_given : (known : Option Connection → Type 0) (n : ℕ) (old new : LifeAt J G) (m m' : State) (fault : ServeFault)
+      → IsOfConnection fault → GaveOneUp tells known (Some fault) old new m → IsRound tells known n old new m m' (Err fault)
+  round_given known n old new m m' faults.Output is g = inr g
+  round_given known n old new m m' faults.Journal is g = g
+  round_given known n old new m m' (faults.Changed at) is g = g
+  round_given known n old new m m' faults.Dial is g = absurd is
+  round_given known n old new m m' (faults.Unfinished phase) is g = absurd is
+  round_given known n old new m m' (faults.Rejected template code) is g = absurd is
+  round_given known n old new m m' (faults.Full entries bytes) is g = g
+  round_given known n old new m m' faults.Turns is g = g
+  round_given known n old new m m' faults.Memory is g = inr g
 
-  pub lived_none : {L : Type 0} (G' : LinkGhosts L) (clock : ℕ) (dialed : Option DialerTold) (out : Option (List ℕ)) (seen : History) (m : State) (box : Inbox J G)
-      → LivedTo tells G' clock clock 1 (life_at dialed out seen box) (life_at dialed out seen box) m m
-  lived_none G' clock dialed out seen m box = record {
-    ended = [];
-    links = tt;
-    clock = omega arith;
-    number = refl;
-    lived = record { were = (refl, refl); gains = gains_none box box refl; lines = Appends-nil out; came = came_none dialed; tells = λ told. All-nil IsTold; timely = tt; faithful = λ t. tt; followed = All-nil IsFollowed };
-  }
+  pub lived_none : {L : Type 0} (P : List InboxRecord → Type 0) (G' : LinkGhosts L) (clock : ℕ) (dialed : Option DialerTold) (out : Option (List ℕ)) (seen : History) (m : State) (box : Inbox J G)
+      → P [] → (l : LivedTo tells G' clock clock 1 (life_at dialed out seen box) (life_at dialed out seen box) m m) × P (adds_of l.ended)
+  lived_none P G' clock dialed out seen m box known = (
+    record {
+      ended = [];
+      links = tt;
+      clock = omega arith;
+      number = refl;
+      lived = record { were = (refl, refl); gains = gains_none box box refl; lines = Appends-nil out; came = came_none dialed; tells = λ told. All-nil IsTold; timely = tt; faithful = λ t. tt; followed = All-nil IsFollowed };
+    },
+    known,
+  )
 
-  pub lived_more : {L : Type 0} (G' : LinkGhosts L) (p q t n : ℕ) (old mid new : LifeAt J G) (m m' m'' : State)
-      → LivedTo tells G' p q n old mid m m' → IsRound tells (IsOverBy G' q t) n mid new m' m'' (Ok None)
-      → LivedTo tells G' p t (n + 1) old new m m''
-  lived_more G' p q t n old mid new m m' m'' l r =
+  pub lived_more : {L : Type 0} (P Q R : List InboxRecord → Type 0) (G' : LinkGhosts L) (p q t n : ℕ) (old mid new : LifeAt J G) (m m' m'' : State)
+      → ((l : LivedTo tells G' p q n old mid m m') × P (adds_of l.ended)) → IsRound tells (IsRoundOf G' q t Q) n mid new m' m'' (Ok None) → Joined P Q R old mid
+      → (l : LivedTo tells G' p t (n + 1) old new m m'') × R (adds_of l.ended)
+  lived_more P Q R G' p q t n old mid new m m' m'' (l, k) r join =
       let (close, follows, e) = r in
       let x = e.connection in
-      record {
+      let over = e.is_known.0 in
+      let more : LivedTo tells G' p t (n + 1) old new m m'' = record {
         ended = l.ended ++ x ∷ [];
-        links = all_append (λ (c : Connection). IsOver G' c.link) l.ended (x ∷ []) l.links (e.link.0, tt);
-        clock = clock_on p q t l.ended x l.clock e.link.1 e.link.2;
+        links = all_append (λ (c : Connection). IsOver G' c.link) l.ended (x ∷ []) l.links (over.0, tt);
+        clock = clock_on p q t l.ended x l.clock over.1 over.2;
         number = omega (arith, l.number, length-append l.ended (x ∷ []));
         lived = record {
           were = ended_on old.seen mid.seen new.seen m m' m'' l.ended x l.lived.were e.ended;
@@ -410,16 +443,18 @@ module _ {J : Type 0} {G : Ghosts J} {tells : Type 0} where
           faithful = λ t. faithful_append l.ended x (l.lived.faithful t) (e.faithful t);
           followed = All-append IsFollowed l.ended (x ∷ []) l.lived.followed (All-cons IsFollowed x [] (subst (λ (o : Option Close). IfSome o Follows) (sym e.closed) follows) (All-nil IsFollowed));
         };
-      }
+      } in
+      (more, with_one P Q R old mid l.ended x join l.lived.gains k e.is_known.1)
 
   -- ---- and how it ends
 
   -- behind a last connection that ended
-  over_ended : {L : Type 0} (G' : LinkGhosts L) (p q t : ℕ) (result : Result LifeEnd ServeFault) (n : ℕ) (old mid new : LifeAt J G) (m m' m'' : State) (close : Close)
-      → (l : LivedTo tells G' p q n old mid m m') → (e : EndedOne tells (IsOverBy G' q t) n (lacks_lines result) mid new m' m'' close)
-      → IsLifeAnswer new.seen new.seen m'' new.dialed (l.ended ++ e.connection ∷ []) None result → ServedOver tells G' p t old new m result
-  over_ended G' p q t result n old mid new m m' m'' close l e answer =
+  over_ended : {L : Type 0} (P Q R : List InboxRecord → Type 0) (G' : LinkGhosts L) (p q t : ℕ) (result : Result LifeEnd ServeFault) (n : ℕ) (old mid new : LifeAt J G) (m m' m'' : State) (close : Close)
+      → (l : LivedTo tells G' p q n old mid m m') → P (adds_of l.ended) → (e : EndedOne tells (IsRoundOf G' q t Q) n (lacks_lines result) mid new m' m'' close) → Joined P Q R old mid
+      → IsLifeAnswer new.seen new.seen m'' new.dialed (l.ended ++ e.connection ∷ []) None result → (s : ServedOver tells G' p t old new m result) × R (adds_of (all_of s.life.ended s.life.given_up))
+  over_ended P Q R G' p q t result n old mid new m m' m'' close l k e join answer =
       let x = e.connection in
+      let over = e.is_known.0 in
       let cs : List Connection = l.ended ++ x ∷ [] in
       let life : ServedLife tells old new m result = record {
         ended = cs;
@@ -439,19 +474,21 @@ module _ {J : Type 0} {G : Ghosts J} {tells : Type 0} where
         answer = answer;
         past = λ entries bytes is. absurd (never_full new.seen new.seen m'' new.dialed cs result entries bytes answer is);
       } in
-      record {
+      let served : ServedOver tells G' p t old new m result = record {
         life = life;
-        links = subst (AllByRecursion (λ (c : Connection). IsOver G' c.link)) (sym (append-nil cs)) (all_append (λ (c : Connection). IsOver G' c.link) l.ended (x ∷ []) l.links (e.link.0, tt));
-        clock = subst (ByClock p t) (sym (append-nil cs)) (clock_on p q t l.ended x l.clock e.link.1 e.link.2);
-      }
+        links = subst (AllByRecursion (λ (c : Connection). IsOver G' c.link)) (sym (append-nil cs)) (all_append (λ (c : Connection). IsOver G' c.link) l.ended (x ∷ []) l.links (over.0, tt));
+        clock = subst (ByClock p t) (sym (append-nil cs)) (clock_on p q t l.ended x l.clock over.1 over.2);
+      } in
+      (served, subst (λ (ds : List Connection). R (adds_of ds)) (sym (append-nil cs)) (with_one P Q R old mid l.ended x join l.lived.gains k e.is_known.1))
 
   -- behind a connection that was given up
-  over_given : {L : Type 0} (G' : LinkGhosts L) (p q t : ℕ) (result : Result LifeEnd ServeFault) (why : Option ServeFault) (n : ℕ) (old mid new : LifeAt J G) (m m' : State)
-      → (l : LivedTo tells G' p q n old mid m m') → (g : GaveOneUp tells (IsOverBy G' q t) why mid new m') → lacks_at why ≡ lacks_lines result
+  over_given : {L : Type 0} (P Q R : List InboxRecord → Type 0) (G' : LinkGhosts L) (p q t : ℕ) (result : Result LifeEnd ServeFault) (why : Option ServeFault) (n : ℕ) (old mid new : LifeAt J G) (m m' : State)
+      → (l : LivedTo tells G' p q n old mid m m') → P (adds_of l.ended) → (g : GaveOneUp tells (IsRoundOf G' q t Q) why mid new m') → Joined P Q R old mid → lacks_at why ≡ lacks_lines result
       → ((entries bytes : ℕ) → result ≡ Err (faults.Full entries bytes) → why ≡ Some (faults.Full entries bytes))
-      → IsLifeAnswer mid.seen new.seen m' new.dialed l.ended (Some g.connection) result → ServedOver tells G' p t old new m result
-  over_given G' p q t result why n old mid new m m' l g lacking full answer =
+      → IsLifeAnswer mid.seen new.seen m' new.dialed l.ended (Some g.connection) result → (s : ServedOver tells G' p t old new m result) × R (adds_of (all_of s.life.ended s.life.given_up))
+  over_given P Q R G' p q t result why n old mid new m m' l k g join lacking full answer =
       let x = g.connection in
+      let over = g.is_known.0 in
       let life : ServedLife tells old new m result = record {
         ended = l.ended;
         given_up = Some x;
@@ -470,17 +507,18 @@ module _ {J : Type 0} {G : Ghosts J} {tells : Type 0} where
         answer = answer;
         past = λ entries bytes e. subst (IsPast (limits_of new.box).bytes bytes) (sym (append-nil x.wanted)) (g.past entries bytes (full entries bytes e));
       } in
-      record {
+      let served : ServedOver tells G' p t old new m result = record {
         life = life;
-        links = all_append (λ (c : Connection). IsOver G' c.link) l.ended (x ∷ []) l.links (g.link.0, tt);
-        clock = clock_on p q t l.ended x l.clock g.link.1 g.link.2;
-      }
+        links = all_append (λ (c : Connection). IsOver G' c.link) l.ended (x ∷ []) l.links (over.0, tt);
+        clock = clock_on p q t l.ended x l.clock over.1 over.2;
+      } in
+      (served, with_one P Q R old mid l.ended x join l.lived.gains k g.is_known.1)
 
   -- behind those that ended, with no further one
-  over_none : {L : Type 0} (G' : LinkGhosts L) (p q t : ℕ) (result : Result LifeEnd ServeFault) (n : ℕ) (old mid new : LifeAt J G) (m m' m'' : State)
-      → (l : LivedTo tells G' p q n old mid m m') → MadeNone mid new m' m'' → q ≤ t
-      → IsLifeAnswer mid.seen new.seen m' new.dialed l.ended None result → ServedOver tells G' p t old new m result
-  over_none G' p q t result n old mid new m m' m'' l none later answer =
+  over_none : {L : Type 0} (R : List InboxRecord → Type 0) (G' : LinkGhosts L) (p q t : ℕ) (result : Result LifeEnd ServeFault) (n : ℕ) (old mid new : LifeAt J G) (m m' m'' : State)
+      → (l : LivedTo tells G' p q n old mid m m') → R (adds_of l.ended) → MadeNone mid new m' m'' → q ≤ t
+      → IsLifeAnswer mid.seen new.seen m' new.dialed l.ended None result → (s : ServedOver tells G' p t old new m result) × R (adds_of (all_of s.life.ended s.life.given_up))
+  over_none R G' p q t result n old mid new m m' m'' l k none later answer =
       let cs = l.ended in
       let life : ServedLife tells old new m result = record {
         ended = cs;
@@ -501,59 +539,61 @@ module _ {J : Type 0} {G : Ghosts J} {tells : Type 0} where
         answer = answer;
         past = λ entries bytes e. absurd (never_full mid.seen new.seen m' new.dialed cs result entries bytes answer e);
       } in
-      record {
+      let served : ServedOver tells G' p t old new m result = record {
         life = life;
         links = subst (AllByRecursion (λ (c : Connection). IsOver G' c.link)) (sym (append-nil cs)) l.links;
         clock = subst (ByClock p t) (sym (append-nil cs)) (clock_later p q t cs l.clock later);
-      }
+      } in
+      (served, subst (λ (ds : List Connection). R (adds_of ds)) (sym (append-nil cs)) k)
 
-  pub over_stopped : {L : Type 0} (G' : LinkGhosts L) (p q n : ℕ) (old new : LifeAt J G) (m m' : State)
-      → LivedTo tells G' p q n old new m m' → ServedOver tells G' p q old new m (Ok ends.Stopped)
-  over_stopped G' p q n old new m m' l =
-      over_none G' p q q (Ok ends.Stopped) n old new new m m' m' l (made_none new.dialed new.dialed new.out new.seen m' new.box refl) (omega arith) l.lived.followed
+  pub over_stopped : {L : Type 0} (P : List InboxRecord → Type 0) (G' : LinkGhosts L) (p q n : ℕ) (old new : LifeAt J G) (m m' : State)
+      → ((l : LivedTo tells G' p q n old new m m') × P (adds_of l.ended)) → (s : ServedOver tells G' p q old new m (Ok ends.Stopped)) × P (adds_of (all_of s.life.ended s.life.given_up))
+  over_stopped P G' p q n old new m m' (l, k) =
+      over_none P G' p q q (Ok ends.Stopped) n old new new m m' m' l k (made_none new.dialed new.dialed new.out new.seen m' new.box refl) (omega arith) l.lived.followed
 
-  pub over_ok : {L : Type 0} (G' : LinkGhosts L) (p q t : ℕ) (end : LifeEnd) (n : ℕ) (old mid new : LifeAt J G) (m m' m'' : State)
-      → LivedTo tells G' p q n old mid m m' → IsRound tells (IsOverBy G' q t) n mid new m' m'' (Ok (Some end)) → q ≤ t
-      → ServedOver tells G' p t old new m (Ok end)
-  over_ok G' p q t ends.Finished n old mid new m m' m'' l r later =
-      over_ended G' p q t (Ok ends.Finished) n old mid new m m' m'' (closes.Ended endings.Finished) l r
+  pub over_ok : {L : Type 0} (P Q R : List InboxRecord → Type 0) (G' : LinkGhosts L) (p q t : ℕ) (end : LifeEnd) (n : ℕ) (old mid new : LifeAt J G) (m m' m'' : State)
+      → ((l : LivedTo tells G' p q n old mid m m') × P (adds_of l.ended)) → IsRound tells (IsRoundOf G' q t Q) n mid new m' m'' (Ok (Some end)) → Joined P Q R old mid → q ≤ t
+      → (s : ServedOver tells G' p t old new m (Ok end)) × R (adds_of (all_of s.life.ended s.life.given_up))
+  over_ok P Q R G' p q t ends.Finished n old mid new m m' m'' (l, k) r join later =
+      over_ended P Q R G' p q t (Ok ends.Finished) n old mid new m m' m'' (closes.Ended endings.Finished) l k r join
       (refl, record { earlier = l.ended; last = r.connection; are = refl; closed = r.closed; followed = l.lived.followed })
-  over_ok G' p q t ends.Stopped n old mid new m m' m'' l (inl g) later =
-      over_given G' p q t (Ok ends.Stopped) None n old mid new m m' l g refl (λ entries bytes e. cc) l.lived.followed
-  over_ok G' p q t ends.Stopped n old mid new m m' m'' l (inr none) later =
-      over_none G' p q t (Ok ends.Stopped) n old mid new m m' m'' l none later l.lived.followed
+  over_ok P Q R G' p q t ends.Stopped n old mid new m m' m'' (l, k) (inl g) join later =
+      over_given P Q R G' p q t (Ok ends.Stopped) None n old mid new m m' l k g join refl (λ entries bytes e. cc) l.lived.followed
+  over_ok P Q R G' p q t ends.Stopped n old mid new m m' m'' (l, k) (inr none) join later =
+      over_none R G' p q t (Ok ends.Stopped) n old mid new m m' m'' l (with_none P Q R old mid l.ended join l.lived.gains k none.1) none.0 later l.lived.followed
 
-  pub over_err : {L : Type 0} (G' : LinkGhosts L) (p q t : ℕ) (fault : ServeFault) (n : ℕ) (old mid new : LifeAt J G) (m m' m'' : State)
-      → LivedTo tells G' p q n old mid m m' → IsRound tells (IsOverBy G' q t) n mid new m' m'' (Err fault) → q ≤ t
-      → ServedOver tells G' p t old new m (Err fault)
-  over_err G' p q t faults.Output n old mid new m m' m'' l (inl e) later =
-      over_ended G' p q t (Err faults.Output) n old mid new m m' m'' e.0 l e.1 tt
-  over_err G' p q t faults.Output n old mid new m m' m'' l (inr g) later =
-      over_given G' p q t (Err faults.Output) (Some faults.Output) n old mid new m m' l g refl (λ entries bytes e. cc) tt
-  over_err G' p q t faults.Journal n old mid new m m' m'' l r later =
-      over_given G' p q t (Err faults.Journal) (Some faults.Journal) n old mid new m m' l r refl (λ entries bytes e. cc) (l.lived.followed, r.connection, refl, r.cut_short.0 refl)
-  over_err G' p q t (faults.Changed at) n old mid new m m' m'' l r later =
-      over_given G' p q t (Err (faults.Changed at)) (Some (faults.Changed at)) n old mid new m m' l r refl (λ entries bytes e. cc) (l.lived.followed, r.connection, refl, r.cut_changed at refl)
-  over_err G' p q t faults.Dial n old mid new m m' m'' l r later =
-      over_none G' p q t (Err faults.Dial) n old mid new m m' m'' l r later (l.lived.followed, refl)
-  over_err G' p q t (faults.Unfinished phase) n old mid new m m' m'' l r later =
-      over_none G' p q t (Err (faults.Unfinished phase)) n old mid new m m' m'' l r.0 later (l.lived.followed, refl, r.1, r.2)
-  over_err G' p q t (faults.Rejected template code) n old mid new m m' m'' l r later =
-      over_ended G' p q t (Err (faults.Rejected template code)) n old mid new m m' m'' (closes.Ended (endings.Rejected template code)) l r
+  pub over_err : {L : Type 0} (P Q R : List InboxRecord → Type 0) (G' : LinkGhosts L) (p q t : ℕ) (fault : ServeFault) (n : ℕ) (old mid new : LifeAt J G) (m m' m'' : State)
+      → ((l : LivedTo tells G' p q n old mid m m') × P (adds_of l.ended)) → IsRound tells (IsRoundOf G' q t Q) n mid new m' m'' (Err fault) → Joined P Q R old mid → q ≤ t
+      → (s : ServedOver tells G' p t old new m (Err fault)) × R (adds_of (all_of s.life.ended s.life.given_up))
+  over_err P Q R G' p q t faults.Output n old mid new m m' m'' (l, k) (inl e) join later =
+      over_ended P Q R G' p q t (Err faults.Output) n old mid new m m' m'' e.0 l k e.1 join tt
+  over_err P Q R G' p q t faults.Output n old mid new m m' m'' (l, k) (inr g) join later =
+      over_given P Q R G' p q t (Err faults.Output) (Some faults.Output) n old mid new m m' l k g join refl (λ entries bytes e. cc) tt
+  over_err P Q R G' p q t faults.Journal n old mid new m m' m'' (l, k) r join later =
+      over_given P Q R G' p q t (Err faults.Journal) (Some faults.Journal) n old mid new m m' l k r join refl (λ entries bytes e. cc) (l.lived.followed, r.connection, refl, r.cut_short.0 refl)
+  over_err P Q R G' p q t (faults.Changed at) n old mid new m m' m'' (l, k) r join later =
+      over_given P Q R G' p q t (Err (faults.Changed at)) (Some (faults.Changed at)) n old mid new m m' l k r join refl (λ entries bytes e. cc) (l.lived.followed, r.connection, refl, r.cut_changed at refl)
+  over_err P Q R G' p q t faults.Dial n old mid new m m' m'' (l, k) r join later =
+      over_none R G' p q t (Err faults.Dial) n old mid new m m' m'' l (with_none P Q R old mid l.ended join l.lived.gains k r.1) r.0 later (l.lived.followed, refl)
+  over_err P Q R G' p q t (faults.Unfinished phase) n old mid new m m' m'' (l, k) r join later =
+      over_none R G' p q t (Err (faults.Unfinished phase)) n old mid new m m' m'' l (with_none P Q R old mid l.ended join l.lived.gains k r.3) r.0 later (l.lived.followed, refl, r.1, r.2)
+  over_err P Q R G' p q t (faults.Rejected template code) n old mid new m m' m'' (l, k) r join later =
+      over_ended P Q R G' p q t (Err (faults.Rejected template code)) n old mid new m m' m'' (closes.Ended (endings.Rejected template code)) l k r join
       (refl, record { earlier = l.ended; last = r.connection; are = refl; closed = r.closed; followed = l.lived.followed })
-  over_err G' p q t (faults.Full entries bytes) n old mid new m m' m'' l r later =
-      over_given G' p q t (Err (faults.Full entries bytes)) (Some (faults.Full entries bytes)) n old mid new m m' l r refl (λ n m e. cc)
+  over_err P Q R G' p q t (faults.Full entries bytes) n old mid new m m' m'' (l, k) r join later =
+      over_given P Q R G' p q t (Err (faults.Full entries bytes)) (Some (faults.Full entries bytes)) n old mid new m m' l k r join refl (λ n m e. cc)
       (l.lived.followed, r.connection, refl, r.cut_short.1 entries bytes refl)
-  over_err G' p q t faults.Turns n old mid new m m' m'' l r later =
-      over_given G' p q t (Err faults.Turns) (Some faults.Turns) n old mid new m m' l r refl (λ entries bytes e. cc)
+  over_err P Q R G' p q t faults.Turns n old mid new m m' m'' (l, k) r join later =
+      over_given P Q R G' p q t (Err faults.Turns) (Some faults.Turns) n old mid new m m' l k r join refl (λ entries bytes e. cc)
       (l.lived.followed, r.connection, refl, record { last = r.last; is = r.is; spent = r.spent refl })
-  over_err G' p q t faults.Memory n old mid new m m' m'' l (inl e) later =
-      over_ended G' p q t (Err faults.Memory) n old mid new m m' m'' e.0 l e.1 tt
-  over_err G' p q t faults.Memory n old mid new m m' m'' l (inr g) later =
-      over_given G' p q t (Err faults.Memory) (Some faults.Memory) n old mid new m m' l g refl (λ entries bytes e. cc) tt
+  over_err P Q R G' p q t faults.Memory n old mid new m m' m'' (l, k) (inl e) join later =
+      over_ended P Q R G' p q t (Err faults.Memory) n old mid new m m' m'' e.0 l k e.1 join tt
+  over_err P Q R G' p q t faults.Memory n old mid new m m' m'' (l, k) (inr g) join later =
+      over_given P Q R G' p q t (Err faults.Memory) (Some faults.Memory) n old mid new m m' l k g join refl (λ entries bytes e. cc) tt
 
   -- where there was no memory to begin, none was served
   pub nothing_served : {L : Type 0} (G' : LinkGhosts L) (clock : ℕ) (dialed : Option DialerTold) (out : Option (List ℕ)) (seen : History) (m : State) (box : Inbox J G) → ServedOver tells G' clock clock (life_at dialed out seen box) (life_at dialed out seen box) m (Err faults.Memory)
   nothing_served G' clock dialed out seen m box =
       let l : LifeAt J G = life_at dialed out seen box in
-      over_none G' clock clock clock (Err faults.Memory) 1 l l l m m m (lived_none G' clock dialed out seen m box) (made_none dialed dialed out seen m box refl) (omega arith) tt
+      let none = lived_none (λ adds. ⊤) G' clock dialed out seen m box tt in
+      (over_none (λ adds. ⊤) G' clock clock clock (Err faults.Memory) 1 l l l m m m none.0 tt (made_none dialed dialed out seen m box refl) (omega arith) tt).0

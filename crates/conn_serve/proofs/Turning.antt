@@ -208,6 +208,10 @@ module _ {J : Type 0} {G : Ghosts J} {tells : Type 0} where
   was_short eager before after old new none was =
       subst (All IsShort) (sym (was.news_are ∙ ap (λ (ns : List NewsItem). ns ++ tells_in old.line was.turn) none)) (turn_short old.seen new.seen old.line new.line was.turn was.made.is)
 
+  pub was_few : (eager : Bool) (before after : ℕ) (old new : EndAt J G) → old.news ≡ [] → WasTurn tells eager before after old new → length new.news ≤ 16
+  was_few eager before after old new none was =
+      omega (arith, ap (λ (ns : List NewsItem). length ns) (was.news_are ∙ ap (λ (ns : List NewsItem). ns ++ tells_in old.line was.turn) none), turn_few old.seen new.seen old.line new.line was.turn was.made.is)
+
   -- ---- turns
 
   pub turned_none : (eager : Bool) (told : Option LinkTold) (carried : Option Carried) (out : Option (List ℕ)) (seen : History) (clock : ℕ) (l : Line) (box : Inbox J G)
@@ -523,12 +527,55 @@ module _ {J : Type 0} {G : Ghosts J} (tells : Type 0) where
       given_off eager fault fault old new news grows ticks cut (tells_all (lacks fault) old.out new.out (news_lines news) lines) (λ e. subst IsOfTurn e is) (λ e. e) (λ at e. e) (λ entries bytes e. e)
 
 module _ {J : Type 0} {G : Ghosts J} {tells : Type 0} where
-  pub given_first : (eager : Bool) (why : Option ServeFault) (old new : ConnectionAt J G) (start : Line) (now clock : ℕ) → start ≡ line_begun old.line now → Begins old now clock
-      → GivenUp tells eager why (record old { clock = clock; line = start }) new → GivenUpOn tells eager why old new
-  given_first eager why old new start now clock is began g =
-      record { moment = now; clock = clock; began = began; given_up = subst (λ (x : Line). GivenUp tells eager why (record old { clock = clock; line = x }) new) is g }
+  -- ---- the same, with what is known of the records that the inbox gained
 
-  pub turned_first : (eager : Bool) (old new : ConnectionAt J G) (start : Line) (now clock n : ℕ) → start ≡ line_begun old.line now → Begins old now clock
-      → Turned tells eager (record old { clock = clock; line = start }) new n → TurnedOn tells eager old new
-  turned_first eager old new start now clock n is began t =
-      record { moment = now; clock = clock; began = began; count = n; turned = subst (λ (x : Line). Turned tells eager (record old { clock = clock; line = x }) new n) is t }
+  pub none_adding : (P : List InboxRecord → Type 0) (eager : Bool) (told : Option LinkTold) (carried : Option Carried) (out : Option (List ℕ)) (seen : History) (clock : ℕ) (l : Line) (box : Inbox J G)
+      → P [] → (t : Turned tells eager (connection_at told carried out seen clock l box) (connection_at told carried out seen clock l box) 0) × P t.adds
+  unfolding turned_none
+  none_adding P eager told carried out seen clock l box known = (turned_none eager told carried out seen clock l box, known)
+
+  pub once_adding : (P : List InboxRecord → Type 0) (eager : Bool) (old new : ConnectionAt J G) (news : List NewsItem)
+      → old.line.machine.ending ≡ None → (was : WasTurn tells eager old.clock new.clock (end_at old []) (end_at new news)) → Appends old.out new.out (news_lines news)
+      → P (adds_in old.line was.turn) → (t : Turned tells eager old new 1) × P t.adds
+  unfolding turned_once
+  once_adding P eager old new news unended was lines known = (turned_once eager old new news unended was lines, known)
+
+  pub on_adding : (P Q R : List InboxRecord → Type 0) (eager : Bool) (old mid new : ConnectionAt J G) (n k : ℕ) → ((x : Turned tells eager old mid n) × P x.adds) → ((y : Turned tells eager mid new k) × Q y.adds)
+      → ((xs ys : List InboxRecord) → Gains old.box mid.box xs → Gains mid.box new.box ys → P xs → Q ys → R (xs ++ ys)) → (t : Turned tells eager old new (n + k)) × R t.adds
+  unfolding turned_on
+  on_adding P Q R eager old mid new n k x y join = (turned_on eager old mid new n k x.0 y.0, join x.0.adds y.0.adds x.0.gains y.0.gains x.1 y.1)
+
+  pub whole_adding : (P : List InboxRecord → Type 0) (eager : Bool) (why : Option ServeFault) (old new : ConnectionAt J G) (n : ℕ)
+      → ((t : Turned tells eager old new n) × P t.adds)
+      → (why ≡ Some faults.Turns → (n ≡ 1099511627776) × (new.line.machine.ending ≡ None)) → (why ≡ Some faults.Journal → ⊥) → ((at : ℕ) → why ≡ Some (faults.Changed at) → ⊥) → ((entries bytes : ℕ) → why ≡ Some (faults.Full entries bytes) → ⊥)
+      → (g : GivenUp tells eager why old new) × P (g.adds ++ g.cut_added)
+  unfolding given_whole
+  whole_adding P eager why old new n t turns no_journal no_change no_full =
+      (given_whole eager why old new n t.0 turns no_journal no_change no_full, subst P (sym (append-nil t.0.adds)) t.1)
+
+  pub given_adding : (P Q : List InboxRecord → Type 0) (eager : Bool) (why : Option ServeFault) (old mid new : ConnectionAt J G) (n : ℕ)
+      → ((t : Turned tells eager old mid n) × P t.adds) → GivenUp tells eager why mid new → (why ≡ Some faults.Turns → ⊥) → ((xs ys : List InboxRecord) → P xs → Q (xs ++ ys))
+      → (g : GivenUp tells eager why old new) × Q (g.adds ++ g.cut_added)
+  unfolding given_on
+  given_adding P Q eager why old mid new n t y no_turns short =
+      (given_on eager why old mid new n t.0 y no_turns, subst Q (sym (append_assoc t.0.adds y.adds y.cut_added)) (short t.0.adds (y.adds ++ y.cut_added) t.1))
+
+  pub dropped_adding : (P : List InboxRecord → Type 0) (eager : Bool) (why : Option ServeFault) (old new : ConnectionAt J G) (l : Line) → ((g : GivenUp tells eager why old new) × P (g.adds ++ g.cut_added))
+      → (g : GivenUp tells eager why old (record new { line = l })) × P (g.adds ++ g.cut_added)
+  unfolding given_dropped
+  dropped_adding P eager why old new l g = (given_dropped eager why old new l g.0, g.1)
+
+  pub given_first : (P : List InboxRecord → Type 0) (eager : Bool) (why : Option ServeFault) (old new : ConnectionAt J G) (start : Line) (now clock : ℕ) → start ≡ line_begun old.line now → Begins old now clock
+      → ((g : GivenUp tells eager why (record old { clock = clock; line = start }) new) × P (g.adds ++ g.cut_added))
+      → (g : GivenUpOn tells eager why old new) × P (g.given_up.adds ++ g.given_up.cut_added)
+  given_first P eager why old new start now clock is began g =
+      let h : (g : GivenUp tells eager why (record old { clock = clock; line = line_begun old.line now }) new) × P (g.adds ++ g.cut_added) =
+      subst (λ (x : Line). (g : GivenUp tells eager why (record old { clock = clock; line = x }) new) × P (g.adds ++ g.cut_added)) is g in
+      (record { moment = now; clock = clock; began = began; given_up = h.0 }, h.1)
+
+  pub turned_first : (P : List InboxRecord → Type 0) (eager : Bool) (old new : ConnectionAt J G) (start : Line) (now clock n : ℕ) → start ≡ line_begun old.line now → Begins old now clock
+      → ((t : Turned tells eager (record old { clock = clock; line = start }) new n) × P t.adds) → (t : TurnedOn tells eager old new) × P t.turned.adds
+  turned_first P eager old new start now clock n is began t =
+      let h : (t : Turned tells eager (record old { clock = clock; line = line_begun old.line now }) new n) × P t.adds =
+      subst (λ (x : Line). (t : Turned tells eager (record old { clock = clock; line = x }) new n) × P t.adds) is t in
+      (record { moment = now; clock = clock; began = began; count = n; turned = h.0 }, h.1)

@@ -7,4 +7,5 @@ pub mod Causes
 pub mod Turned
 pub mod Served
 pub mod Opening
+pub mod Answering
 pub mod Laws

@@ -3,6 +3,7 @@ use Rattle.std.specs.Prelude.{⊤, ◌≡◌, ◌⊎◌, ℕ, ◌+◌, ◌-◌, 
 use Rattle.std.specs.List.{AllByRecursion}
 use Rattle.std.specs.Io.KnownBytes.{Appends}
 use Rattle.session_model.specs.Journal.{History}
+use Rattle.session_model.specs.Inbox.{InboxRecord}
 use Rattle.fixp_replies.specs.declared.act.Ending.TheVariants as endings
 use Rattle.fixp_machine.specs.Machine.{State, phase_of}
 use Rattle.std.specs.Option.{option_map}
@@ -29,6 +30,11 @@ use Rattle.conn_serve.specs.Turned.{IsSpent}
 -- a link of a dialer, between what its clock gave last before and behind a connection
 abbrev pub IsOverBy : {L : Type 0} → LinkGhosts L → (before behind : ℕ) → LinkSeen → Type 0
 IsOverBy G before behind s = IsOver G s × (before ≤ s.first.clock) × (s.end.clock ≤ behind)
+
+-- what is known of the connection of a round, or of there being none: it was over a link of a dialer, and this is so of the records that it added
+abbrev pub IsRoundOf : {L : Type 0} → LinkGhosts L → (before behind : ℕ) → (Adds : List InboxRecord → Type 0) → Option Connection → Type 0
+IsRoundOf links before behind Adds None = Adds []
+IsRoundOf links before behind Adds (Some c) = IsOverBy links before behind c.link × Adds c.adds
 
 -- links came back to a dialer that tells it, which had carried this, each of one of the connections that were left
 pub record Came (old new : DialerTold) (more : List (Option Carried)) : Type 0 where
@@ -153,10 +159,10 @@ module _ {J : Type 0} {G : Ghosts J} where
     pub faithful : told → AllByRecursion IsFaithfulLeg (turned ended)
     pub followed : All IsFollowed ended
 
-  -- the connection of the number n ended so, over a link of which this is known
-  pub record EndedOne (told : Type 0) (over : LinkSeen → Type 0) (n : ℕ) (lacking : Bool) (old new : LifeAt J G) (m m' : State) (close : Close) : Type 0 where
+  -- the connection of the number n ended so, and this is known of it
+  pub record EndedOne (told : Type 0) (known : Option Connection → Type 0) (n : ℕ) (lacking : Bool) (old new : LifeAt J G) (m m' : State) (close : Close) : Type 0 where
     pub connection : Connection
-    pub link : over connection.link
+    pub is_known : known (Some connection)
     pub closed : connection.close ≡ Some close
     pub ended : HasEnded old.seen new.seen m m' connection
     pub timely : IsTimely connection.leg
@@ -166,10 +172,10 @@ module _ {J : Type 0} {G : Ghosts J} where
     pub came : AllCame old.dialed new.dialed (connection.carried ∷ [])
     pub tells : IsTrue (is_some old.dialed) → IsTold connection
 
-  -- a connection was given up: its link carried exactly the bytes that were given and sent in its turns
-  pub record GaveOneUp (told : Type 0) (over : LinkSeen → Type 0) (why : Option ServeFault) (old new : LifeAt J G) (m : State) : Type 0 where
+  -- a connection was given up, of which this is known: its link carried exactly the bytes that were given and sent in its turns
+  pub record GaveOneUp (told : Type 0) (known : Option Connection → Type 0) (why : Option ServeFault) (old new : LifeAt J G) (m : State) : Type 0 where
     pub connection : Connection
-    pub link : over connection.link
+    pub is_known : known (Some connection)
     pub unclosed : connection.close ≡ None
     pub last : Line
     pub is : IsConnection old.seen new.seen m last connection
@@ -194,20 +200,22 @@ module _ {J : Type 0} {G : Ghosts J} where
     pub same_machine : m' ≡ m
     pub same_box : Gains old.box new.box []
 
-  -- One round of a life, for the connection of the number n, as it answers: None where the next one follows
-  abbrev pub IsRound : (told : Type 0) (over : LinkSeen → Type 0) (n : ℕ) (old new : LifeAt J G) (m m' : State) → Result (Option LifeEnd) ServeFault → Type 0
-  IsRound told over n old new m m' (Ok None) = (close : Close) × Follows close × EndedOne told over n false old new m m' close
-  IsRound told over n old new m m' (Ok (Some ends.Finished)) = EndedOne told over n false old new m m' (closes.Ended endings.Finished)
-  IsRound told over n old new m m' (Ok (Some ends.Stopped)) = GaveOneUp told over None old new m ⊎ MadeNone old new m m'
-  IsRound told over n old new m m' (Err faults.Output) = ((close : Close) × EndedOne told over n true old new m m' close)
-      ⊎ GaveOneUp told over (Some faults.Output) old new m
-  IsRound told over n old new m m' (Err faults.Journal) = GaveOneUp told over (Some faults.Journal) old new m
-  IsRound told over n old new m m' (Err (faults.Changed at)) = GaveOneUp told over (Some (faults.Changed at)) old new m
-  IsRound told over n old new m m' (Err faults.Dial) = MadeNone old new m m'
-  IsRound told over n old new m m' (Err (faults.Unfinished phase)) = MadeNone old new m m' × (phase ≡ phase_of m) × IfSome new.dialed (λ t. t.left ≡ 0)
-  IsRound told over n old new m m' (Err (faults.Rejected template code)) =
-      EndedOne told over n false old new m m' (closes.Ended (endings.Rejected template code))
-  IsRound told over n old new m m' (Err (faults.Full entries bytes)) = GaveOneUp told over (Some (faults.Full entries bytes)) old new m
-  IsRound told over n old new m m' (Err faults.Turns) = GaveOneUp told over (Some faults.Turns) old new m
-  IsRound told over n old new m m' (Err faults.Memory) = ((close : Close) × EndedOne told over n true old new m m' close)
-      ⊎ GaveOneUp told over (Some faults.Memory) old new m
+  -- One round of a life, for the connection of the number n, of which this is known, or of there being none, as it answers: None where the next one
+  -- follows
+  abbrev pub IsRound : (told : Type 0) (known : Option Connection → Type 0) (n : ℕ) (old new : LifeAt J G) (m m' : State) → Result (Option LifeEnd) ServeFault → Type 0
+  IsRound told known n old new m m' (Ok None) = (close : Close) × Follows close × EndedOne told known n false old new m m' close
+  IsRound told known n old new m m' (Ok (Some ends.Finished)) = EndedOne told known n false old new m m' (closes.Ended endings.Finished)
+  IsRound told known n old new m m' (Ok (Some ends.Stopped)) = GaveOneUp told known None old new m ⊎ (MadeNone old new m m' × known None)
+  IsRound told known n old new m m' (Err faults.Output) = ((close : Close) × EndedOne told known n true old new m m' close)
+      ⊎ GaveOneUp told known (Some faults.Output) old new m
+  IsRound told known n old new m m' (Err faults.Journal) = GaveOneUp told known (Some faults.Journal) old new m
+  IsRound told known n old new m m' (Err (faults.Changed at)) = GaveOneUp told known (Some (faults.Changed at)) old new m
+  IsRound told known n old new m m' (Err faults.Dial) = MadeNone old new m m' × known None
+  IsRound told known n old new m m' (Err (faults.Unfinished phase)) =
+      MadeNone old new m m' × (phase ≡ phase_of m) × IfSome new.dialed (λ t. t.left ≡ 0) × known None
+  IsRound told known n old new m m' (Err (faults.Rejected template code)) =
+      EndedOne told known n false old new m m' (closes.Ended (endings.Rejected template code))
+  IsRound told known n old new m m' (Err (faults.Full entries bytes)) = GaveOneUp told known (Some (faults.Full entries bytes)) old new m
+  IsRound told known n old new m m' (Err faults.Turns) = GaveOneUp told known (Some faults.Turns) old new m
+  IsRound told known n old new m m' (Err faults.Memory) = ((close : Close) × EndedOne told known n true old new m m' close)
+      ⊎ GaveOneUp told known (Some faults.Memory) old new m

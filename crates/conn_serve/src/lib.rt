@@ -3,13 +3,15 @@
 //! turn, on `conn_lines` for the lines, on `conn_door` for the senders and what is told between both, and on std's threads.
 #![tactic(auto)]
 
+mod answering;
 mod connection;
 mod laws;
 mod life;
 mod news;
 mod serving;
 
+pub use answering::Answering;
 pub use conn_door::{LifeEnd, ServeFault, Signals};
 pub use laws::were_are_turns;
 pub use life::serve_connections;
-pub use serving::serve;
+pub use serving::{serve, serve_answering};

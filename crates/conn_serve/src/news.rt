@@ -59,6 +59,7 @@ impl Teller {
         requires short { All IsShort (items_of self.old.news) }
         ensures told { OnOk result (Appends (K.taken out.old) (K.taken out.new) (news_lines (items_of self.old.news))) }
         ensures front { OnErr result (TakesFront (K.taken out.old) (K.taken out.new) (news_lines (items_of self.old.news))) }
+        ensures same { self.new.news ≡ self.old.news }
         ensures never_falls { K.faults out.old ≤ K.faults out.new }
         ensures cause { IfErr result (λ fault. ((fault ≡ faults.Output) × HasRisen (K.faults out.old) (K.faults out.new)) ⊎ (fault ≡ faults.Memory)) }
     {

@@ -4,10 +4,11 @@ ghost use Rattle.std.specs.Prelude.{◌≡◌, ℕ, ◌≤◌, ◌<◌, ◌^◌,
 ghost use Rattle.session_model.specs.Journal.{BeginsHistory};
 ghost use Rattle.fixp_msgs.specs.declared.flow.Flow.TheVariants.{Recoverable};
 ghost use Rattle.fixp_machine.specs.Machine.{fresh};
-ghost use Rattle.jr_kept.specs.Inbox.{faults_of, flow_of, next_of, is_negotiated, peer_last_of, limits_of};
+ghost use Rattle.jr_kept.specs.Inbox.{faults_of, flow_of, next_of, is_negotiated, peer_last_of, limits_of, is_broken};
 ghost use Rattle.gate_turn.specs.Places.{known};
 ghost use Rattle.gate_turn.specs.Calls.{IsFree};
-ghost use Rattle.gate_senders.specs.Gate.{IsPassAt, opening_of};
+ghost use Rattle.gate_senders.specs.Gate.{IsPassAt, opening_of, senders_of};
+ghost use Rattle.gate_business.specs.Business.{lock_of};
 ghost use Rattle.gate_plans.specs.Runs.{IsReady, IsAdmitted};
 ghost use Rattle.conn_door.specs.Answers.{IsUnrefused};
 ghost use Rattle.gate_plans.specs.Seats.{Seated};
@@ -16,12 +17,15 @@ ghost use Rattle.conn_loop.specs.Conn.{line_of, new_line, Looks};
 ghost use Rattle.conn_serve.specs.Turned.{MayBegin};
 ghost use Rattle.conn_door.specs.Senders.{SomeMarked};
 ghost use Rattle.conn_serve.specs.Opening.{opened_state, ServedBy, ServedThrough};
+ghost use Rattle.conn_serve.specs.Answering.{business_of, refused_in, business_at, answering_at, AnsweredSo};
 ghost use Rattle.conn_serve.specs.Moments.{serving_at};
 
-use crate::life::serve_then_shut;
+use crate::answering::{Answering, resume_business};
+use crate::life::{serve_connections, serve_then_shut};
 use conn_door::{LifeEnd, ServeFault, Signals, answer_of, submit_all, submit_behind};
 use conn_loop::Conn;
 use fixp_end::{End, EndConfig, EndState};
+use gate_business::Business;
 use gate_plans::Sender;
 use gate_senders::{Gate, Kept};
 use gate_turn::Pass;
@@ -177,4 +181,76 @@ pub fn serve<N: Dialer, K: Sink, O: Journal + Send, I: Journal, C: Clock, R: Thr
         alloc, dialer, out, gate, pass, inbox, clock, &mut conn, senders, &signals, rt,
     );
     submit_behind(gate, senders, answer, rt)
+}
+
+/// Serves one life of an end that has a business and no senders: the business takes its place behind the messages of the inbox, and then the
+/// connections of the dialer are served, one after another. Behind each turn, once the lines of its news are told, the business answers what
+/// the turn applied. A refusal of the business, other than that the outbox is closed, ends the life before the turn or the connection that
+/// would follow.
+///
+/// # Errors
+/// Those of `serve_connections`; and `Journal`, `Full` and `Memory` where the business was refused so, or a message of the inbox was not
+/// read, in place of all but a fault of the connections' side.
+pub fn serve_answering<
+    N: Dialer,
+    K: Sink,
+    O: Journal + Send,
+    I: Journal,
+    C: Clock,
+    B: Business<O> + Send,
+    R: Threads + Wait + Sync,
+>(
+    alloc: Global,
+    dialer: &mut N,
+    out: &mut K,
+    gate: &Gate<O>,
+    pass: &mut Pass<Kept<O>>,
+    inbox: &mut Inbox<I>,
+    clock: &mut C,
+    config: EndConfig,
+    most: u64,
+    answering: &mut Answering<B>,
+    rt: &R,
+) -> Result<(), ServeFault>
+    requires has { B.has (business_of answering.old) (lock_of gate.now) }
+    requires few { B.count (business_of answering.old) ≤ senders_of gate.now }
+    requires unrefused { refused_in answering.old ≡ None }
+    requires sound { is_broken inbox.old ≡ false }
+    requires own { IsPassAt gate.now pass.old }
+    requires free { IsFree pass.old }
+    requires opened { BeginsHistory (opening_of gate.now).history (known pass.old).seen }
+    requires sent { length (opening_of gate.now).history.made < 2 ^ 40 }
+    requires lent { N.lent dialer.old ≡ false }
+    requires keepalive { (100 ≤ config.keepalive) × (config.keepalive ≤ 60000) }
+    requires credentials { length config.credentials ≤ 2048 }
+    requires most { most ≤ 2 ^ 26 }
+    requires within { most ≤ (limits_of inbox.old).entries }
+    requires flow { flow_of inbox.old ≡ config.peer_flow }
+    requires numbered { config.peer_flow ≡ Recoverable → next_of inbox.old + 1 < 2 ^ 64 }
+    ensures has { B.has (business_of answering.new) (lock_of gate.now) }
+    ensures same { (B.count (business_of answering.new) ≡ B.count (business_of answering.old)) × (B.plan (business_of answering.new) ≡ B.plan (business_of answering.old)) }
+    ensures own { IsPassAt gate.now pass.new }
+    ensures free { IsFree pass.new }
+    ensures looks { Looks (known pass.old) (known pass.new) }
+    ensures lent { N.lent dialer.new ≡ false }
+    ensures through { AnsweredSo O.tells N.Link.Link (C.last clock.old) (C.last clock.new)
+        (answering_at (N.told dialer.old) (K.taken out.old) (K.faults out.old) (N.faults dialer.old) (known pass.old) inbox.old (business_at B.stands B.plan B.count B.part answering.old))
+        (answering_at (N.told dialer.new) (K.taken out.new) (K.faults out.new) (N.faults dialer.new) (known pass.new) inbox.new (business_at B.stands B.plan B.count B.part answering.new))
+        (fresh config (opened_state (opening_of gate.now).history inbox.old) most) result }
+    ensures kind { (limits_of inbox.new ≡ limits_of inbox.old) × (flow_of inbox.new ≡ flow_of inbox.old) }
+    ensures never_falls { (faults_of inbox.old ≤ faults_of inbox.new) × (K.faults out.old ≤ K.faults out.new) × (N.faults dialer.old ≤ N.faults dialer.new) }
+    ensures told { C.told clock.new ≡ C.told clock.old }
+{
+    let Ok(mut conn) = opened(alloc, gate, inbox, config, most) else {
+        return Err(ServeFault::Memory);
+    };
+    resume_business(answering, inbox, gate, rt);
+    if let Some(fault) = answering.refused() {
+        return Err(fault);
+    }
+    let signals = Signals::new(conn.end());
+    let connections = serve_connections(
+        alloc, dialer, out, gate, pass, inbox, clock, &mut conn, answering, &signals, rt,
+    );
+    answer_of(connections, answering.refused())
 }

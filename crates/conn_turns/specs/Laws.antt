@@ -8,6 +8,9 @@ use Rattle.conn_turns.specs.Lines.{Line, TakenFrame, lines_after, AreTaken}
 use Rattle.session_model.specs.Journal.{History}
 use Rattle.conn_turns.specs.Turns.{Work, works, first_calls, calls_of, calls_of_frames, sending_calls}
 use Rattle.conn_turns.specs.Exact.{Served}
+use Rattle.session_model.specs.Inbox.{applied, payloads_of}
+use Rattle.conn_turns.specs.News.{delivered_in}
+use Rattle.conn_turns.specs.Frames.{added, told}
 
 abbrev pub frames_in : List TakenFrame → List Frame
 frames_in = map (λ (t : TakenFrame). t.frame)
@@ -34,3 +37,8 @@ WorkMakesCalls = (before seen : History) (old l behind new : Line) (w : Work)
     → l.machine ≡ run old.machine (first_calls w.now) → Served before seen l behind w → new
     ≡ record behind { machine = run behind.machine (sending_calls w.sent w.lost) }
     → new.machine ≡ run old.machine (calls_of (works w))
+
+-- what frames deliver are the payloads of the messages that they apply
+abbrev pub FramesDeliverApplied : Type 0
+FramesDeliverApplied = (now : ℕ) (l : Line) (frames : List TakenFrame)
+    → delivered_in (told now l frames) ≡ payloads_of (applied (added now l frames))

@@ -1,5 +1,5 @@
 -- What a turn tells beside its answer: what was delivered, and what the peer did not apply (this project's profile).
-use Rattle.std.specs.Prelude.{◌<◌, List, [], ◌∷◌, vec_len, vec_capacity}
+use Rattle.std.specs.Prelude.{◌<◌, ℕ, List, [], ◌∷◌, vec_len, vec_capacity}
 use Rattle.fixp_replies.specs.declared.act.Act.{Act}
 use Rattle.fixp_replies.specs.declared.act.Act.TheVariants as acts
 use Rattle.fixp_replies.specs.Incoming.{Incoming}
@@ -25,3 +25,9 @@ told_by acts.Negotiated i = []
 told_by (acts.PeerFinished last) i = []
 told_by (acts.Told from count) i = items.NotApplied from count ∷ []
 told_by acts.Ended i = []
+
+-- the payloads of the messages that were delivered, in order
+abbrev pub delivered_in : List NewsItem → List (List ℕ)
+delivered_in [] = []
+delivered_in (items.Delivered number payload ∷ later) = payload ∷ delivered_in later
+delivered_in (items.NotApplied from count ∷ later) = delivered_in later

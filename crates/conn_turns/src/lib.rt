@@ -8,5 +8,5 @@ mod laws;
 mod news;
 
 pub use answer::{TurnEnd, TurnFault};
-pub use laws::{frames_join, frames_make_calls, work_makes_calls};
+pub use laws::{frames_deliver_applied, frames_join, frames_make_calls, work_makes_calls};
 pub use news::{News, NewsItem};

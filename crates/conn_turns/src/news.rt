@@ -1,9 +1,11 @@
 //! What a turn tells beside its answer.
 
-ghost use Rattle.std.specs.Prelude.{◌≡◌, [], ◌∷◌, ◌++◌, OnOk};
+ghost use Rattle.std.specs.Prelude.{◌≡◌, [], ◌∷◌, ◌++◌, IfOk, OnOk, OnErr};
 
-use gw_outside::Bytes;
+use gw_outside::{Bytes, Payloads};
+use lists::List;
 use std::alloc::{AllocError, Global};
+use std::mem;
 
 /// One piece of news.
 #[derive(Debug, Drop)]
@@ -21,7 +23,7 @@ pub struct News {
 }
 
 impl News {
-    ghost use Rattle.conn_turns.specs.News.{items_of, HasRoom};
+    ghost use Rattle.conn_turns.specs.News.{items_of, HasRoom, delivered_in};
 
     /// No news; it takes no memory until something is added.
     pub fn new(alloc: Global) -> News
@@ -66,5 +68,27 @@ impl News {
             Ok(()) => {}
             Err(_) => unreachable!(),
         }
+    }
+
+    /// Takes the messages that were delivered, in order, and forgets the rest. Their bytes are moved.
+    ///
+    /// # Errors
+    /// Want of memory; then nothing changed.
+    pub fn take_delivered(&mut self, alloc: Global) -> Result<Payloads, AllocError>
+        ensures delivered { IfOk result (λ payloads. payloads ≡ delivered_in (items_of self.old)) }
+        ensures taken { OnOk result (items_of self.new ≡ []) }
+        ensures kept { OnErr result (items_of self.new ≡ items_of self.old) }
+    {
+        let mut payloads = Vec::with_capacity(alloc, self.items.len())?;
+        let items = mem::replace(&mut self.items, Vec::new(alloc));
+        for item in items {
+            if let NewsItem::Delivered { payload, .. } = item {
+                match payloads.push(payload) {
+                    Ok(()) => {}
+                    Err(_) => unreachable!(),
+                }
+            }
+        }
+        Ok(List::from(payloads))
     }
 }

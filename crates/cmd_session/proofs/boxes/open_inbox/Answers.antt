@@ -4,7 +4,7 @@ use Rattle.std.proofs.lemmas.List.{length-map}
 use Rattle.jr_dated.specs.Dated.{Dated, undated}
 use Rattle.jr_boxes.specs.Inboxes.{record_of, records_of_inbox, IsInbox}
 use Rattle.jr_segments.specs.Lawful.{counted_by}
-use Rattle.jr_segments.specs.Numbers.{numbers_of}
+use Rattle.jr_places.specs.Numbers.{numbers_of}
 use Rattle.jr_segments.specs.Journal.{StandsFor, MayLeave, disk_of}
 use Rattle.jr_kept.proofs.Held.{holds_same}
 use Rattle.cmd_session.proofs.Kept.{records_kept}

@@ -4,7 +4,7 @@ use Rattle.conn_turns.specs.declared.answer.TurnFault.{TurnFault}
 use Rattle.conn_loop.specs.Ends.{pass_in, in_turn}
 use Rattle.turn_laws.proofs.Repacking.{turn_is_one, cut_is_one}
 use Rattle.conn_serve.proofs.Making.{whole_at, err_at, on_cut, on_both, goes_made, lost_made, closed_made, of_turn_made, blamed_made}
-use Rattle.conn_serve.proofs.Turning.{was_short, cut_is_short}
+use Rattle.conn_serve.proofs.Turning.{was_short, was_few, cut_is_short}
 use Rattle.conn_serve.proofs.connection.make_turn.Goals as goal
 
 pub returns-clause-whole : goal.returns-clause-whole
@@ -24,6 +24,10 @@ returns-clause-short g c =
     on_both _ _ _ c.close_of.result (returns-clause-whole g c) (returns-clause-cut g c)
     (was_short _ _ _ (in_turn _ _ c.args.end.now []) (in_turn _ _ c.turn.new.self _) refl)
     (λ why. cut_is_short _ _ _ (in_turn _ _ c.args.end.now []) (in_turn _ _ c.turn.new.self _) why refl)
+
+pub returns-clause-few : goal.returns-clause-few
+returns-clause-few g c =
+    on_ok_weaker c.close_of.result (was_few _ _ _ (in_turn _ _ c.args.end.now []) (in_turn _ _ c.turn.new.self _) refl) (returns-clause-whole g c)
 
 pub returns-clause-goes : goal.returns-clause-goes
 returns-clause-goes g c = λ e. goes_made _ c.turn.result c.turn.ensures.goes (sym c.close_of.ensures ∙ e)

@@ -1,0 +1,152 @@
+//! A business beside the connections of a life: it answers what each turn applied, once the lines of its news are told.
+
+ghost use Rattle.std.specs.Prelude.{⊤, ◌≡◌, ℕ, ◌≤◌, false, List, [], ◌++◌, None, length};
+ghost use Rattle.session_model.specs.Inbox.{InboxRecord, applied, has_peer_finished};
+ghost use Rattle.session_model.specs.Plans.{GoesOn};
+ghost use Rattle.jr_kept.specs.Inbox.{StandsFor, SameContent, faults_of, is_broken, limits_of, flow_of};
+ghost use Rattle.gate_turn.specs.Views.{Part};
+ghost use Rattle.gate_senders.specs.Gate.{senders_of};
+ghost use Rattle.gate_business.specs.Business.{lock_of};
+ghost use Rattle.conn_turns.specs.News.{items_of, delivered_in};
+ghost use Rattle.conn_serve.specs.Answering.{business_of, refused_in, call_fault, resume_fault, messages_of, business_at, Answers};
+
+use conn_door::{ServeFault, refused_submit};
+use conn_turns::News;
+use gate_business::{Business, ResumeFault};
+use gate_senders::Gate;
+use jr_dated::{FetchFault, Journal};
+use jr_kept::{Inbox, SubmitFault};
+use std::alloc::Global;
+use std::sync::Wait;
+use std::thread::Threads;
+
+/// A business of a life, with the refusal that it met, if it met one. Behind a refusal it answers nothing more, and the life ends before
+/// the turn or the connection that would follow.
+pub struct Answering<B> {
+    business: B,
+    refused: Option<ServeFault>,
+    alloc: Global,
+}
+
+impl<B> Answering<B> {
+    /// A business that has met no refusal.
+    pub fn new(alloc: Global, business: B) -> Answering<B>
+        ensures business { business_of result ≡ business }
+        ensures refused { refused_in result ≡ None }
+    {
+        Answering {
+            business,
+            refused: None,
+            alloc,
+        }
+    }
+
+    /// The refusal that it met, as a life answers it; that the outbox is closed is none.
+    pub fn refused(&self) -> Option<ServeFault>
+        ensures { result ≡ refused_in self.now }
+    {
+        self.refused
+    }
+
+    /// The business again.
+    pub fn end(self) -> B
+        ensures { result ≡ business_of self }
+    {
+        let Answering {
+            business,
+            refused: _,
+            alloc: _,
+        } = self;
+        business
+    }
+}
+
+/// What it is to a life that a business did not take its place.
+fn refused_resume(fault: ResumeFault) -> Option<ServeFault>
+    ensures { result ≡ resume_fault fault }
+{
+    match fault {
+        ResumeFault::Fetch(FetchFault::Memory) => Some(ServeFault::Memory),
+        ResumeFault::Fetch(_) => Some(ServeFault::Journal),
+        ResumeFault::Submit(fault) => refused_submit(fault),
+    }
+}
+
+/// Has the business take its place behind the messages of the inbox.
+pub(crate) fn resume_business<
+    O: Journal + Send,
+    I: Journal,
+    B: Business<O> + Send,
+    R: Threads + Wait + Sync,
+>(answering: &mut Answering<B>, inbox: &mut Inbox<I>, gate: &Gate<O>, rt: &R)
+    requires own { B.has (business_of answering.old) (lock_of gate.now) }
+    requires few { B.count (business_of answering.old) ≤ senders_of gate.now }
+    requires sound { is_broken inbox.old ≡ false }
+    ensures own { B.has (business_of answering.new) (lock_of gate.now) }
+    ensures same { (B.count (business_of answering.new) ≡ B.count (business_of answering.old)) × (B.plan (business_of answering.new) ≡ B.plan (business_of answering.old)) }
+    ensures told { (i : List InboxRecord) → I.tells → StandsFor inbox.old i
+        → Answers ⊤ (business_at B.stands B.plan B.count B.part answering.new) (B.part (business_of answering.old)) i (messages_of i) [] }
+    ensures read { (i : List InboxRecord) → StandsFor inbox.old i → ∥ ((l : List (List ℕ)) × (length l ≡ length (applied i))
+        × Answers ⊤ (business_at B.stands B.plan B.count B.part answering.new) (B.part (business_of answering.old)) i l []) ∥₁ }
+    ensures content { SameContent inbox.old inbox.new }
+    ensures never_falls { faults_of inbox.old ≤ faults_of inbox.new }
+    ensures kind { (limits_of inbox.new ≡ limits_of inbox.old) × (flow_of inbox.new ≡ flow_of inbox.old) }
+    ensures unbroken { refused_in answering.new ≡ None → is_broken inbox.new ≡ false }
+{
+    match answering.business.resume(answering.alloc, inbox, gate, rt) {
+        Ok(()) => answering.refused = None,
+        Err(fault) => answering.refused = refused_resume(fault),
+    }
+}
+
+/// What the answer of a business is to a life.
+fn refused_call(answer: Result<(), SubmitFault>) -> Option<ServeFault>
+    ensures { result ≡ call_fault answer }
+{
+    match answer {
+        Ok(()) => None,
+        Err(fault) => refused_submit(fault),
+    }
+}
+
+/// Has the business answer the messages that a turn applied. It is told whether the inbox has recorded that the peer finished; once it was told so
+/// before, nothing is left to be sent, and it is called no more.
+pub(crate) fn answer_turn<O: Journal + Send, B: Business<O> + Send, R: Threads + Wait + Sync>(
+    answering: &mut Answering<B>,
+    news: &mut News,
+    told: bool,
+    finished: bool,
+    gate: &Gate<O>,
+    rt: &R,
+)
+    requires own { B.has (business_of answering.old) (lock_of gate.now) }
+    requires few { B.count (business_of answering.old) ≤ senders_of gate.now }
+    requires unrefused { refused_in answering.old ≡ None }
+    requires turn { length (items_of news.old) ≤ 16 }
+    ensures own { B.has (business_of answering.new) (lock_of gate.now) }
+    ensures same { (B.count (business_of answering.new) ≡ B.count (business_of answering.old)) × (B.plan (business_of answering.new) ≡ B.plan (business_of answering.old)) }
+    ensures answered { (p : ℕ → Part) (opening : List InboxRecord) (before : List (List ℕ)) (adds more : List InboxRecord)
+        → told ≡ has_peer_finished (opening ++ adds) → finished ≡ has_peer_finished (opening ++ (adds ++ more)) → delivered_in (items_of news.old) ≡ messages_of more
+        → Answers ⊤ (business_at B.stands B.plan B.count B.part answering.old) p opening before adds
+        → Answers ⊤ (business_at B.stands B.plan B.count B.part answering.new) p opening before (adds ++ more) }
+{
+    plans_go_on::<O, B>(&answering.business);
+    if told {
+        return;
+    }
+    let Ok(payloads) = news.take_delivered(answering.alloc) else {
+        answering.refused = Some(ServeFault::Memory);
+        return;
+    };
+    if payloads.is_empty() && !finished {
+        return;
+    }
+    answering.refused = refused_call(answering.business.on_applied(&payloads, finished, gate, rt));
+}
+
+/// Over more applied messages each plan of a business begins with what it was.
+fn plans_go_on<O: Journal + Send, B: Business<O>>(business: &B)
+    ensures law { GoesOn (B.plan business.now) }
+{
+    let _ = business;
+}
