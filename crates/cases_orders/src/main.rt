@@ -3,6 +3,7 @@
 #![tactic(auto)]
 
 mod book;
+mod desks;
 mod orders;
 
 use cases_words::{asked, begins};
@@ -12,6 +13,9 @@ fn main(rt: HostRuntime) -> io::Result<()> {
     let asked = asked(&rt)?;
     if begins(&rt, &asked, "orders")? {
         orders::print(&rt)?;
+    }
+    if begins(&rt, &asked, "desks")? {
+        desks::print(&rt)?;
     }
     if begins(&rt, &asked, "book")? {
         book::print(&rt)?;

@@ -1,5 +1,5 @@
 //! The trait of a business: it answers the messages of the peer that its own end has applied.
-ghost use Rattle.std.specs.Prelude.{◌≡◌, ◌≢◌, ◌↔◌, ℕ, ◌≤◌, Bool, true, false, List, [], ◌++◌, length, Option, Some, Err, OnOk, All};
+ghost use Rattle.std.specs.Prelude.{◌≡◌, ◌≢◌, ◌↔◌, ℕ, ◌≤◌, Bool, true, false, List, [], ◌++◌, length, Option, Some, Err, All};
 ghost use Rattle.gw_outside.specs.Faults.{HasRisen};
 ghost use Rattle.session_model.specs.Inbox.{InboxRecord, applied, payloads_of, has_peer_finished};
 ghost use Rattle.session_model.specs.Plans.{GoesOn};
@@ -230,7 +230,7 @@ pub trait Business<J: Journal + Send> {
         ensures content { SameContent inbox.old inbox.new }
         ensures never_falls { faults_of inbox.old ≤ faults_of inbox.new }
         ensures kind { (limits_of inbox.new ≡ limits_of inbox.old) × (flow_of inbox.new ≡ flow_of inbox.old) }
-        ensures unbroken { OnOk result (is_broken inbox.new ≡ false) }
+        ensures unbroken { StandsOnResume result (is_broken inbox.new ≡ false) }
     {
         take_place::<I, J, Self, R>(alloc, self, inbox, gate, rt)
     }

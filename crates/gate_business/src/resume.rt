@@ -101,7 +101,7 @@ pub(crate) fn take_place<
     ensures content { SameContent inbox.old inbox.new }
     ensures never_falls { faults_of inbox.old ≤ faults_of inbox.new }
     ensures kind { (limits_of inbox.new ≡ limits_of inbox.old) × (flow_of inbox.new ≡ flow_of inbox.old) }
-    ensures unbroken { OnOk result (is_broken inbox.new ≡ false) }
+    ensures unbroken { StandsOnResume result (is_broken inbox.new ≡ false) }
 {
     plans_go_on::<J, B>(business);
     business.begin(gate, rt);
