@@ -8,6 +8,10 @@ use Rattle.toml_walk.specs.Keys.{required, get_or_default, list_of, table_of, de
 use Rattle.toml_walk.specs.Values.{text_of, natural_of, word_in, listed}
 use Rattle.schema_toml.specs.declared.fault.ConfigFault.{ConfigFault}
 use Rattle.schema_toml.specs.Faults.{limited, of_text}
+use Rattle.fixp_shake.specs.declared.config.Role.{Role}
+use Rattle.fixp_shake.specs.declared.config.Role.TheVariants as roles
+use Rattle.gw_fakes.specs.declared.disk.Pick.{Pick}
+use Rattle.gw_fakes.specs.declared.disk.Pick.TheVariants as picks
 use Rattle.cmd_config.specs.declared.configuration.Link.{Link}
 use Rattle.cmd_config.specs.Settings.{IsLinkInRange, session_of, flow_of, credentials_of, ensure_in_range, is_none}
 use Rattle.cmd_script.specs.declared.script.Script.{Script}
@@ -19,15 +23,32 @@ use Rattle.cmd_script.specs.declared.steps.Step.TheVariants as steps
 
 -- ---- steps
 
--- how many messages or rounds a step has
+-- how many messages or rounds a step has, or calls of a disk
 abbrev pub count_of : Data → Read ℕ
 count_of = natural_of 0 1000000
 
 -- the words of what a step does
 abbrev pub action_of : Data → Read Action
-action_of d = text_of d >>= λ text. listed (word_in ((codes "burst", actions.Burst) ∷ (codes "rounds", actions.Rounds) ∷ (codes "cut", actions.Cut) ∷ []) text)
+action_of d = text_of d >>= λ text. listed (word_in ((codes "burst", actions.Burst) ∷ (codes "rounds", actions.Rounds) ∷ (codes "cut", actions.Cut) ∷ (codes "stop", actions.Stop) ∷ [])
+    text)
 
--- {do = "burst", count, rounds}, {do = "rounds", count} or {do = "cut"}
+-- the words of an end, and of what a stop leaves
+abbrev pub end_of : Data → Read Role
+end_of d = text_of d >>= λ text. listed (word_in ((codes "initiator", roles.Initiator) ∷ (codes "acceptor", roles.Acceptor) ∷ []) text)
+
+abbrev pub pick_of : Data → Read Pick
+pick_of d = text_of d >>= λ text. listed (word_in ((codes "old", picks.Old) ∷ (codes "kept", picks.Kept) ∷ (codes "noise", picks.Noise) ∷ []) text)
+
+-- {do = "stop", end, after, pick}
+abbrev pub stop_keys : Data → Read Step
+stop_keys keys =
+    required (codes "end") end_of keys >>= λ end.
+    required (codes "after") count_of keys >>= λ after.
+    required (codes "pick") pick_of keys >>= λ pick.
+    deny_unknown_keys (codes "do" ∷ codes "end" ∷ codes "after" ∷ codes "pick" ∷ []) keys >>= λ _.
+    Ok (steps.Stop end after pick)
+
+-- {do = "burst", count, rounds}, {do = "rounds", count}, {do = "cut"} or {do = "stop", ..}
 abbrev pub step_by : Action → Data → Read Step
 step_by actions.Burst keys =
     required (codes "count") count_of keys >>= λ count.
@@ -39,6 +60,7 @@ step_by actions.Rounds keys =
     deny_unknown_keys (codes "do" ∷ codes "count" ∷ []) keys >>= λ _.
     Ok (steps.Rounds count)
 step_by actions.Cut keys = deny_unknown_keys (codes "do" ∷ []) keys >>= λ _. Ok steps.Cut
+step_by actions.Stop keys = stop_keys keys
 
 abbrev pub step_keys : Data → Read Step
 step_keys keys = required (codes "do") action_of keys >>= λ action. step_by action keys

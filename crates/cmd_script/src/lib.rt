@@ -7,4 +7,4 @@ mod script;
 mod steps;
 
 pub use script::{Counts, Load, MESSAGES, Script, read_script};
-pub use steps::{ACTION_WORDS, COUNT, Step, Steps};
+pub use steps::{ACTION_WORDS, COUNT, END_WORDS, PICK_WORDS, Step, Steps};

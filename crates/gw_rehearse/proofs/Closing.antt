@@ -1,5 +1,5 @@
 -- Both ends once their gates are closed: the session guarantee.
-use Rattle.std.proofs.Common.{◌≡◌, ◌<◌, ◌^◌, false, List, [], ◌∷◌, ◌++◌, length, Option, Some, None, refl, sym, ap, subst, ◌∙◌, append-nil, arith, true≢false}
+use Rattle.std.proofs.Common.{◌≡◌, ◌<◌, ◌^◌, false, List, [], ◌∷◌, ◌++◌, length, Option, Some, None, refl, sym, subst, append-nil, arith}
 use Rattle.std.specs.List.{AllByRecursion, AllZip}
 use Rattle.std.proofs.Math.Logic.{∥∥₁_map₂}
 use Rattle.session_model.specs.Journal.{Entry, OutboxRecord, History, entries, InOrder}
@@ -18,18 +18,15 @@ use Rattle.gw_link_fakes.specs.Pipes.{Held}
 use Rattle.turn_laws.specs.Standing.{Has}
 use Rattle.turn_laws.specs.Legs.{TurnedLeg}
 use Rattle.two_ends.specs.Meeting.{Holds}
-use Rattle.two_ends.specs.Driving.{Beginning, Awaits, Between}
 use Rattle.two_ends.specs.Pairing.{ReadEachOther}
 use Rattle.two_ends.specs.Stories.{Story, lived, OutboxGoesOn}
-use Rattle.two_ends.proofs.Going.{leg_ends, life_ends}
 use Rattle.two_ends.proofs.Driven.{stories_hold}
 use Rattle.gw_rehearse.specs.declared.end.DrivenEnd.{DrivenEnd}
 use Rattle.gw_rehearse.specs.declared.journals.Journals.{Journals}
-use Rattle.gw_rehearse.specs.declared.standing.Standing.{Standing}
-use Rattle.gw_rehearse.specs.declared.standing.Standing.TheVariants as standings
 use Rattle.gw_rehearse.specs.Standing.{is_given}
-use Rattle.gw_rehearse.specs.Driven.{now_of, OpensWith, StandsBehind, RunsOver, ClosedOn}
+use Rattle.gw_rehearse.specs.Driven.{IsEnded, ClosedOn}
 use Rattle.gw_rehearse.specs.Together.{Lives, Together, is_lost, KeepsSession}
+use Rattle.gw_rehearse.proofs.Stories.{ended_none, ended_one}
 use Rattle.gw_rehearse.proofs.Together.{neither, paired_more}
 use Rattle.gw_rehearse.proofs.Outboxes.{entries-outbox_of, outbox_goes_on}
 
@@ -37,43 +34,25 @@ use Rattle.gw_rehearse.proofs.Outboxes.{entries-outbox_of, outbox_goes_on}
 made_front : {J : Type 0} {G : Ghosts J} (box : Outbox J G) (h : History) → outboxes.StandsFor box h → outboxes.front_of box < 2 ^ 40 → length h.made < 2 ^ 40
 made_front box h s few = omega (arith, s.tallied.all, few)
 
--- all connections of an end, whether the last goes on or not
-record AllOver (b : Beginning) (legs : List TurnedLeg) (e : DrivenEnd) : Type 0 where
-  inbox : List InboxRecord
-  opens : OpensWith b e
-  holds : inboxes.HoldsBox e.inbox inbox []
-  between : Between b legs (now_of e inbox)
-
-over_none : (b : Beginning) (legs : List TurnedLeg) (e : DrivenEnd) → StandsBehind b legs e → AllOver b legs e
-over_none b legs e k = record { inbox = k.inbox; opens = k.opens; holds = k.holds; between = k.between }
-
-over_one : (b : Beginning) (past : List TurnedLeg) (leg : TurnedLeg) (e : DrivenEnd) → Awaits b → is_given e.standing ≡ false → RunsOver b past leg e → AllOver b (past ++ leg ∷ []) e
-over_one b past leg e first sound k = by_standing e.standing refl
-  where
-    by_standing : (s : Standing) → e.standing ≡ s → AllOver b (past ++ leg ∷ []) e
-    by_standing standings.Over is = record { inbox = k.inbox; opens = k.opens; holds = k.holds; between = k.between is }
-    by_standing standings.Open is = record { inbox = k.inbox; opens = k.opens; holds = k.holds; between = leg_ends b past leg (now_of e k.inbox) first (k.during is) }
-    by_standing standings.GivenUp is = absurd (true≢false (ap is_given (sym is) ∙ sound))
-
 -- of both, paired in order
-record BothOver (client server : Flow) (i a : DrivenEnd) : Type 0 where
+pub record BothOver (client server : Flow) (i a : DrivenEnd) : Type 0 where
   lives : Lives client server
   lives_a : Lives server client
   legs : List TurnedLeg
   legs_a : List TurnedLeg
   paired : AllZip ReadEachOther (lives.legs ++ legs) (lives_a.legs ++ legs_a)
-  over : AllOver lives.begins legs i
-  over_a : AllOver lives_a.begins legs_a a
+  over : IsEnded lives.begins legs i
+  over_a : IsEnded lives_a.begins legs_a a
 
-both_over : (client server : Flow) (i a : DrivenEnd) (pipe : Option Held) → is_lost i a ≡ false → Together client server i a pipe → BothOver client server i a
+pub both_over : (client server : Flow) (i a : DrivenEnd) (pipe : Option Held) → is_lost i a ≡ false → Together client server i a pipe → BothOver client server i a
 both_over client server i a None sound t = record {
   lives = t.lives;
   lives_a = t.lives_a;
   legs = t.past;
   legs_a = t.past_a;
   paired = t.paired;
-  over = over_none t.lives.begins t.past i t.meet.0;
-  over_a = over_none t.lives_a.begins t.past_a a t.meet.1;
+  over = ended_none t.lives.begins t.past i t.lives.began.awaits t.meet.0;
+  over_a = ended_none t.lives_a.begins t.past_a a t.lives_a.began.awaits t.meet.1;
 }
 both_over client server i a (Some p) sound t =
     let k = t.meet in
@@ -84,30 +63,30 @@ both_over client server i a (Some p) sound t =
       legs = t.past ++ k.leg ∷ [];
       legs_a = t.past_a ++ k.leg_a ∷ [];
       paired = paired_more t.lives.legs t.past t.lives_a.legs t.past_a k.leg k.leg_a t.paired ((p.to_left, sym k.way.homeward), (p.to_right, sym k.way.outward));
-      over = over_one t.lives.begins t.past k.leg i t.lives.began.awaits parts.0 k.runs;
-      over_a = over_one t.lives_a.begins t.past_a k.leg_a a t.lives_a.began.awaits parts.1 k.runs_a;
+      over = ended_one t.lives.begins t.past k.leg i t.lives.began.awaits parts.0 k.runs;
+      over_a = ended_one t.lives_a.begins t.past_a k.leg_a a t.lives_a.began.awaits parts.1 k.runs_a;
     }
 
 -- the story of an end, with the life that is over where it is closed
-ended : (own peer : Flow) (l : Lives own peer) (legs : List TurnedLeg) (e : DrivenEnd) (j : Journals) (c : ClosedOn e j) → (o : AllOver l.begins legs e) → outboxes.StandsFor j.outbox c.history
+ended : (own peer : Flow) (l : Lives own peer) (legs : List TurnedLeg) (e : DrivenEnd) (j : Journals) (c : ClosedOn e j) → (o : IsEnded l.begins legs e) → outboxes.StandsFor j.outbox c.history
     → Story own peer (l.legs ++ legs) (outbox_of c.history) o.inbox
 ended own peer l legs e j c o s =
     let is : entries (outbox_of c.history) ≡ c.history.made = entries-outbox_of c.history in
     lived {b = l.begins} l.story (record {
       began = l.began;
       came_to = o.inbox;
-      refused = [];
-      over = life_ends l.begins legs (now_of e o.inbox) (outbox_of c.history) l.began.awaits o.between
+      refused = o.refused;
+      over = o.over (outbox_of c.history)
           (subst (λ (es : List Entry). Has es (known e.pass).seen) (sym is) (record { begins = c.seen.made; few = made_front j.outbox c.history s c.few }));
-      image = record { kept = []; beginning = ([], refl); holds = sym (append-nil o.inbox) };
+      image = record { kept = []; beginning = (o.refused, refl); holds = sym (append-nil o.inbox) };
       goes_on = subst (λ (rs : List OutboxRecord). OutboxGoesOn rs (outbox_of c.history)) (sym o.opens) (outbox_goes_on (opening_of e.gate).history c.history c.opened);
       payloads = subst (λ (es : List Entry). AllByRecursion (λ (x : Entry). IsApplication x.payload) es) (sym is) s.outbox.payloads;
       in_order = subst (λ (es : List Entry). InOrder es) (sym is) s.outbox.in_order;
     })
 
 -- an inbox that holds a list stands for it
-holds_stands : {J : Type 0} {G : Ghosts J} (box : Inbox J G) (i : List InboxRecord) → inboxes.HoldsBox box i [] → inboxes.StandsFor box i
-holds_stands box i held = record { dated = held.dated; bare = held.bare; journal = held.journal.stands_for; inbox = held.inbox; noticed = held.noticed }
+holds_stands : {J : Type 0} {G : Ghosts J} (box : Inbox J G) (i refused : List InboxRecord) → inboxes.HoldsBox box i refused → inboxes.StandsFor box i
+holds_stands box i refused held = record { dated = held.dated; bare = held.bare; journal = held.journal.stands_for; inbox = held.inbox; noticed = held.noticed }
 
 kept : (client server : Flow) (i a : DrivenEnd) (j k : Journals) (c : ClosedOn i j) (d : ClosedOn a k) → BothOver client server i a → outboxes.StandsFor j.outbox c.history → outboxes.StandsFor k.outbox d.history
     → KeepsSession client server j k
@@ -121,8 +100,8 @@ kept client server i a j k c d b s s' =
       inbox_a = b.over_a.inbox;
       stands = s;
       stands_a = s';
-      holds = subst (λ box. inboxes.StandsFor box b.over.inbox) (sym c.inbox) (holds_stands i.inbox b.over.inbox b.over.holds);
-      holds_a = subst (λ box. inboxes.StandsFor box b.over_a.inbox) (sym d.inbox) (holds_stands a.inbox b.over_a.inbox b.over_a.holds);
+      holds = subst (λ box. inboxes.StandsFor box b.over.inbox) (sym c.inbox) (holds_stands i.inbox b.over.inbox b.over.refused b.over.holds);
+      holds_a = subst (λ box. inboxes.StandsFor box b.over_a.inbox) (sym d.inbox) (holds_stands a.inbox b.over_a.inbox b.over_a.refused b.over_a.holds);
       outward = subst (λ (es : List Entry). Holds client es b.over_a.inbox) (entries-outbox_of c.history) held.0;
       homeward = subst (λ (es : List Entry). Holds server es b.over.inbox) (entries-outbox_of d.history) held.1;
     }

@@ -1,6 +1,6 @@
 -- An end that is driven: where it stands behind a call, and who has its passes.
-use Rattle.std.proofs.Common.{◌≡◌, inl, inr, ℕ, zero, suc, ◌+◌, ◌*◌, ◌<◌, ◌≤◌, ◌^◌, true, false, Bool, if◌then◌else◌, [], ◌∷◌, List, length, Option, Some, None, Result, Ok, Err, refl, sym, ap, subst, ◌∙◌, arith, true≢false}
-use Rattle.std.specs.Prelude.{⊤, All, slice_index_or, OnOk, IfOk, IfSome, IsSome, is_some}
+use Rattle.std.proofs.Common.{◌≡◌, inl, inr, ℕ, zero, suc, ◌+◌, ◌*◌, ◌<◌, ◌≤◌, ◌^◌, true, false, Bool, if◌then◌else◌, [], ◌∷◌, List, length, Option, Some, None, Result, Ok, Err, refl, sym, ap, subst, ◌∙◌, arith}
+use Rattle.std.specs.Prelude.{⊤, ◌⊎◌, All, slice_index_or, OnOk, IfOk, IfErr, IfSome, IsSome, is_some}
 use Rattle.std.specs.Result.{result_ok}
 use Rattle.session_model.specs.Journal.{History, BeginsHistory}
 use Rattle.session_model.proofs.Lists.{prefix_length}
@@ -34,15 +34,15 @@ use Rattle.conn_steps.specs.Agreeing.{Agrees}
 use Rattle.conn_loop.specs.declared.conn.Conn.{Conn}
 use Rattle.conn_loop.specs.Conn.{line_of, new_line, line_begun, line_cut, answer_of, GoesOn, HasSeen}
 use Rattle.conn_loop.specs.Live.{EndAt}
-use Rattle.conn_loop.specs.Turned.{DidTurn, Exchanged, Leaves}
-use Rattle.turn_laws.specs.Turned.{WasTurn}
+use Rattle.conn_loop.specs.Turned.{DidTurn, Exchanged, Leaves, NotBegun}
+use Rattle.turn_laws.specs.Turned.{WasTurn, WasCut}
 use Rattle.fixp_shake.specs.declared.config.EndConfig.{EndConfig}
 use Rattle.conn_loop.proofs.Working.{seen_same}
 use Rattle.fixp_replies.specs.declared.facts.EndState.{EndState}
 use Rattle.gw_rehearse.specs.declared.standing.Standing.{Standing}
 use Rattle.gw_rehearse.specs.declared.standing.Standing.TheVariants as standings
 use Rattle.gw_rehearse.specs.Driven.{IsMadeOf}
-use Rattle.gw_rehearse.specs.Standing.{standing_of, is_given, HasSeats, KeepsPasses, UsesFirst, CanTurn, Rests, Stands}
+use Rattle.gw_rehearse.specs.Standing.{standing_of, HasSeats, KeepsPasses, UsesFirst, CanTurn, Rests, Stands, WasMade}
 
 -- ---- the place
 
@@ -69,20 +69,6 @@ mark : (h s : History) → BeginsHistory h s → (b : Bool) → h.finished ≡ b
 mark h s begins true e = (ap (λ (x : History). x.finished) (sym (begins.alone e)) ∙ e, ap (λ (x : History). length x.made) (sym (begins.alone e)))
 mark h s begins false e = tt
 
--- what holds of a turn that answers, or whose link failed, holds where its end was not given up
-pub whole_behind : (P : Type 0) (r : Result TurnEnd TurnFault) (s : Standing) → s ≡ standing_of r → OnOk r P → (r ≡ Err faults.Link → P) → is_given s ≡ false → P
-whole_behind P r s is ok lost sound = by_answer r (ap is_given (sym is) ∙ sound) ok lost
-  where
-    by_answer : (r : Result TurnEnd TurnFault) → is_given (standing_of r) ≡ false → OnOk r P → (r ≡ Err faults.Link → P) → P
-    by_answer (Ok end) sound ok lost = ok
-    by_answer (Err faults.Link) sound ok lost = lost refl
-    by_answer (Err faults.Inbox) sound ok lost = absurd (true≢false sound)
-    by_answer (Err faults.Outbox) sound ok lost = absurd (true≢false sound)
-    by_answer (Err (faults.Changed at)) sound ok lost = absurd (true≢false sound)
-    by_answer (Err faults.Broken) sound ok lost = absurd (true≢false sound)
-    by_answer (Err (faults.Full entries bytes)) sound ok lost = absurd (true≢false sound)
-    by_answer (Err faults.Memory) sound ok lost = absurd (true≢false sound)
-
 -- a connection that was made of a new machine, if one was
 pub conn_made : {E : Type 0} (config : EndConfig) (state : EndState) (next sent : ℕ) (r : Result Conn E) (o : Option Conn) → o ≡ result_ok r
     → IfOk r (λ conn. line_of conn ≡ new_line (fresh config state (2 ^ 24))) → state.inbox_next ≡ next → state.sent ≡ sent → IfSome o (λ conn. IsMadeOf config next sent conn)
@@ -91,6 +77,11 @@ conn_made {E} config state next sent r o is made next_is sent_is = subst (λ (x 
     of_result : (r : Result Conn E) → IfOk r (λ conn. line_of conn ≡ new_line (fresh config state (2 ^ 24))) → IfSome (result_ok r) (λ conn. IsMadeOf config next sent conn)
     of_result (Ok conn) made = record { state = state; next_is = next_is; sent_is = sent_is; line = made }
     of_result (Err e) made = tt
+
+-- what holds of a fault makes another hold
+pub err_then : {T E : Type 0} {P Q : E → Type 0} (r : Result T E) → ((e : E) → P e → Q e) → IfErr r P → IfErr r Q
+err_then (Ok x) f p = tt
+err_then (Err e) f p = f e p
 
 module _ {J : Type 0} {G : Ghosts J} where
   -- ---- where an end stands
@@ -122,6 +113,28 @@ module _ {J : Type 0} {G : Ghosts J} where
   pub told_turn : (tells : Type 0) (eager : Bool) (before after : ℕ) (old new : EndAt J G) → WasTurn tells eager before after old new → tells → WasTurn ⊤ eager before after old new
   told_turn tells eager before after old new w told =
       record { turn = w.turn; made = w.made; timely = w.timely; faithful = λ _. w.faithful told; gains = w.gains; news_are = w.news_are }
+
+  -- what it was, by what it answered
+  pub made_behind : (r : Result TurnEnd TurnFault) (s : Standing) (eager : Bool) (before after : ℕ) (old new : EndAt J G) → s ≡ standing_of r → OnOk r (WasTurn ⊤ eager before after old new)
+      → (r ≡ Err faults.Link → WasTurn ⊤ eager before after old new) → IfErr r (λ fault. (fault ≡ faults.Link → ⊥) → NotBegun old new fault ⊎ WasCut eager before after old new fault)
+      → WasMade s eager before after old new
+  made_behind r s eager before after old new is ok lost cut = subst (λ (x : Standing). WasMade x eager before after old new) (sym is) (by_answer r ok lost cut)
+    where
+      begun : (fault : TurnFault) → (fault ≡ faults.Memory → ⊥) → NotBegun old new fault ⊎ WasCut eager before after old new fault → (f : TurnFault) × WasCut eager before after old new f
+      begun fault other (inl none) = absurd (other none.0)
+      begun fault other (inr w) = (fault, w)
+
+      by_answer : (r : Result TurnEnd TurnFault) → OnOk r (WasTurn ⊤ eager before after old new) → (r ≡ Err faults.Link → WasTurn ⊤ eager before after old new)
+          → IfErr r (λ fault. (fault ≡ faults.Link → ⊥) → NotBegun old new fault ⊎ WasCut eager before after old new fault) → WasMade (standing_of r) eager before after old new
+      by_answer (Ok ends.Go) ok lost cut = ok
+      by_answer (Ok (ends.Ended ending)) ok lost cut = ok
+      by_answer (Err faults.Link) ok lost cut = lost refl
+      by_answer (Err faults.Inbox) ok lost cut = begun faults.Inbox (λ e. cc) (cut (λ e. cc))
+      by_answer (Err faults.Outbox) ok lost cut = begun faults.Outbox (λ e. cc) (cut (λ e. cc))
+      by_answer (Err (faults.Changed at)) ok lost cut = tt
+      by_answer (Err faults.Broken) ok lost cut = begun faults.Broken (λ e. cc) (cut (λ e. cc))
+      by_answer (Err (faults.Full entries bytes)) ok lost cut = tt
+      by_answer (Err faults.Memory) ok lost cut = tt
 
   -- where it stands behind a turn
   pub stands_behind : (r : Result TurnEnd TurnFault) (new : Line) (most : ℕ) (p : Part) (box : Inbox J G) → OnOk r (new.place ≤ most) → (r ≡ Ok ends.Go → GoesOn new.machine) → OnOk r (Leaves new.machine p box)

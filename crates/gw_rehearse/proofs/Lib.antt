@@ -7,3 +7,5 @@ mod Together
 mod Closing
 mod Arriving
 mod Outboxes
+mod Stopping
+mod Staying

@@ -1,13 +1,16 @@
 -- What stops leave of a disk, and what is opened on it.
-use Rattle.std.proofs.Common.{◌<◌, ◌^◌, arith, ◌≡◌, ℕ, List, [], ◌∷◌, ◌++◌, map, Option, Some, None, refl, sym, ap, subst, ◌∙◌, append-nil}
-use Rattle.std.specs.Prelude.{IsTrue, IsSomeAnd}
+use Rattle.std.proofs.Common.{◌<◌, ◌^◌, arith, ◌≡◌, ◌+◌, ℕ, List, [], ◌∷◌, ◌++◌, length, map, Option, Some, None, Result, refl, sym, ap, subst, ◌∙◌, append-nil}
+use Rattle.std.proofs.lemmas.Bool.{and_parts, eqb-true, leb-true, false≢true}
+use Rattle.std.specs.Prelude.{IsTrue, IsSomeAnd, IfOk, IfSome, ◌==◌}
+use Rattle.std.proofs.Math.Logic.{∥∥₁_map}
 use mathlib.Core.List.{IsPrefix}
 use Rattle.session_model.specs.Journal.{History, OutboxRecord}
 use Rattle.session_model.specs.Inbox.{InboxRecord}
 use Rattle.session_model.specs.Lives.{IsImage}
-use Rattle.gw_fakes.specs.Disks.{is_left}
+use Rattle.gw_fakes.specs.Disks.{DiskState, is_left, none_pending, fused, stopped}
 use Rattle.gw_fakes.specs.MemDisks.{state_of}
 use Rattle.gw_fakes.specs.declared.disk.MemDisk.{MemDisk}
+use Rattle.gw_fakes.specs.declared.disk.Pick.{Pick}
 use Rattle.jr_record.specs.declared.record.Record.{Record}
 use Rattle.jr_boxes.specs.Outboxes.{outbox_of, record_of, records_of_history}
 use Rattle.jr_boxes.specs.Inboxes.{records_of_inbox}
@@ -25,7 +28,7 @@ use Rattle.gate_senders.specs.Gate.{opening_of}
 use Rattle.gw_rehearse.specs.declared.end.DrivenEnd.{DrivenEnd}
 use Rattle.gw_rehearse.specs.declared.disks.Disks.{Disks}
 use Rattle.gw_rehearse.specs.Driven.{BeginsOn}
-use Rattle.gw_rehearse.specs.Stopped.{BeginsOnLeft, OutboxIsLeft, InboxIsLeft, LeavesImages, LeavesNoMore, IsLeft}
+use Rattle.gw_rehearse.specs.Stopped.{BeginsOnLeft, DisksLeaveNoMore, OutboxIsLeft, InboxIsLeft, LeavesImages, LeavesNoMore, IsLeft}
 
 -- what may be left of a disk
 abbrev pub may_leave : MemDisk → List ℕ → Type 0
@@ -46,6 +49,30 @@ leaves_self disk = leaves_within disk disk (λ content left. left)
 
 pub leaves_on : (first second third : MemDisk) → LeavesNoMore first second → LeavesNoMore second third → LeavesNoMore first third
 leaves_on first second third a b closing refused k = b closing refused (a closing refused k)
+
+-- what is left where no write is pending is what was synced
+only_synced : (synced image : List ℕ) → IsTrue (is_left synced (none_pending (length synced)) image) → image ≡ synced
+only_synced [] [] left = refl
+only_synced [] (b ∷ bs) left = absurd (omega (arith, leb-true _ _ left))
+only_synced (s ∷ ss) [] left = absurd (false≢true left)
+only_synced (s ∷ ss) (b ∷ bs) left =
+    let parts = and_parts (b == s) (is_left ss (none_pending (length ss)) bs) left in
+    ap (λ x. x ∷ bs) (eqb-true b s parts.0) ∙ ap (λ xs. s ∷ xs) (only_synced ss bs parts.1)
+
+-- a disk that was stopped leaves what the stop left, and one with a fuse what it would have left without
+pub leaves_stopped : (before after : MemDisk) (pick : Pick) → state_of after ≡ stopped pick (state_of before) → may_leave before (state_of after).content → LeavesNoMore before after
+leaves_stopped before after pick is left = leaves_within before after (λ content may.
+    let still : content ≡ (stopped pick (state_of before)).synced = only_synced _ content (subst (λ (s : DiskState). IsTrue (is_left s.synced s.pending content)) is may) in
+    subst (may_leave before) (sym (still ∙ sym (ap (λ (s : DiskState). s.content) is))) left)
+
+pub leaves_fused : (before after : MemDisk) (calls : ℕ) → state_of after ≡ fused calls (state_of before) → LeavesNoMore before after
+leaves_fused before after calls is = leaves_within before after (λ content may. subst (λ (s : DiskState). IsTrue (is_left s.synced s.pending content)) is may)
+
+pub disks_on : (first second third : Disks) → DisksLeaveNoMore first second → DisksLeaveNoMore second third → DisksLeaveNoMore first third
+disks_on first second third a b = record {
+  outbox = leaves_on first.outbox second.outbox third.outbox a.outbox b.outbox;
+  inbox = leaves_on first.inbox second.inbox third.inbox a.inbox b.inbox;
+}
 
 -- a journal that a left content has is one of the images
 pub is_image : (disk : MemDisk) (content : List ℕ) (closing refused h : List Dated) → may_leave disk content → LeavesImages disk closing refused → IsJournal content h → IsImage closing refused h
@@ -115,3 +142,23 @@ begins_on_left own peer disks box ibox e few left left_in begins s k =
       outbox_left = λ closing refused leaves. left closing refused leaves (opening_of e.gate).history s;
       inbox_left = λ closing refused leaves. left_in closing refused leaves k.0 (record { dated = h.dated; bare = h.bare; journal = h.journal.stands_for; inbox = h.inbox; noticed = h.noticed });
     }
+
+-- it begins on what is left of disks that may leave more
+pub begins_more : (own peer : Flow) (before after : Disks) (e : DrivenEnd) → DisksLeaveNoMore before after → BeginsOnLeft own peer after e → BeginsOnLeft own peer before e
+begins_more own peer before after e more n = record {
+  inbox = n.inbox;
+  begins = n.begins;
+  history = n.history;
+  few = n.few;
+  outbox_left = λ closing refused leaves. n.outbox_left closing refused (more.outbox closing refused leaves);
+  inbox_left = λ closing refused leaves. n.inbox_left closing refused (more.inbox closing refused leaves);
+}
+
+pub begins_as : {E : Type 0} (own peer own' peer' : Flow) (disks : Disks) (r : Result DrivenEnd E) → own ≡ own' → peer ≡ peer' → IfOk r (λ e. ∥ BeginsOnLeft own peer disks e ∥₁) → IfOk r (λ e. ∥ BeginsOnLeft own' peer' disks e ∥₁)
+begins_as own peer own' peer' disks r is is_peer n =
+    subst (λ (f : Flow). IfOk r (λ e. ∥ BeginsOnLeft f peer' disks e ∥₁)) is (subst (λ (f : Flow). IfOk r (λ e. ∥ BeginsOnLeft own f disks e ∥₁)) is_peer n)
+
+-- an end beside something else, if one was opened
+pub begins_if : {T : Type 0} (own peer : Flow) (before after : Disks) (o : Option (DrivenEnd × T)) → DisksLeaveNoMore before after → IfSome o (λ r. ∥ BeginsOnLeft own peer after r.0 ∥₁) → IfSome o (λ r. ∥ BeginsOnLeft own peer before r.0 ∥₁)
+begins_if own peer before after None more n = tt
+begins_if own peer before after (Some r) more n = ∥∥₁_map n (λ b. begins_more own peer before after r.0 more b)

@@ -1,10 +1,9 @@
 -- What is known of an end over the connections that it had, behind each of its calls.
 use Rattle.std.proofs.Common.{◌≡◌, ◌+◌, ◌≤◌, ◌^◌, ℕ, false, Bool, List, [], ◌∷◌, ◌++◌, length, Option, Some, None, refl, sym, ap, subst, ◌∙◌, append-nil, arith, true≢false}
-use Rattle.std.specs.Prelude.{⊤}
-use Rattle.gw_links.specs.Links.{LinkTold, Steps}
-use Rattle.session_model.specs.Journal.{Entry, History, BeginsHistory}
+use Rattle.gw_links.specs.Links.{LinkTold, Carried, Steps}
+use Rattle.session_model.specs.Journal.{Entry, History, BeginsHistory, OutboxRecord, entries}
 use Rattle.session_model.specs.Inbox.{InboxRecord, next_number}
-use Rattle.session_model.proofs.Lists.{prefix_length}
+use Rattle.session_model.proofs.Lists.{prefix_length, prefix_trans}
 use Rattle.jr_boxes.specs.Outboxes.{outbox_of}
 use Rattle.gate_senders.specs.Gate.{opening_of}
 use Rattle.fixp_machine.specs.Machine.{State, fresh}
@@ -13,28 +12,46 @@ use Rattle.jr_kept.specs.Inbox.{HoldsBox, next_of}
 use Rattle.gate_turn.specs.Places.{known}
 use Rattle.gate_turn.specs.Views.{Part}
 use Rattle.connection_laws.specs.Ranges.{IsInTime, IsInRange}
-use Rattle.conn_turns.specs.Lines.{Line}
+use Rattle.conn_turns.specs.Lines.{Line, lines_after}
+use Rattle.conn_turns.specs.Frames.{added}
+use Rattle.conn_turns.specs.Turns.{cut_short}
+use Rattle.conn_turns.specs.declared.answer.TurnFault.{TurnFault}
+use Rattle.conn_loop.specs.Turned.{refused_of}
 use Rattle.conn_turns.specs.declared.news.NewsItem.{NewsItem}
 use Rattle.conn_loop.specs.Conn.{line_of, line_begun, line_cut, Looks}
 use Rattle.conn_loop.specs.Live.{live_end}
+use Rattle.turn_laws.specs.Standing.{Has}
 use Rattle.turn_laws.specs.Legs.{TurnedLeg, given_in, sent_in}
-use Rattle.turn_laws.specs.Turns.{adds_in}
-use Rattle.turn_laws.specs.Turned.{WasTurn}
-use Rattle.two_ends.specs.Driving.{Beginning, Awaits, begun_leg, with_turn, During}
-use Rattle.two_ends.proofs.Going.{leg_begins, turn_goes_on, leg_ends, cut_ends}
+use Rattle.turn_laws.specs.Turns.{line_received, adds_in}
+use Rattle.turn_laws.proofs.Refusing.{cut_waits}
+use Rattle.two_ends.specs.Driving.{Beginning, Awaits, begun_leg, with_turn, cut_leg, Between, During}
+use Rattle.two_ends.specs.Stories.{IsOver}
+use Rattle.two_ends.proofs.Going.{leg_begins, turn_goes_on, leg_ends, cut_ends, life_ends, life_fails}
 use Rattle.two_ends.proofs.Moving.{turn_carries}
 use Rattle.gw_rehearse.specs.declared.end.DrivenEnd.{DrivenEnd}
 use Rattle.gw_rehearse.specs.declared.standing.Standing.{Standing}
 use Rattle.gw_rehearse.specs.declared.standing.Standing.TheVariants as standings
-use Rattle.gw_rehearse.specs.Standing.{is_given}
-use Rattle.gw_rehearse.specs.Driven.{now_of, IsMadeOf, OpensWith, StandsBehind, RunsOver, TurnedOn, BeginsOn}
+use Rattle.gw_rehearse.specs.Standing.{is_given, is_failed, WasMade}
+use Rattle.gw_rehearse.specs.Driven.{now_of, IsMadeOf, OpensWith, StandsBehind, RunsOver, TurnedOn, BeginsOn, IsEnded}
 use Rattle.gw_rehearse.proofs.Outboxes.{entries-outbox_of}
 
--- one that does not go on and was not given up is over
-pub not_open : (s : Standing) → (s ≡ standings.Open → ⊥) → is_given s ≡ false → s ≡ standings.Over
-not_open standings.Over unopened sound = refl
-not_open standings.Open unopened sound = absurd (unopened refl)
-not_open standings.GivenUp unopened sound = absurd (true≢false sound)
+-- one that does not go on, did not fail and was not given up is over
+pub not_open : (s : Standing) → (s ≡ standings.Open → ⊥) → is_given s ≡ false → is_failed s ≡ false → s ≡ standings.Over
+not_open standings.Over unopened sound whole = refl
+not_open standings.Open unopened sound whole = absurd (unopened refl)
+not_open standings.Failed unopened sound whole = absurd (true≢false whole)
+not_open standings.GivenUp unopened sound whole = absurd (true≢false sound)
+
+-- one stands in one way
+apart : (s : Standing) → s ≡ standings.Open → s ≡ standings.Over → ⊥
+apart s is not = cc
+
+unfailed : (s : Standing) → is_failed s ≡ false → s ≡ standings.Failed → ⊥
+unfailed s whole failed = true≢false (sym (ap is_failed failed) ∙ whole)
+
+-- of one that did not fail nothing was refused
+pub holds_whole : (b : Beginning) (past : List TurnedLeg) (leg : TurnedLeg) (e : DrivenEnd) → (k : RunsOver b past leg e) → is_failed e.standing ≡ false → HoldsBox e.inbox k.inbox []
+holds_whole b past leg e k whole = subst (λ (rs : List InboxRecord). HoldsBox e.inbox k.inbox rs) (k.whole whole).0 k.holds
 
 -- an end with the same gate opened on the same outbox
 pub opens_same : (b : Beginning) (e e' : DrivenEnd) → e'.gate ≡ e.gate → OpensWith b e → OpensWith b e'
@@ -48,42 +65,86 @@ begun b legs e e' now gate time going line pass box k =
       now,
       record {
         opens = opens_same b e e' gate k.opens;
-        uncut = refl;
         inbox = k.inbox;
+        refused = [];
+        whole = λ _. (refl, refl);
         holds = subst (λ x. HoldsBox x k.inbox []) (sym box) k.holds;
         during = λ _. subst (λ (l : Line). During b legs (begun_leg now) (record { line = l; seen = (known e'.pass).seen; inbox = k.inbox })) (sym line)
             (subst (λ (p : Part). During b legs (begun_leg now) (record { line = line_begun (line_of e.conn) now; seen = p.seen; inbox = k.inbox })) (sym pass) at);
         between = λ over. absurd (apart e'.standing going over);
+        failed = λ failed. absurd (unfailed e'.standing (ap is_failed going) failed);
       },
     )
-  where
-    apart : (s : Standing) → s ≡ standings.Open → s ≡ standings.Over → ⊥
-    apart s is not = cc
 
--- it goes on by a turn
-pub turned : (b : Beginning) (past : List TurnedLeg) (leg : TurnedLeg) (e e' : DrivenEnd) (eager : Bool) (before after : ℕ) (told told' : Option LinkTold) (carried carried' : _) (news : List NewsItem)
-    → Awaits b → e'.gate ≡ e.gate → e.standing ≡ standings.Open → (line_of e.conn).machine.ending ≡ None → Looks (known e.pass) (known e'.pass)
-    → WasTurn ⊤ eager before after (live_end told carried (known e.pass).seen (line_of e.conn) e.inbox []) (live_end told' carried' (known e'.pass).seen (line_of e'.conn) e'.inbox news)
-    → RunsOver b past leg e → TurnedOn b past leg e' told told'
-turned b past leg e e' eager before after told told' carried carried' news first gate going unended looks w k =
-    let inbox : List InboxRecord = k.inbox ++ adds_in (line_of e.conn) w.turn in
-    let later : TurnedLeg = with_turn leg w.turn in
-    let at : During b past later (now_of e' inbox) = turn_goes_on b past leg (now_of e k.inbox) (now_of e' inbox) w.turn first (k.during going) unended looks.seen.made w.made.is (w.faithful tt) w.timely refl in
-    record {
-      later = later;
-      given = given_in w.turn;
-      sent = sent_in w.turn;
-      carries = (turn_carries leg w.turn k.uncut).0;
-      moved = w.made.moved.tells;
-      runs = record {
-        opens = opens_same b e e' gate k.opens;
-        uncut = k.uncut;
-        inbox = inbox;
-        holds = w.gains.holds k.inbox k.holds;
-        during = λ _. at;
-        between = λ _. leg_ends b past later (now_of e' inbox) first at;
-      };
-    }
+module _ (b : Beginning) (past : List TurnedLeg) (leg : TurnedLeg) (e e' : DrivenEnd) (eager : Bool) (before after : ℕ) (told told' : Option LinkTold) (carried carried' : Option Carried) (news : List NewsItem) (awaits : Awaits b)
+    (gate : e'.gate ≡ e.gate) (going : e.standing ≡ standings.Open) (unended : (line_of e.conn).machine.ending ≡ None) (looks : Looks (known e.pass) (known e'.pass)) (k : RunsOver b past leg e) where
+  -- the turn, by where it left the end
+  abbrev pub Made : Standing → Type 0
+  Made s = WasMade s eager before after (live_end told carried (known e.pass).seen (line_of e.conn) e.inbox []) (live_end told' carried' (known e'.pass).seen (line_of e'.conn) e'.inbox news)
+
+  uncut : leg.cut ≡ None
+  uncut = (k.whole (ap is_failed going)).1
+
+  -- it goes on by a whole one
+  whole_turned : is_failed e'.standing ≡ false → Made standings.Open → TurnedOn b past leg e' told told'
+  whole_turned whole w =
+      let inbox : List InboxRecord = k.inbox ++ adds_in (line_of e.conn) w.turn in
+      let later : TurnedLeg = with_turn leg w.turn in
+      let at : During b past later (now_of e' inbox) = turn_goes_on b past leg (now_of e k.inbox) (now_of e' inbox) w.turn awaits (k.during going) unended looks.seen.made w.made.is (w.faithful tt) w.timely refl in
+      record {
+        later = later;
+        given = given_in w.turn;
+        sent = sent_in w.turn;
+        carries = (turn_carries leg w.turn uncut).0;
+        moved = w.made.moved.tells;
+        runs = record {
+          opens = opens_same b e e' gate k.opens;
+          inbox = inbox;
+          refused = [];
+          holds = w.gains.holds k.inbox (holds_whole b past leg e k (ap is_failed going));
+          whole = λ _. (refl, uncut);
+          during = λ _. at;
+          between = λ _. leg_ends b past later (now_of e' inbox) awaits at;
+          failed = λ failed. absurd (unfailed e'.standing whole failed);
+        };
+      }
+
+  -- or its life is over, as a call of a disk failed
+  cut_turned : e'.standing ≡ standings.Failed → Made standings.Failed → TurnedOn b past leg e' told told'
+  cut_turned failed made =
+      let fault : TurnFault = made.0 in
+      let w = made.1 in
+      let later : TurnedLeg = cut_leg leg (cut_short w.now w.received w.frames w.refused) in
+      let gained : List InboxRecord = added w.now (line_received (line_of e.conn) w.now w.received w.made.cut.got) w.frames in
+      let lost : List InboxRecord = refused_of fault w.now (lines_after w.now (line_received (line_of e.conn) w.now w.received w.made.cut.got) w.frames) w.refused in
+      record {
+        later = later;
+        given = w.received;
+        sent = [];
+        carries = (turn_carries leg (cut_short w.now w.received w.frames w.refused) uncut).1;
+        moved = w.made.moved.tells;
+        runs = record {
+          opens = opens_same b e e' gate k.opens;
+          inbox = k.inbox ++ gained;
+          refused = lost;
+          holds = w.refuses.holds k.inbox (holds_whole b past leg e k (ap is_failed going));
+          whole = λ whole. absurd (unfailed e'.standing whole failed);
+          during = λ going'. absurd (unfailed e'.standing (ap is_failed going') failed);
+          between = λ over. absurd (unfailed e'.standing (ap is_failed over) failed);
+          failed = λ _ closing has. life_fails b past leg (now_of e k.inbox) w.now w.received w.frames w.refused lost closing awaits (k.during going) w.made.cut w.timely
+              (λ h c stands. cut_waits h c (line_of e.conn) w.now w.received w.frames w.refused fault lost stands w.made.cut refl)
+              (record { begins = prefix_trans (known e.pass).seen.made (known e'.pass).seen.made (entries closing) looks.seen.made has.begins; few = has.few });
+        };
+      }
+
+  pub turned : is_given e'.standing ≡ false → Made e'.standing → TurnedOn b past leg e' told told'
+  turned sound made = by_standing e'.standing refl sound made
+    where
+      by_standing : (s : Standing) → e'.standing ≡ s → is_given s ≡ false → Made s → TurnedOn b past leg e' told told'
+      by_standing standings.Over is sound w = whole_turned (ap is_failed is) w
+      by_standing standings.Open is sound w = whole_turned (ap is_failed is) w
+      by_standing standings.Failed is sound w = cut_turned is w
+      by_standing standings.GivenUp is sound w = absurd (true≢false sound)
 
 -- a link of which nothing is asked gives and takes nothing
 rests_link : (told : Option LinkTold) → Steps told told [] []
@@ -108,14 +169,14 @@ cut_over b past leg e e' first gate going over line pass box k = record {
   over = over;
   opens = opens_same b e e' gate k.opens;
   inbox = k.inbox;
-  holds = subst (λ x. HoldsBox x k.inbox []) (sym box) k.holds;
+  holds = subst (λ x. HoldsBox x k.inbox []) (sym box) (holds_whole b past leg e k (ap is_failed going));
   between = cut_ends b (past ++ leg ∷ []) (now_of e k.inbox) (now_of e' k.inbox) (leg_ends b past leg (now_of e k.inbox) first (k.during going))
       (ap (λ (l : Line). l.machine) line) (ap (λ (p : Part). p.seen) pass) refl;
 }
 
 -- and where it had ended
 pub ended_over : (b : Beginning) (past : List TurnedLeg) (leg : TurnedLeg) (e : DrivenEnd) → e.standing ≡ standings.Over → RunsOver b past leg e → StandsBehind b (past ++ leg ∷ []) e
-ended_over b past leg e over k = record { over = over; opens = k.opens; inbox = k.inbox; holds = k.holds; between = k.between over }
+ended_over b past leg e over k = record { over = over; opens = k.opens; inbox = k.inbox; holds = holds_whole b past leg e k (ap is_failed over); between = k.between over }
 
 -- a new end over boxes that hold these records
 pub new_end : (config : EndConfig) (e : DrivenEnd) (next sent : ℕ) (inbox : List InboxRecord) → IsMadeOf config next sent e.conn → e.standing ≡ standings.Over → HoldsBox e.inbox inbox [] → next ≡ next_of e.inbox
@@ -149,3 +210,26 @@ new_end config e next sent inbox made over holds first all few session keepalive
         };
       };
     }
+
+-- ---- a life that is over
+
+pub ended_none : (b : Beginning) (legs : List TurnedLeg) (e : DrivenEnd) → Awaits b → StandsBehind b legs e → IsEnded b legs e
+ended_none b legs e awaits k = record {
+  opens = k.opens;
+  inbox = k.inbox;
+  refused = [];
+  holds = k.holds;
+  over = λ closing has. life_ends b legs (now_of e k.inbox) closing awaits k.between has;
+}
+
+pub ended_one : (b : Beginning) (past : List TurnedLeg) (leg : TurnedLeg) (e : DrivenEnd) → Awaits b → is_given e.standing ≡ false → RunsOver b past leg e → IsEnded b (past ++ leg ∷ []) e
+ended_one b past leg e awaits sound k = record { opens = k.opens; inbox = k.inbox; refused = k.refused; holds = k.holds; over = by_standing e.standing refl sound }
+  where
+    all_over : is_failed e.standing ≡ false → Between b (past ++ leg ∷ []) (now_of e k.inbox) → (closing : List OutboxRecord) → Has (entries closing) (known e.pass).seen → IsOver closing b (past ++ leg ∷ []) k.inbox k.refused
+    all_over whole between closing has = subst (λ (rs : List InboxRecord). IsOver closing b (past ++ leg ∷ []) k.inbox rs) (sym (k.whole whole).0) (life_ends b (past ++ leg ∷ []) (now_of e k.inbox) closing awaits between has)
+
+    by_standing : (s : Standing) → e.standing ≡ s → is_given s ≡ false → (closing : List OutboxRecord) → Has (entries closing) (known e.pass).seen → IsOver closing b (past ++ leg ∷ []) k.inbox k.refused
+    by_standing standings.Over is sound = all_over (ap is_failed is) (k.between is)
+    by_standing standings.Open is sound = all_over (ap is_failed is) (leg_ends b past leg (now_of e k.inbox) awaits (k.during is))
+    by_standing standings.Failed is sound = k.failed is
+    by_standing standings.GivenUp is sound = absurd (true≢false sound)

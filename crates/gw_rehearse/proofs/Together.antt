@@ -1,7 +1,8 @@
 -- Both ends together, behind each call of a pair.
-use Rattle.std.proofs.Common.{◌≡◌, ℕ, true, false, ◌||◌, if◌then◌else◌, Bool, List, [], ◌∷◌, ◌++◌, Option, Some, None, refl, sym, ap, subst, ◌∙◌, append_assoc, true≢false}
+use Rattle.std.proofs.Common.{◌≡◌, ℕ, true, false, ◌||◌, if◌then◌else◌, Bool, List, [], ◌∷◌, ◌++◌, Option, Some, None, refl, sym, ap, subst, ◌∙◌, append-nil, append_assoc, true≢false}
 use Rattle.std.specs.List.{AllZip}
-use Rattle.std.proofs.Math.Logic.{∥∥₁_map}
+use Rattle.std.proofs.Math.Logic.{∥∥₁_map, ∥∥₁_elim, ∥∥₁_prop}
+use Rattle.session_model.specs.Journal.{entries}
 use Rattle.session_model.specs.Inbox.{InboxRecord}
 use Rattle.jr_kept.specs.Inbox.{HoldsBox}
 use Rattle.gate_turn.specs.Places.{known}
@@ -10,6 +11,7 @@ use Rattle.std.proofs.lemmas.List.Elements.{AllZip-push}
 use Rattle.fixp_msgs.specs.declared.flow.Flow.{Flow}
 use Rattle.gw_link_fakes.specs.Pipes.{Held, new_pipe, told_at}
 use Rattle.gw_link_fakes.specs.declared.pipe.Side.TheVariants.{Left, Right}
+use Rattle.turn_laws.specs.Standing.{Has}
 use Rattle.turn_laws.specs.Legs.{TurnedLeg}
 use Rattle.two_ends.specs.Driving.{EndNow, Beginning, Awaits, begun_leg, Between, During}
 use Rattle.two_ends.specs.Pairing.{ReadEachOther, UnderWay}
@@ -18,14 +20,18 @@ use Rattle.two_ends.proofs.Moving.{bytes_move, turned_round}
 use Rattle.gw_rehearse.specs.declared.end.DrivenEnd.{DrivenEnd}
 use Rattle.gw_rehearse.specs.declared.standing.Standing.{Standing}
 use Rattle.gw_rehearse.specs.declared.standing.Standing.TheVariants as standings
-use Rattle.gw_rehearse.specs.Standing.{is_given, is_going}
+use Rattle.gw_rehearse.specs.Standing.{is_given, is_going, is_failed}
 use Rattle.gw_rehearse.specs.Driven.{now_of, StandsBehind, RunsOver, TurnsOn, BeginsOn, beginning_on}
-use Rattle.gw_rehearse.specs.Together.{Together, is_lost, PairNow, StaysSound}
-use Rattle.gw_rehearse.proofs.Stories.{opens_same, ended_over}
+use Rattle.cmd_script.specs.declared.script.Script.{Script}
+use Rattle.gw_rehearse.specs.Together.{GoesOnBehind, IsPairOf, Together, is_lost, PairNow, StaysSound}
+use Rattle.gw_rehearse.proofs.Stories.{opens_same, ended_over, ended_none, ended_one}
 
 pub neither : (a b : Bool) → (a || b) ≡ false → (a ≡ false) × (b ≡ false)
 neither true b e = absurd (true≢false e)
 neither false b e = (refl, e)
+
+pub neither_is : (a b : Bool) → a ≡ false → b ≡ false → (a || b) ≡ false
+neither_is a b e f = ap (λ (x : Bool). x || b) e ∙ f
 
 pub lost_back : (a b a' b' : Bool) → (a' ≡ false → a ≡ false) → (b' ≡ false → b ≡ false) → (a' || b') ≡ false → (a || b) ≡ false
 lost_back a b a' b' left right e =
@@ -36,6 +42,7 @@ lost_back a b a' b' left right e =
 pub is_over : (s : Standing) → is_going s ≡ false → is_given s ≡ false → s ≡ standings.Over
 is_over standings.Over going given = refl
 is_over standings.Open going given = absurd (true≢false going)
+is_over standings.Failed going given = absurd (true≢false going)
 is_over standings.GivenUp going given = absurd (true≢false given)
 
 -- it stays so over several calls
@@ -44,6 +51,9 @@ stays_self p = record { client = refl; server = refl; sound = λ e. e }
 
 pub stays_on : (p q r : PairNow) → StaysSound p q → StaysSound q r → StaysSound p r
 stays_on p q r s t = record { client = t.client ∙ s.client; server = t.server ∙ s.server; sound = λ e. t.sound (s.sound e) }
+
+pub pair_on : (script : Script) (p q : PairNow) → IsPairOf script p → StaysSound p q → IsPairOf script q
+pair_on script p q is s = record { client = s.client ∙ is.client; server = s.server ∙ is.server }
 
 -- one more connection of both is paired
 pub paired_more : (ls ms ks ns : List TurnedLeg) (a b : TurnedLeg) → AllZip ReadEachOther (ls ++ ms) (ks ++ ns) → ReadEachOther a b → AllZip ReadEachOther (ls ++ (ms ++ a ∷ [])) (ks ++ (ns ++ b ∷ []))
@@ -83,9 +93,11 @@ stands_same b legs e e' s k = record {
 runs_same : (b : Beginning) (past : List TurnedLeg) (leg : TurnedLeg) (e e' : DrivenEnd) → SameEnd e e' → RunsOver b past leg e → RunsOver b past leg e'
 runs_same b past leg e e' s k = record {
   opens = opens_same b e e' s.gate k.opens;
-  uncut = k.uncut;
   inbox = k.inbox;
-  holds = subst (λ box. HoldsBox box k.inbox []) (sym s.inbox) k.holds;
+  refused = k.refused;
+  holds = subst (λ box. HoldsBox box k.inbox k.refused) (sym s.inbox) k.holds;
+  whole = λ whole. k.whole (ap is_failed (sym s.standing) ∙ whole);
+  failed = λ failed closing has. k.failed (sym s.standing ∙ failed) closing (subst (λ p. Has (entries closing) (known p).seen) s.pass has);
   during = λ going. subst (λ (x : EndNow). During b past leg x) (now_same e e' k.inbox s) (k.during (sym s.standing ∙ going));
   between = λ over. subst (λ (x : EndNow). Between b (past ++ leg ∷ []) x) (now_same e e' k.inbox s) (k.between (sym s.standing ∙ over));
 }
@@ -213,10 +225,10 @@ module _ (client server : Flow) where
   both_ended i a p over over_a = all_over i a i a p (λ b past leg first k. ended_over b past leg i over k) (λ b past leg first k. ended_over b past leg a over_a k)
 
   -- and where the connection that stands is cut, if one stands
-  pub both_cut : (i a i' a' : DrivenEnd) (pipe : Option Held) → ((b : Beginning) (past : List TurnedLeg) (leg : TurnedLeg) → Awaits b → RunsOver b past leg i → is_given i.standing ≡ false → StandsBehind b (past ++ leg ∷ []) i')
-      → (i.standing ≡ standings.Over → i' ≡ i) → ((b : Beginning) (past : List TurnedLeg) (leg : TurnedLeg) → Awaits b → RunsOver b past leg a → is_given a.standing ≡ false → StandsBehind b (past ++ leg ∷ []) a')
-      → (a.standing ≡ standings.Over → a' ≡ a) → is_lost i a ≡ false → Together client server i a pipe → Together client server i' a' None
-  both_cut i a i' a' None over rests over_a rests_a sound t = record {
+  pub both_cut : (i a i' a' : DrivenEnd) (pipe : Option Held) → ((b : Beginning) (past : List TurnedLeg) (leg : TurnedLeg) → Awaits b → RunsOver b past leg i → is_given i.standing ≡ false → is_failed i.standing ≡ false → StandsBehind b (past ++ leg ∷ []) i')
+      → (i.standing ≡ standings.Over → i' ≡ i) → ((b : Beginning) (past : List TurnedLeg) (leg : TurnedLeg) → Awaits b → RunsOver b past leg a → is_given a.standing ≡ false → is_failed a.standing ≡ false → StandsBehind b (past ++ leg ∷ []) a')
+      → (a.standing ≡ standings.Over → a' ≡ a) → is_lost i a ≡ false → is_failed i.standing ≡ false → is_failed a.standing ≡ false → Together client server i a pipe → Together client server i' a' None
+  both_cut i a i' a' None over rests over_a rests_a sound whole whole_a t = record {
     lives = t.lives;
     lives_a = t.lives_a;
     past = t.past;
@@ -227,9 +239,9 @@ module _ (client server : Flow) where
       subst (λ (e : DrivenEnd). StandsBehind t.lives_a.begins t.past_a e) (sym (rests_a t.meet.1.over)) t.meet.1,
     );
   }
-  both_cut i a i' a' (Some p) over rests over_a rests_a sound t =
+  both_cut i a i' a' (Some p) over rests over_a rests_a sound whole whole_a t =
       let parts = neither (is_given i.standing) (is_given a.standing) sound in
-      all_over i a i' a' p (λ b past leg first k. over b past leg first k parts.0) (λ b past leg first k. over_a b past leg first k parts.1) t
+      all_over i a i' a' p (λ b past leg first k. over b past leg first k parts.0 whole) (λ b past leg first k. over_a b past leg first k parts.1 whole_a) t
 
   -- behind a round the pipe stands where the connection goes on
   pub round_behind : (i a : DrivenEnd) (q : Held) (b : Bool) (o : Option Held) → o ≡ (if b then Some q else None) → b ≡ (is_going i.standing || is_going a.standing) → is_lost i a ≡ false
@@ -239,3 +251,71 @@ module _ (client server : Flow) where
       let parts = neither (is_given i.standing) (is_given a.standing) sound in
       let over = neither (is_going i.standing) (is_going a.standing) (sym going) in
       subst (λ (x : Option Held). Together client server i a x) (sym is) (both_ended i a q (is_over i.standing over.0 parts.0) (is_over a.standing over.1 parts.1) t)
+
+  -- the initiator goes on from its journals, as its life is over and the connection that stood is given up by the acceptor
+  pub initiator_next : (i a i' a' : DrivenEnd) (pipe : Option Held) → ((b : Beginning) (past : List TurnedLeg) (leg : TurnedLeg) → Awaits b → RunsOver b past leg a → is_given a.standing ≡ false → is_failed a.standing ≡ false
+      → StandsBehind b (past ++ leg ∷ []) a') → (a.standing ≡ standings.Over → a' ≡ a) → is_lost i a ≡ false → is_failed a.standing ≡ false → GoesOnBehind client server i i' → Together client server i a pipe
+      → ∥ Together client server i' a' None ∥₁
+  initiator_next i a i' a' None over rests sound whole n t =
+      ∥∥₁_map (n.next t.lives t.past (ended_none t.lives.begins t.past i t.lives.began.awaits t.meet.0)) (λ x. record {
+        lives = x.lives;
+        lives_a = t.lives_a;
+        past = [];
+        past_a = t.past_a;
+        paired = subst (λ (ts : List TurnedLeg). AllZip ReadEachOther ts (t.lives_a.legs ++ t.past_a)) (sym (append-nil x.lives.legs ∙ x.legs_are)) t.paired;
+        meet = (x.stands, subst (λ (e : DrivenEnd). StandsBehind t.lives_a.begins t.past_a e) (sym (rests t.meet.1.over)) t.meet.1);
+      })
+  initiator_next i a i' a' (Some p) over rests sound whole n t =
+      let k = t.meet in
+      let parts = neither (is_given i.standing) (is_given a.standing) sound in
+      ∥∥₁_map (n.next t.lives (t.past ++ k.leg ∷ []) (ended_one t.lives.begins t.past k.leg i t.lives.began.awaits parts.0 k.runs)) (λ x. record {
+        lives = x.lives;
+        lives_a = t.lives_a;
+        past = [];
+        past_a = t.past_a ++ k.leg_a ∷ [];
+        paired = subst (λ (ts : List TurnedLeg). AllZip ReadEachOther ts (t.lives_a.legs ++ (t.past_a ++ k.leg_a ∷ []))) (sym (append-nil x.lives.legs ∙ x.legs_are))
+            (paired_more t.lives.legs t.past t.lives_a.legs t.past_a k.leg k.leg_a t.paired (read k.leg k.leg_a p.to_left p.to_right k.way));
+        meet = (x.stands, over t.lives_a.begins t.past_a k.leg_a t.lives_a.began.awaits k.runs_a parts.1 whole);
+      })
+
+  -- and so the acceptor
+  pub acceptor_next : (i a i' a' : DrivenEnd) (pipe : Option Held) → ((b : Beginning) (past : List TurnedLeg) (leg : TurnedLeg) → Awaits b → RunsOver b past leg i → is_given i.standing ≡ false → is_failed i.standing ≡ false
+      → StandsBehind b (past ++ leg ∷ []) i') → (i.standing ≡ standings.Over → i' ≡ i) → is_lost i a ≡ false → is_failed i.standing ≡ false → GoesOnBehind server client a a' → Together client server i a pipe
+      → ∥ Together client server i' a' None ∥₁
+  acceptor_next i a i' a' None over rests sound whole n t =
+      ∥∥₁_map (n.next t.lives_a t.past_a (ended_none t.lives_a.begins t.past_a a t.lives_a.began.awaits t.meet.1)) (λ x. record {
+        lives = t.lives;
+        lives_a = x.lives;
+        past = t.past;
+        past_a = [];
+        paired = subst (λ (ts : List TurnedLeg). AllZip ReadEachOther (t.lives.legs ++ t.past) ts) (sym (append-nil x.lives.legs ∙ x.legs_are)) t.paired;
+        meet = (subst (λ (e : DrivenEnd). StandsBehind t.lives.begins t.past e) (sym (rests t.meet.0.over)) t.meet.0, x.stands);
+      })
+  acceptor_next i a i' a' (Some p) over rests sound whole n t =
+      let k = t.meet in
+      let parts = neither (is_given i.standing) (is_given a.standing) sound in
+      ∥∥₁_map (n.next t.lives_a (t.past_a ++ k.leg_a ∷ []) (ended_one t.lives_a.begins t.past_a k.leg_a a t.lives_a.began.awaits parts.1 k.runs_a)) (λ x. record {
+        lives = t.lives;
+        lives_a = x.lives;
+        past = t.past ++ k.leg ∷ [];
+        past_a = [];
+        paired = subst (λ (ts : List TurnedLeg). AllZip ReadEachOther (t.lives.legs ++ (t.past ++ k.leg ∷ [])) ts) (sym (append-nil x.lives.legs ∙ x.legs_are))
+            (paired_more t.lives.legs t.past t.lives_a.legs t.past_a k.leg k.leg_a t.paired (read k.leg k.leg_a p.to_left p.to_right k.way));
+        meet = (over t.lives.begins t.past k.leg t.lives.began.awaits k.runs parts.0 whole, x.stands);
+      })
+
+  -- so it is of a pair in which the initiator is stopped, whatever its senders do then
+  pub initiator_on : (i a i' i'' a' : DrivenEnd) (pipe : Option Held) → ((b : Beginning) (past : List TurnedLeg) (leg : TurnedLeg) → Awaits b → RunsOver b past leg a → is_given a.standing ≡ false → is_failed a.standing ≡ false
+      → StandsBehind b (past ++ leg ∷ []) a') → (a.standing ≡ standings.Over → a' ≡ a) → is_lost i a ≡ false → is_failed a.standing ≡ false → GoesOnBehind client server i i' → i'' ≡ record i' { senders = i''.senders }
+      → (is_lost i a ≡ false → ∥ Together client server i a pipe ∥₁) → ∥ Together client server i'' a' None ∥₁
+  initiator_on i a i' i'' a' pipe over rests sound whole n same k =
+      ∥∥₁_elim (k sound) ∥∥₁_prop (λ t. ∥∥₁_map (initiator_next i a i' a' pipe over rests sound whole n t) (λ u. together_same i' i'' a' None (same_of i' i'' same) u))
+
+  pub acceptor_on : (i a i' a' : DrivenEnd) (pipe : Option Held) → ((b : Beginning) (past : List TurnedLeg) (leg : TurnedLeg) → Awaits b → RunsOver b past leg i → is_given i.standing ≡ false → is_failed i.standing ≡ false
+      → StandsBehind b (past ++ leg ∷ []) i') → (i.standing ≡ standings.Over → i' ≡ i) → is_lost i a ≡ false → is_failed i.standing ≡ false → GoesOnBehind server client a a'
+      → (is_lost i a ≡ false → ∥ Together client server i a pipe ∥₁) → ∥ Together client server i' a' None ∥₁
+  acceptor_on i a i' a' pipe over rests sound whole n k = ∥∥₁_elim (k sound) ∥∥₁_prop (λ t. acceptor_next i a i' a' pipe over rests sound whole n t)
+
+-- the same by flows that are those
+pub behind_as : (own peer own' peer' : Flow) (e e' : DrivenEnd) → own' ≡ own → peer' ≡ peer → GoesOnBehind own peer e e' → GoesOnBehind own' peer' e e'
+behind_as own peer own' peer' e e' is is_peer n = subst (λ (f : Flow). GoesOnBehind f peer' e e') (sym is) (subst (λ (f : Flow). GoesOnBehind own f e e') (sym is_peer) n)

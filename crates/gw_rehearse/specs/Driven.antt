@@ -1,7 +1,7 @@
 -- What is known of an end that is driven, over the connections that it had (this project's profile).
 use Rattle.std.specs.Prelude.{◌≡◌, ℕ, ◌*◌, ◌^◌, ◌<◌, List, [], ◌∷◌, ◌++◌, false, None, Option, vec_len}
 use Rattle.gw_links.specs.Links.{LinkTold, Steps}
-use Rattle.session_model.specs.Journal.{History, BeginsHistory, OutboxRecord}
+use Rattle.session_model.specs.Journal.{History, BeginsHistory, OutboxRecord, entries}
 use Rattle.session_model.specs.Inbox.{InboxRecord}
 use Rattle.fixp_msgs.specs.declared.flow.Flow.{Flow}
 use Rattle.fixp_shake.specs.declared.config.EndConfig.{EndConfig}
@@ -14,14 +14,15 @@ use Rattle.gate_turn.specs.Places.{known}
 use Rattle.gate_senders.specs.Gate.{opening_of}
 use Rattle.conn_loop.specs.Conn.{line_of, new_line}
 use Rattle.conn_loop.specs.declared.conn.Conn.{Conn}
+use Rattle.turn_laws.specs.Standing.{Has}
 use Rattle.turn_laws.specs.Legs.{TurnedLeg}
 use Rattle.two_ends.specs.Driving.{EndNow, Beginning, Awaits, Between, During}
 use Rattle.two_ends.specs.Pairing.{Carries}
-use Rattle.two_ends.specs.Stories.{Began}
+use Rattle.two_ends.specs.Stories.{Began, IsOver}
 use Rattle.gw_rehearse.specs.declared.end.DrivenEnd.{DrivenEnd}
 use Rattle.gw_rehearse.specs.declared.journals.Journals.{Journals}
 use Rattle.gw_rehearse.specs.declared.standing.Standing.TheVariants as standings
-use Rattle.gw_rehearse.specs.Standing.{HasSeats, Stands, is_given}
+use Rattle.gw_rehearse.specs.Standing.{HasSeats, Stands, is_given, is_failed}
 
 -- its passes are where they belong, and it stands where it can go on
 abbrev pub IsDriven : DrivenEnd → Type 0
@@ -50,14 +51,16 @@ pub record StandsBehind (b : Beginning) (legs : List TurnedLeg) (e : DrivenEnd) 
   pub holds : HoldsBox e.inbox inbox []
   pub between : Between b legs (now_of e inbox)
 
--- behind connections that are over it had one over the pipe that stands, which goes on or is over too
+-- behind connections that are over it had one over the pipe that stands, which goes on, or is over too, or was cut short as a call of a disk failed
 pub record RunsOver (b : Beginning) (past : List TurnedLeg) (leg : TurnedLeg) (e : DrivenEnd) : Type 0 where
   pub opens : OpensWith b e
-  pub uncut : leg.cut ≡ None
   pub inbox : List InboxRecord
-  pub holds : HoldsBox e.inbox inbox []
+  pub refused : List InboxRecord
+  pub holds : HoldsBox e.inbox inbox refused
+  pub whole : is_failed e.standing ≡ false → (refused ≡ []) × (leg.cut ≡ None)
   pub during : e.standing ≡ standings.Open → During b past leg (now_of e inbox)
   pub between : e.standing ≡ standings.Over → Between b (past ++ leg ∷ []) (now_of e inbox)
+  pub failed : e.standing ≡ standings.Failed → (closing : List OutboxRecord) → Has (entries closing) (known e.pass).seen → IsOver closing b (past ++ leg ∷ []) inbox refused
 
 -- that connection goes on by what its link gave and took
 pub record TurnedOn (b : Beginning) (past : List TurnedLeg) (leg : TurnedLeg) (e : DrivenEnd) (told told' : Option LinkTold) : Type 0 where
@@ -83,10 +86,21 @@ pub record BeginsOn (own peer : Flow) (outbox : List OutboxRecord) (inbox : List
   pub began : Began own peer (beginning_on machine outbox inbox)
   pub stands : StandsBehind (beginning_on machine outbox inbox) [] e
 
+-- Its life is over, however it ended: it had these connections, also the one that was cut short, if one was; over each outbox that begins with what its
+-- pass has seen its inbox came to this list, and a stop may leave a beginning of what was refused behind it
+pub record IsEnded (b : Beginning) (legs : List TurnedLeg) (e : DrivenEnd) : Type 0 where
+  pub opens : OpensWith b e
+  pub inbox : List InboxRecord
+  pub refused : List InboxRecord
+  pub holds : HoldsBox e.inbox inbox refused
+  pub over : (closing : List OutboxRecord) → Has (entries closing) (known e.pass).seen → IsOver closing b legs inbox refused
+
 -- the journals of an end: its outbox stands for a history that begins with the one on which it opened, and with what its pass has seen, and its inbox is
 -- as it was
 pub record ClosedOn (e : DrivenEnd) (j : Journals) : Type 0 where
   pub history : History
+  pub refused : List OutboxRecord
+  pub holds : ∥ outboxes.HoldsBox j.outbox history refused ∥₁
   pub stands : ∥ outboxes.StandsFor j.outbox history ∥₁
   pub few : outboxes.front_of j.outbox < 2 ^ 40
   pub opened : BeginsHistory (opening_of e.gate).history history

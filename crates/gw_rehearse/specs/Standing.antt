@@ -1,5 +1,5 @@
 -- What holds of an end between the calls that drive it (this project's profile).
-use Rattle.std.specs.Prelude.{◌≡◌, ℕ, ◌+◌, ◌<◌, ◌≤◌, ◌^◌, Bool, true, false, List, length, map, slice_index_or, IsSome, Result, Ok, Err}
+use Rattle.std.specs.Prelude.{◌≡◌, ℕ, ◌+◌, ◌<◌, ◌≤◌, ◌^◌, Bool, true, false, List, length, map, slice_index_or, IsSome, Result, Ok, Err, ⊤}
 use Rattle.jr_dated.specs.declared.journal.Journal.{Ghosts}
 use Rattle.jr_kept.specs.declared.inbox.Inbox.{Inbox}
 use Rattle.gate_turn.specs.Views.{Part}
@@ -19,6 +19,8 @@ use Rattle.conn_turns.specs.declared.answer.TurnFault.{TurnFault}
 use Rattle.conn_turns.specs.declared.answer.TurnFault.TheVariants as faults
 use Rattle.conn_steps.specs.Agreeing.{Agrees}
 use Rattle.conn_loop.specs.Conn.{GoesOn, HasSeen}
+use Rattle.conn_loop.specs.Live.{EndAt}
+use Rattle.turn_laws.specs.Turned.{WasTurn, WasCut}
 use Rattle.fixp_machine.specs.Machine.{State}
 use Rattle.gw_rehearse.specs.declared.standing.Standing.{Standing}
 use Rattle.gw_rehearse.specs.declared.standing.Standing.TheVariants as standings
@@ -28,25 +30,41 @@ abbrev pub standing_of : Result TurnEnd TurnFault → Standing
 standing_of (Ok ends.Go) = standings.Open
 standing_of (Ok (ends.Ended ending)) = standings.Over
 standing_of (Err faults.Link) = standings.Over
-standing_of (Err faults.Inbox) = standings.GivenUp
-standing_of (Err faults.Outbox) = standings.GivenUp
+standing_of (Err faults.Inbox) = standings.Failed
+standing_of (Err faults.Outbox) = standings.Failed
 standing_of (Err (faults.Changed at)) = standings.GivenUp
-standing_of (Err faults.Broken) = standings.GivenUp
+standing_of (Err faults.Broken) = standings.Failed
 standing_of (Err (faults.Full entries bytes)) = standings.GivenUp
 standing_of (Err faults.Memory) = standings.GivenUp
 
--- whether a connection goes on, and whether nothing follows
+-- whether a connection is not over, and whether nothing follows
 abbrev pub is_going : Standing → Bool
 is_going standings.Over = false
 is_going standings.Open = true
+is_going standings.Failed = true
 is_going standings.GivenUp = false
 
 abbrev pub is_given : Standing → Bool
 is_given standings.Over = false
 is_given standings.Open = false
+is_given standings.Failed = false
 is_given standings.GivenUp = true
 
+-- whether a call of a disk failed
+abbrev pub is_failed : Standing → Bool
+is_failed standings.Over = false
+is_failed standings.Open = false
+is_failed standings.Failed = true
+is_failed standings.GivenUp = false
+
 module _ {J : Type 0} {G : Ghosts J} where
+  -- what a turn was, behind which an end stands so: a whole one; or one that was cut short, as a call of a disk failed
+  abbrev pub WasMade : Standing → (eager : Bool) (before after : ℕ) (old new : EndAt J G) → Type 0
+  WasMade standings.Over eager before after old new = WasTurn ⊤ eager before after old new
+  WasMade standings.Open eager before after old new = WasTurn ⊤ eager before after old new
+  WasMade standings.Failed eager before after old new = (fault : TurnFault) × WasCut eager before after old new fault
+  WasMade standings.GivenUp eager before after old new = ⊤
+
   -- of a gate for so many senders each sender has its pass, the connection has its own, and the list has none
   pub record HasSeats (gate : Gate J G) (passes : Passes (Kept J G)) (senders : List (Sender J G)) (count : ℕ) (p : Pass (Kept J G)) : Type 0 where
     pub few : count ≤ 16

@@ -13,10 +13,11 @@ use Rattle.two_ends.specs.Meeting.{Holds}
 use Rattle.two_ends.specs.Driving.{Beginning}
 use Rattle.two_ends.specs.Pairing.{ReadEachOther, UnderWay}
 use Rattle.two_ends.specs.Stories.{Began, Story}
+use Rattle.cmd_script.specs.declared.script.Script.{Script}
 use Rattle.gw_rehearse.specs.declared.end.DrivenEnd.{DrivenEnd}
 use Rattle.gw_rehearse.specs.declared.journals.Journals.{Journals}
 use Rattle.gw_rehearse.specs.Standing.{is_given}
-use Rattle.gw_rehearse.specs.Driven.{StandsBehind, RunsOver}
+use Rattle.gw_rehearse.specs.Driven.{StandsBehind, RunsOver, IsEnded}
 
 -- both have one more connection, over this pipe, and what is under way between them is in it
 pub record MeetOver (b b_a : Beginning) (past past_a : List TurnedLeg) (initiator acceptor : DrivenEnd) (pipe : Held) : Type 0 where
@@ -38,6 +39,16 @@ pub record Lives (own peer : Flow) : Type 0 where
   pub story : Story own peer legs begins.outbox begins.inbox
   pub began : Began own peer begins
 
+-- behind a life with these connections an end has begun its next one, on what a stop left of its journals
+pub record NextLife (own peer : Flow) (before : Lives own peer) (more : List TurnedLeg) (e : DrivenEnd) : Type 0 where
+  pub lives : Lives own peer
+  pub legs_are : lives.legs ≡ before.legs ++ more
+  pub stands : StandsBehind lives.begins [] e
+
+-- an end goes on from what a stop left of the journals of one whose life is over
+pub record GoesOnBehind (own peer : Flow) (old new : DrivenEnd) : Type 0 where
+  pub next : (l : Lives own peer) (legs : List TurnedLeg) → IsEnded l.begins legs old → ∥ NextLife own peer l legs new ∥₁
+
 -- Both are ends of one session, with these flows: each connection of one was one of the other's, in order, over all lives of both, and was given of
 -- what that sent; each is turns of its end, over the life in which it was, and the inboxes hold what the connections of the present lives added
 pub record Together (client server : Flow) (initiator acceptor : DrivenEnd) (pipe : Option Held) : Type 0 where
@@ -52,12 +63,18 @@ pub record Together (client server : Flow) (initiator acceptor : DrivenEnd) (pip
 abbrev pub is_lost : (initiator acceptor : DrivenEnd) → Bool
 is_lost initiator acceptor = is_given initiator.standing || is_given acceptor.standing
 
--- a pair to its callers: what the senders have submitted, its flows, and whether an end was given up
+-- a pair to its callers: what the senders have submitted, its flows, and whether an end was given up, or failed
 pub record PairNow : Type 0 where
   pub sent : List ℕ
   pub client : Flow
   pub server : Flow
   pub lost : Bool
+  pub failed : Bool
+
+-- its flows are those of a script
+pub record IsPairOf (script : Script) (p : PairNow) : Type 0 where
+  pub client : p.client ≡ script.link.client_flow
+  pub server : p.server ≡ script.link.server_flow
 
 -- it stays one of the same flows, of which no end is given up
 pub record StaysSound (old new : PairNow) : Type 0 where

@@ -7,11 +7,11 @@ ghost use Rattle.jr_dated.specs.Dated.{Dated};
 ghost use Rattle.jr_segments.specs.Journal.{StandsFor, broken_of, disk_of, limits_of};
 ghost use Rattle.jr_kept.specs.Outbox as outboxes;
 ghost use Rattle.jr_kept.specs.Inbox as inboxes;
-ghost use Rattle.gw_rehearse.specs.Stopped.{InboxIsLeft, LeavesImages, LeavesNoMore, OutboxIsLeft};
+ghost use Rattle.gw_rehearse.specs.Stopped.{DisksLeaveNoMore, InboxIsLeft, LeavesImages, LeavesNoMore, OutboxIsLeft};
 
-use crate::journals::{Log, MOST};
+use crate::journals::{Journals, Log, MOST};
 use fixp_msgs::Flow;
-use gw_fakes::MemDisk;
+use gw_fakes::{MemDisk, Pick};
 use jr_boxes::BoxFault;
 use jr_dated::Limits;
 use jr_kept::{Inbox, Outbox};
@@ -45,6 +45,48 @@ impl Disks {
             outbox: formatted(alloc)?,
             inbox: formatted(alloc)?,
         })
+    }
+
+    /// Both behind a stop: all of each as the pick says.
+    pub(crate) fn stop(self, pick: Pick) -> Disks
+        ensures { DisksLeaveNoMore self result }
+    {
+        let Disks { outbox, inbox } = self;
+        Disks {
+            outbox: outbox.stop(pick),
+            inbox: inbox.stop(pick),
+        }
+    }
+
+    /// Both, of each of which so many more calls pass.
+    pub(crate) fn fuse(self, calls: u64) -> Disks
+        ensures { DisksLeaveNoMore self result }
+    {
+        let Disks {
+            mut outbox,
+            mut inbox,
+        } = self;
+        outbox.fuse(calls);
+        inbox.fuse(calls);
+        Disks { outbox, inbox }
+    }
+}
+
+impl Journals {
+    /// The disks of both, as they stand.
+    pub(crate) fn into_disks(self) -> Disks
+        ensures outbox { result.outbox ≡ disk_of (outboxes.journal_of self.outbox) }
+        ensures inbox { result.inbox ≡ disk_of (inboxes.journal_of self.inbox) }
+    {
+        let Journals {
+            outbox,
+            inbox,
+            senders: _,
+        } = self;
+        Disks {
+            outbox: outbox.into_journal().close(),
+            inbox: inbox.into_journal().close(),
+        }
     }
 }
 

@@ -12,23 +12,29 @@ ghost use Rattle.gate_senders.specs.Gate.{opening_of};
 ghost use Rattle.conn_loop.specs.Conn.{line_of, new_line};
 ghost use Rattle.turn_laws.specs.Legs.{TurnedLeg};
 ghost use Rattle.two_ends.specs.Driving.{Beginning, Awaits, begun_leg};
-ghost use Rattle.cmd_script.specs.Script.{IsCount};
-ghost use Rattle.gw_rehearse.specs.Standing.{Rests, is_given, is_going, sent_by};
+ghost use Rattle.cmd_config.specs.Settings.{own_flow, peer_flow};
+ghost use Rattle.cmd_script.specs.Script.{IsCount, IsScript};
+ghost use Rattle.gw_rehearse.specs.Standing.{Rests, is_failed, is_given, is_going, sent_by};
 ghost use Rattle.gw_rehearse.specs.Driven.{BeginsOn, ClosedOn, IsDriven, IsMadeOf, RunsOver, StandsBehind, TurnsOn};
 ghost use Rattle.gw_rehearse.specs.Stopped.{BeginsOnLeft, DisksLeaveNoMore};
 ghost use Rattle.gw_rehearse.specs.Summaries.{counts_to};
+ghost use Rattle.gw_rehearse.specs.Together.{GoesOnBehind};
 ghost use Rattle.gw_rehearse.specs.declared.standing.Standing.TheVariants as standings;
 
+use crate::configs::config_of;
 use crate::disks::{Disks, open_inbox, open_outbox};
 use crate::journals::{Journals, Log, MOST};
-use crate::senders::{finish, have_sent, submit_next};
+use crate::senders::{finish, go_on, have_sent, submit_next};
 use crate::standing::Standing;
 use crate::turning::make_turn;
+use cmd_script::Script;
 use conn_loop::{Conn, News};
 use fixp_end::{End, EndConfig, EndState, Ending};
+use fixp_shake::Role;
 use gate_plans::{Sender, give_last, seat, take_last, unseat};
 use gate_senders::{Gate, Kept};
 use gate_turn::{Pass, Passes};
+use gw_fakes::Pick;
 use gw_link_fakes::MemClock;
 use gw_links::Link;
 use jr_kept::{Inbox, Outbox};
@@ -130,19 +136,21 @@ impl DrivenEnd {
         ensures first { IfSome result (λ end. ∥ BeginsOn config.own_flow config.peer_flow [] [] end ∥₁) }
     {
         let disks = Disks::formatted(alloc)?;
-        match DrivenEnd::reopen(alloc, config, disks, senders) {
+        match DrivenEnd::reopen(alloc, config, disks, senders, false) {
             Ok(end) => Some(end),
             Err(_) => None,
         }
     }
 
-    /// An end over the journals of these disks, with so many senders, which has begun no connection. The disks come back where a call of one
+    /// An end over the journals of these disks, with so many senders, which has begun no connection, and which has finished in an earlier life
+    /// or not. The disks come back where a call of one
     /// failed; none do where memory runs out, or a journal has too many records.
     pub(crate) fn reopen(
         alloc: Global,
         config: EndConfig,
         disks: Disks,
         senders: u16,
+        finished: bool,
     ) -> Result<DrivenEnd, Option<Disks>>
         requires keepalive { (100 ≤ config.keepalive) × (config.keepalive ≤ 60000) }
         requires credentials { length config.credentials ≤ 2048 }
@@ -167,7 +175,7 @@ impl DrivenEnd {
             }
             Err(None) => return Err(None),
         };
-        match DrivenEnd::over(alloc, config, outbox, inbox, senders) {
+        match DrivenEnd::over(alloc, config, outbox, inbox, senders, finished) {
             Some(end) => Ok(end),
             None => Err(None),
         }
@@ -181,6 +189,7 @@ impl DrivenEnd {
         outbox: Outbox<Log>,
         inbox: Inbox<Log>,
         senders: u16,
+        finished: bool,
     ) -> Option<DrivenEnd>
         requires keepalive { (100 ≤ config.keepalive) × (config.keepalive ≤ 60000) }
         requires credentials { length config.credentials ≤ 2048 }
@@ -216,18 +225,25 @@ impl DrivenEnd {
             news: News::new(alloc),
             standing: Standing::Over,
             turns: 0,
-            finished: false,
+            finished,
         })
     }
 
-    /// Whether a connection goes on.
-    pub(crate) fn is_open(&self) -> bool
+    /// Whether a connection is not over.
+    pub(crate) fn is_going(&self) -> bool
         ensures { result ≡ is_going self.now.standing }
     {
-        matches!(self.standing, Standing::Open)
+        matches!(self.standing, Standing::Open | Standing::Failed)
     }
 
-    /// Whether a turn failed otherwise than by its link, so that nothing follows.
+    /// Whether a call of a disk failed in a turn, so that the end is to be stopped.
+    pub(crate) fn has_failed(&self) -> bool
+        ensures { result ≡ is_failed self.now.standing }
+    {
+        matches!(self.standing, Standing::Failed)
+    }
+
+    /// Whether memory ran out in a turn, or the room of a journal, so that nothing follows.
     pub(crate) fn is_given_up(&self) -> bool
         ensures { result ≡ is_given self.now.standing }
     {
@@ -335,7 +351,7 @@ impl DrivenEnd {
         ensures driven { IsDriven self.new }
         ensures inbox { self.new.inbox ≡ self.old.inbox }
         ensures given { is_given self.new.standing ≡ is_given self.old.standing }
-        ensures over { (b : Beginning) (past : List TurnedLeg) (leg : TurnedLeg) → Awaits b → RunsOver b past leg self.old → is_given self.old.standing ≡ false → StandsBehind b (past ++ leg ∷ []) self.new }
+        ensures over { (b : Beginning) (past : List TurnedLeg) (leg : TurnedLeg) → Awaits b → RunsOver b past leg self.old → is_given self.old.standing ≡ false → is_failed self.old.standing ≡ false → StandsBehind b (past ++ leg ∷ []) self.new }
         ensures rests { self.old.standing ≡ standings.Over → self.new ≡ self.old }
     {
         let Standing::Open = self.standing else {
@@ -343,6 +359,52 @@ impl DrivenEnd {
         };
         let _ = self.conn.cut();
         self.standing = Standing::Over;
+    }
+
+    /// Has each sender go on behind what the outbox has of it, where the end goes on from its journals.
+    ///
+    /// # Errors
+    /// Want of memory.
+    pub(crate) fn go_on<R: Wait>(
+        &mut self,
+        alloc: Global,
+        messages: &[u64],
+        rt: &R,
+    ) -> Result<(), AllocError>
+        requires counts { All IsCount messages.now }
+        requires driven { IsDriven self.old }
+        ensures driven { IsDriven self.new }
+        ensures same { self.new ≡ record self.old { senders = self.new.senders } }
+    {
+        go_on(alloc, &self.gate, &mut self.senders, messages, rt)
+    }
+
+    /// The end goes on from its disks: once they were stopped as the pick says, or, where there is a fuse, with so many more calls of each. Where
+    /// one fails in the opening, it is stopped at once. Answers the end, and whether it is still to be stopped; none where memory runs out.
+    pub(crate) fn restart(
+        self,
+        alloc: Global,
+        script: &Script,
+        role: Role,
+        fuse: Option<u32>,
+        pick: Pick,
+    ) -> Option<(DrivenEnd, bool)>
+        requires script { IsScript script.now }
+        requires driven { IsDriven self }
+        ensures driven { IfSome result (λ r. IsDriven r.0) }
+        ensures sound { IfSome result (λ r. is_given r.0.standing ≡ false) }
+        ensures next { IfSome result (λ r. GoesOnBehind (own_flow role script.now.link.client_flow script.now.link.server_flow) (peer_flow role script.now.link.client_flow script.now.link.server_flow) self r.0) }
+    {
+        let finished = self.finished;
+        let journals = self.close();
+        let senders = journals.senders;
+        let disks = journals.into_disks();
+        match fuse {
+            None => reopen_stopped(alloc, script, role, disks, pick, senders, finished),
+            Some(after) => {
+                reopen_fused(alloc, script, role, disks, after, pick, senders, finished)
+            }
+        }
     }
 
     /// Its journals.
@@ -371,5 +433,78 @@ impl DrivenEnd {
             inbox,
             senders: count,
         }
+    }
+}
+
+/// The end of a role over the journals of these disks. The disks come back where a call of one failed; none do where memory runs out.
+fn reopen_as(
+    alloc: Global,
+    script: &Script,
+    role: Role,
+    disks: Disks,
+    senders: u16,
+    finished: bool,
+) -> Result<DrivenEnd, Option<Disks>>
+    requires script { IsScript script.now }
+    requires senders { senders ≤ 16 }
+    ensures driven { IfOk result (λ end. IsDriven end) }
+    ensures sound { IfOk result (λ end. is_given end.standing ≡ false) }
+    ensures begins { IfOk result (λ end. ∥ BeginsOnLeft (own_flow role script.now.link.client_flow script.now.link.server_flow) (peer_flow role script.now.link.client_flow script.now.link.server_flow) disks end ∥₁) }
+    ensures returned { IfErr result (λ o. IfSome o (DisksLeaveNoMore disks)) }
+{
+    let Ok(config) = config_of(alloc, script, role) else {
+        return Err(None);
+    };
+    DrivenEnd::reopen(alloc, config, disks, senders, finished)
+}
+
+/// The end of a role over the journals of these disks, once they were stopped, which is not to be stopped again; none where memory runs out.
+fn reopen_stopped(
+    alloc: Global,
+    script: &Script,
+    role: Role,
+    disks: Disks,
+    pick: Pick,
+    senders: u16,
+    finished: bool,
+) -> Option<(DrivenEnd, bool)>
+    requires script { IsScript script.now }
+    requires senders { senders ≤ 16 }
+    ensures driven { IfSome result (λ r. IsDriven r.0) }
+    ensures sound { IfSome result (λ r. is_given r.0.standing ≡ false) }
+    ensures begins { IfSome result (λ r. ∥ BeginsOnLeft (own_flow role script.now.link.client_flow script.now.link.server_flow) (peer_flow role script.now.link.client_flow script.now.link.server_flow) disks r.0 ∥₁) }
+{
+    let stopped = disks.stop(pick);
+    match reopen_as(alloc, script, role, stopped, senders, finished) {
+        Ok(end) => Some((end, false)),
+        Err(_) => None,
+    }
+}
+
+/// The end of a role over the journals of these disks, of each of which `after` more calls pass. Where one fails in the opening they are
+/// stopped at once. Answers the end, and whether it is still to be stopped; none where memory runs out.
+fn reopen_fused(
+    alloc: Global,
+    script: &Script,
+    role: Role,
+    disks: Disks,
+    after: u32,
+    pick: Pick,
+    senders: u16,
+    finished: bool,
+) -> Option<(DrivenEnd, bool)>
+    requires script { IsScript script.now }
+    requires senders { senders ≤ 16 }
+    ensures driven { IfSome result (λ r. IsDriven r.0) }
+    ensures sound { IfSome result (λ r. is_given r.0.standing ≡ false) }
+    ensures begins { IfSome result (λ r. ∥ BeginsOnLeft (own_flow role script.now.link.client_flow script.now.link.server_flow) (peer_flow role script.now.link.client_flow script.now.link.server_flow) disks r.0 ∥₁) }
+{
+    let fused = disks.fuse(u64::from(after));
+    match reopen_as(alloc, script, role, fused, senders, finished) {
+        Ok(end) => Some((end, true)),
+        Err(Some(failed)) => {
+            reopen_stopped(alloc, script, role, failed, pick, senders, finished)
+        }
+        Err(None) => None,
     }
 }

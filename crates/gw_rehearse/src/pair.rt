@@ -9,15 +9,16 @@ ghost use Rattle.cmd_config.specs.Settings.{own_flow, peer_flow};
 ghost use Rattle.cmd_script.specs.Script.{IsCount, IsScript};
 ghost use Rattle.gw_rehearse.specs.Standing.{is_given, is_going};
 ghost use Rattle.gw_rehearse.specs.Driven.{BeginsOn, IsDriven, TurnsOn};
-ghost use Rattle.gw_rehearse.specs.Together.{KeepsSession, StaysSound, Together, is_lost};
+ghost use Rattle.gw_rehearse.specs.Together.{IsPairOf, KeepsSession, StaysSound, Together, is_lost};
 ghost use Rattle.gw_rehearse.specs.Summaries.{counts_to};
 
+use crate::configs::config_of;
 use crate::end::DrivenEnd;
 use crate::journals::Journals;
-use cmd_config::{Link, own_flow, peer_flow};
 use cmd_script::{Script, Step};
 use fixp_msgs::Flow;
-use fixp_shake::{EndConfig, Role};
+use fixp_shake::Role;
+use gw_fakes::Pick;
 use gw_link_fakes::{MemClock, Pipe};
 use std::alloc::{AllocError, Global};
 use std::marker::Model;
@@ -36,7 +37,16 @@ pub(crate) struct Pair {
     /// The flow that the initiator sends, and the one that the acceptor sends.
     client: Flow,
     server: Flow,
+    /// The stop that is to come, where one is.
+    pending: Option<Stop>,
     alloc: Global,
+}
+
+/// A stop: of which end, and what it leaves of the journals.
+#[derive(Clone, Copy, Drop)]
+struct Stop {
+    end: Role,
+    pick: Pick,
 }
 
 /// An end was given up for want of memory, or of room in a journal, which is memory too.
@@ -47,44 +57,6 @@ impl From<AllocError> for Spent {
     fn from(_error: AllocError) -> Spent {
         Spent
     }
-}
-
-/// The session of a script, 16 bytes.
-fn session_of(link: &Link) -> [u8; 16]
-    ensures long { length result ≡ 16 }
-{
-    let session = link.session;
-    sized(session)
-}
-
-/// A session, which has 16 bytes.
-fn sized(session: [u8; 16]) -> [u8; 16]
-    ensures long { length result ≡ 16 }
-{
-    session
-}
-
-/// The configuration of the end of a role.
-fn config_of(alloc: Global, script: &Script, role: Role) -> Result<EndConfig, AllocError>
-    requires { IsScript script.now }
-    ensures own { IfOk result (λ c. c.own_flow ≡ own_flow role script.now.link.client_flow script.now.link.server_flow) }
-    ensures peer { IfOk result (λ c. c.peer_flow ≡ peer_flow role script.now.link.client_flow script.now.link.server_flow) }
-    ensures session { IfOk result (λ c. length c.session ≡ 16) }
-    ensures keepalive { IfOk result (λ c. (100 ≤ c.keepalive) × (c.keepalive ≤ 60000)) }
-    ensures credentials { IfOk result (λ c. length c.credentials ≤ 2048) }
-{
-    let link = &script.link;
-    let session = session_of(link);
-    let credentials = link.credentials.copy(alloc)?;
-    Ok(EndConfig {
-        role,
-        session,
-        own_flow: own_flow(role, link.client_flow, link.server_flow),
-        peer_flow: peer_flow(role, link.client_flow, link.server_flow),
-        keepalive: link.keepalive,
-        credentials,
-        version: 0,
-    })
 }
 
 /// An end of a role, with so many senders; none where memory runs out.
@@ -101,13 +73,14 @@ fn open_end(alloc: Global, script: &Script, role: Role, senders: u16) -> Option<
 
 impl Model for Pair {
     ghost use Rattle.std.specs.Prelude.{◌≡◌, false};
-    ghost use Rattle.gw_rehearse.specs.Standing.{sent_by};
+    ghost use Rattle.gw_rehearse.specs.Standing.{is_failed, sent_by};
+    ghost use Rattle.std.specs.Prelude.{◌||◌};
     ghost use Rattle.gw_rehearse.specs.Driven.{IsDriven};
     ghost use Rattle.gw_rehearse.specs.Together.{PairNow, Together, is_lost};
 
     ghost Value = { PairNow };
 
-    ghost view = { λ p. record { sent = sent_by p.initiator.senders.items; client = p.client; server = p.server; lost = is_lost p.initiator p.acceptor } };
+    ghost view = { λ p. record { sent = sent_by p.initiator.senders.items; client = p.client; server = p.server; lost = is_lost p.initiator p.acceptor; failed = is_failed p.initiator.standing || is_failed p.acceptor.standing } };
 
     ghost invariant = { λ p. IsDriven p.initiator × IsDriven p.acceptor × (is_lost p.initiator p.acceptor ≡ false → ∥ Together p.client p.server p.initiator p.acceptor p.pipe ∥₁) };
 }
@@ -134,7 +107,7 @@ fn turn_right<R: Wait>(end: &mut DrivenEnd, pipe: &mut Pipe, clock: &mut MemCloc
     end.turn(&mut link, clock, rt);
 }
 
-/// A turn of the initiator, and then one of the acceptor.
+/// A turn of the initiator, and then one of the acceptor, unless the initiator failed.
 fn turn_both<R: Wait>(
     initiator: &mut DrivenEnd,
     acceptor: &mut DrivenEnd,
@@ -150,6 +123,10 @@ fn turn_both<R: Wait>(
     ensures together { (client server : Flow) → Together client server initiator.old acceptor.old (Some pipe.old) → is_lost initiator.new acceptor.new ≡ false → Together client server initiator.new acceptor.new (Some pipe.new) }
 {
     turn_left(initiator, pipe, clock, rt);
+    // Its link is cut as it is stopped, so the other end receives nothing more.
+    if initiator.has_failed() {
+        return;
+    }
     turn_right(acceptor, pipe, clock, rt);
 }
 
@@ -188,11 +165,11 @@ fn is_lost(initiator: &DrivenEnd, acceptor: &DrivenEnd) -> bool
     initiator.is_given_up() || acceptor.is_given_up()
 }
 
-/// Whether the connection goes on at an end.
+/// Whether the connection is not over at an end.
 fn is_going(initiator: &DrivenEnd, acceptor: &DrivenEnd) -> bool
     ensures { result ≡ (is_going initiator.now.standing || is_going acceptor.now.standing) }
 {
-    initiator.is_open() || acceptor.is_open()
+    initiator.is_going() || acceptor.is_going()
 }
 
 /// A pipe goes to its place where its connection goes on, and is dropped where it is over.
@@ -226,6 +203,7 @@ impl Pair {
             pipe: None,
             client: script.link.client_flow,
             server: script.link.server_flow,
+            pending: None,
             alloc,
         })
     }
@@ -296,85 +274,343 @@ impl Pair {
         Ok(())
     }
 
-    /// So many rounds.
-    #[tactic(auto, using(crate::proofs::Together::stays_self, crate::proofs::Together::stays_on))]
-    fn rounds<R: Wait>(&mut self, count: u32, rt: &R) -> Result<(), Spent>
-        ensures stays { OnOk result (StaysSound self.old self.new) }
+    /// Whether a call of a disk failed at an end.
+    fn has_failed(&self) -> bool
+        ensures { result ≡ self.now.failed }
     {
-        for _ in 0..count {
-            self.round(rt)?;
-        }
-        Ok(())
+        self.initiator.has_failed() || self.acceptor.has_failed()
     }
 
-    /// The connection is cut, where one stands: what is under way is lost, and both ends give it up.
+    /// So many rounds, or those before an end fails. Answers how many are left then.
+    ///
+    /// # Errors
+    /// Want of memory.
+    #[tactic(auto, using(crate::proofs::Together::stays_self, crate::proofs::Together::stays_on))]
+    fn rounds<R: Wait>(&mut self, count: u32, rt: &R) -> Result<u32, Spent>
+        ensures stays { OnOk result (StaysSound self.old self.new) }
+    {
+        for done in 0..count {
+            if self.has_failed() {
+                return Ok(count - done);
+            }
+            self.round(rt)?;
+        }
+        Ok(0)
+    }
+
+    /// The connection is cut, where one stands and no end failed: what is under way is lost, and both ends give it up.
     fn cut(&mut self)
         ensures stays { StaysSound self.old self.new }
     {
+        if self.has_failed() {
+            return;
+        }
         self.initiator.cut();
         self.acceptor.cut();
         self.pipe = None;
     }
 
-    /// The senders submit their next messages.
+    /// The senders submit their next messages. Answers whether all were accepted.
+    ///
+    /// # Errors
+    /// Want of memory.
     fn submit<R: Threads + Wait + Sync>(
         &mut self,
         messages: &[u64],
         count: u64,
         rt: &R,
-    ) -> Result<(), Spent>
+    ) -> Result<bool, Spent>
         requires counts { All IsCount messages.now }
         ensures stays { OnOk result (StaysSound self.old self.new) }
     {
-        if self.initiator.submit(self.alloc, messages, count, rt)? {
-            Ok(())
-        } else {
-            Err(Spent)
-        }
+        Ok(self.initiator.submit(self.alloc, messages, count, rt)?)
     }
 
-    /// A step of the script.
-    #[tactic(auto, using(crate::proofs::Together::stays_self, crate::proofs::Together::stays_on))]
-    fn step<R: Threads + Wait + Sync>(
-        &mut self,
-        messages: &[u64],
-        step: Step,
-        rt: &R,
-    ) -> Result<(), Spent>
-        requires counts { All IsCount messages.now }
-        ensures stays { OnOk result (StaysSound self.old self.new) }
-    {
-        match step {
-            Step::Burst { count, rounds } => {
-                self.submit(messages, u64::from(count), rt)?;
-                self.rounds(rounds, rt)
-            }
-            Step::Rounds { count } => self.rounds(count, rt),
-            Step::Cut => {
-                self.cut();
-                Ok(())
-            }
-        }
+    /// Both ends are given up.
+    pub(crate) fn give_up(self) -> Spent {
+        let _ = self.close();
+        Spent
     }
 
-    /// All steps of a script, and behind them what the senders still have to submit.
+    /// The senders submit their next messages, and then so many rounds run. Where an end fails that is to be stopped, it is stopped, and what is
+    /// left of the rounds runs behind that.
     ///
     /// # Errors
     /// Want of memory.
-    #[tactic(auto, using(crate::proofs::Together::stays_self, crate::proofs::Together::stays_on))]
+    #[tactic(auto, using(crate::proofs::Together::stays_self, crate::proofs::Together::stays_on, crate::proofs::Together::pair_on))]
+    fn burst<R: Threads + Wait + Sync>(
+        self,
+        script: &Script,
+        count: u64,
+        rounds: u32,
+        rt: &R,
+    ) -> Result<Pair, Spent>
+        requires script { IsScript script.now }
+        requires flows { IsPairOf script.now self }
+        ensures stays { IfOk result (StaysSound self) }
+    {
+        let mut pair = self;
+        let messages = script.load.messages.as_slice();
+        match pair.submit(messages, count, rt) {
+            Ok(true) => pair.run(script, rounds, rt),
+            Ok(false) => pair.stop_pending(script, rt)?.run(script, rounds, rt),
+            Err(Spent) => Err(pair.give_up()),
+        }
+    }
+
+    /// So many rounds. An end that fails on the way is stopped, and what is left of them runs behind that.
+    ///
+    /// # Errors
+    /// Want of memory.
+    #[tactic(auto, using(crate::proofs::Together::stays_self, crate::proofs::Together::stays_on, crate::proofs::Together::pair_on))]
+    fn run<R: Wait>(self, script: &Script, count: u32, rt: &R) -> Result<Pair, Spent>
+        requires script { IsScript script.now }
+        requires flows { IsPairOf script.now self }
+        ensures stays { IfOk result (StaysSound self) }
+    {
+        let mut pair = self;
+        let Ok(left) = pair.rounds(count, rt) else {
+            return Err(pair.give_up());
+        };
+        if !pair.has_failed() {
+            return Ok(pair);
+        }
+        // No second stop is to come behind this one.
+        let mut pair = pair.stop_pending(script, rt)?;
+        match pair.rounds(left, rt) {
+            Ok(_left) => Ok(pair),
+            Err(Spent) => Err(pair.give_up()),
+        }
+    }
+
+    /// The stop that is to come is made, if there is one.
+    ///
+    /// # Errors
+    /// Want of memory; also where an end failed that no stop is of, since its disk has no room then.
+    fn stop_pending<R: Wait>(self, script: &Script, rt: &R) -> Result<Pair, Spent>
+        requires script { IsScript script.now }
+        requires flows { IsPairOf script.now self }
+        ensures stays { IfOk result (StaysSound self) }
+    {
+        match self.pending {
+            Some(stop) => self.renew(script, stop, None, rt),
+            None => Err(self.give_up()),
+        }
+    }
+
+    /// The stop that is to come is made, where one is, or where an end failed.
+    ///
+    /// # Errors
+    /// Want of memory.
+    #[tactic(auto, using(crate::proofs::Together::stays_self, crate::proofs::Together::stays_on, crate::proofs::Together::pair_on))]
+    fn stop_due<R: Wait>(self, script: &Script, rt: &R) -> Result<Pair, Spent>
+        requires script { IsScript script.now }
+        requires flows { IsPairOf script.now self }
+        ensures stays { IfOk result (StaysSound self) }
+    {
+        if self.pending.is_some() || self.has_failed() {
+            return self.stop_pending(script, rt);
+        }
+        Ok(self)
+    }
+
+    /// The end of a stop goes on from its journals, once it was stopped, or, where there is a fuse, with so many more calls of each disk.
+    ///
+    /// # Errors
+    /// Want of memory; also where the other end failed.
+    fn renew<R: Wait>(
+        self,
+        script: &Script,
+        stop: Stop,
+        fuse: Option<u32>,
+        rt: &R,
+    ) -> Result<Pair, Spent>
+        requires script { IsScript script.now }
+        requires flows { IsPairOf script.now self }
+        ensures stays { IfOk result (StaysSound self) }
+    {
+        match stop.end {
+            Role::Initiator => self.renew_initiator(script, stop, fuse, rt),
+            Role::Acceptor => self.renew_acceptor(script, stop, fuse),
+        }
+    }
+
+    /// The initiator goes on from its journals, and the connection is cut.
+    fn renew_initiator<R: Wait>(
+        self,
+        script: &Script,
+        stop: Stop,
+        fuse: Option<u32>,
+        rt: &R,
+    ) -> Result<Pair, Spent>
+        requires script { IsScript script.now }
+        requires flows { IsPairOf script.now self }
+        ensures stays { IfOk result (StaysSound self) }
+    {
+        if self.acceptor.has_failed() || is_lost(&self.initiator, &self.acceptor) {
+            return Err(self.give_up());
+        }
+        let Pair {
+            initiator,
+            mut acceptor,
+            clock,
+            pipe: _,
+            client,
+            server,
+            pending: _,
+            alloc,
+        } = self;
+        acceptor.cut();
+        let Some((mut initiator, pending)) = initiator.restart(
+            alloc,
+            script,
+            Role::Initiator,
+            fuse,
+            stop.pick,
+        ) else {
+            let _ = acceptor.close();
+            return Err(Spent);
+        };
+        let messages = script.load.messages.as_slice();
+        let answer = initiator.go_on(alloc, messages, rt);
+        let pair = Pair {
+            initiator,
+            acceptor,
+            clock,
+            pipe: None,
+            client,
+            server,
+            pending: if pending { Some(stop) } else { None },
+            alloc,
+        };
+        match answer {
+            Ok(()) => Ok(pair),
+            Err(_) => Err(pair.give_up()),
+        }
+    }
+
+    /// The acceptor goes on from its journals, and the connection is cut.
+    fn renew_acceptor(self, script: &Script, stop: Stop, fuse: Option<u32>) -> Result<Pair, Spent>
+        requires script { IsScript script.now }
+        requires flows { IsPairOf script.now self }
+        ensures stays { IfOk result (StaysSound self) }
+    {
+        if self.initiator.has_failed() || is_lost(&self.initiator, &self.acceptor) {
+            return Err(self.give_up());
+        }
+        let Pair {
+            mut initiator,
+            acceptor,
+            clock,
+            pipe: _,
+            client,
+            server,
+            pending: _,
+            alloc,
+        } = self;
+        initiator.cut();
+        let Some((acceptor, pending)) = acceptor.restart(
+            alloc,
+            script,
+            Role::Acceptor,
+            fuse,
+            stop.pick,
+        ) else {
+            let _ = initiator.close();
+            return Err(Spent);
+        };
+        Ok(Pair {
+            initiator,
+            acceptor,
+            clock,
+            pipe: None,
+            client,
+            server,
+            pending: if pending { Some(stop) } else { None },
+            alloc,
+        })
+    }
+
+    /// An end goes on from its journals, each of whose disks passes `after` more calls; it is stopped at the first that fails. A stop that is to
+    /// come from before is made first.
+    ///
+    /// # Errors
+    /// Want of memory.
+    #[tactic(auto, using(crate::proofs::Together::stays_self, crate::proofs::Together::stays_on, crate::proofs::Together::pair_on))]
+    fn begin_stop<R: Wait>(
+        self,
+        script: &Script,
+        stop: Stop,
+        after: u32,
+        rt: &R,
+    ) -> Result<Pair, Spent>
+        requires script { IsScript script.now }
+        requires flows { IsPairOf script.now self }
+        ensures stays { IfOk result (StaysSound self) }
+    {
+        let pair = self.stop_due(script, rt)?;
+        pair.renew(script, stop, Some(after), rt)
+    }
+
+    /// A step of the script, and behind it the stop that was to come before it.
+    ///
+    /// # Errors
+    /// Want of memory.
+    #[tactic(auto, using(crate::proofs::Together::stays_self, crate::proofs::Together::stays_on, crate::proofs::Together::pair_on))]
+    fn step<R: Threads + Wait + Sync>(
+        self,
+        script: &Script,
+        step: Step,
+        rt: &R,
+    ) -> Result<Pair, Spent>
+        requires script { IsScript script.now }
+        requires flows { IsPairOf script.now self }
+        ensures stays { IfOk result (StaysSound self) }
+    {
+        match step {
+            Step::Burst { count, rounds } => {
+                let pair = self.burst(script, u64::from(count), rounds, rt)?;
+                pair.stop_due(script, rt)
+            }
+            Step::Rounds { count } => {
+                let pair = self.run(script, count, rt)?;
+                pair.stop_due(script, rt)
+            }
+            Step::Cut => {
+                let mut pair = self;
+                pair.cut();
+                pair.stop_due(script, rt)
+            }
+            Step::Stop { end, after, pick } => {
+                self.begin_stop(script, Stop { end, pick }, after, rt)
+            }
+        }
+    }
+
+    /// All steps of a script, and behind them what the senders still have to submit, which counts as a step for a stop that is to come.
+    ///
+    /// # Errors
+    /// Want of memory.
+    #[tactic(auto, using(crate::proofs::Together::stays_self, crate::proofs::Together::stays_on, crate::proofs::Together::pair_on))]
     pub(crate) fn steps<R: Threads + Wait + Sync>(
-        &mut self,
+        self,
         script: &Script,
         rt: &R,
-    ) -> Result<(), Spent>
+    ) -> Result<Pair, Spent>
         requires script { IsScript script.now }
-        ensures stays { OnOk result (StaysSound self.old self.new) }
+        requires flows { IsPairOf script.now self }
+        ensures stays { IfOk result (StaysSound self) }
     {
-        let messages = script.load.messages.as_slice();
+        let mut pair = self;
         for step in script.steps.as_slice() {
-            self.step(messages, *step, rt)?;
+            pair = pair.step(script, *step, rt)?;
         }
-        self.submit(messages, u64::MAX, rt)
+        let last = Step::Burst {
+            count: 100_000,
+            rounds: 0,
+        };
+        // Once more, for what a stop in the midst of it left.
+        pair.step(script, last, rt)?.step(script, last, rt)
     }
 
     /// At most so many rounds, until all is over.
@@ -406,6 +642,7 @@ impl Pair {
             pipe: _,
             client: _,
             server: _,
+            pending: _,
             alloc: _,
         } = self;
         (initiator.close(), acceptor.close())

@@ -2,7 +2,7 @@
 
 ghost use Rattle.std.specs.Prelude.{◌≡◌, ℕ, Err, IfOk, IsTrue, OnOk};
 ghost use Rattle.cmd_script.specs.Script.{IsScript};
-ghost use Rattle.gw_rehearse.specs.Together.{Arrives, CountsAll, KeepsSession, StaysSound, StoppedAt};
+ghost use Rattle.gw_rehearse.specs.Together.{Arrives, CountsAll, IsPairOf, KeepsSession, StaysSound, StoppedAt};
 ghost use Rattle.gw_rehearse.specs.Summaries.{counts_to, sent_in};
 ghost use Rattle.gw_rehearse.specs.declared.rehearsal.RehearseFault.TheVariants as faults;
 
@@ -48,25 +48,29 @@ fn total(messages: &[u64]) -> u64 {
     sum
 }
 
-/// Runs a script over two ends, which are not closed. Answers whether both have finished, with all messages sent.
+/// Runs a script over two ends, which are not closed, and answers whether both have finished, with all messages sent.
 ///
 /// # Errors
 /// Want of memory.
-#[tactic(auto, using(crate::proofs::Together::stays_on))]
-fn run<R: Threads + Wait + Sync>(pair: &mut Pair, script: &Script, rt: &R) -> Result<bool, Spent>
+#[tactic(auto, using(crate::proofs::Together::stays_self, crate::proofs::Together::stays_on))]
+fn run<R: Threads + Wait + Sync>(pair: Pair, script: &Script, rt: &R) -> Result<(Pair, bool), Spent>
     requires script { IsScript script.now }
-    ensures sent { IfOk result (λ done. IsTrue done → pair.new.sent ≡ script.now.load.messages) }
-    ensures stays { OnOk result (StaysSound pair.old pair.new) }
+    requires flows { IsPairOf script.now pair }
+    ensures sent { IfOk result (λ r. IsTrue r.1 → r.0.sent ≡ script.now.load.messages) }
+    ensures stays { IfOk result (λ r. StaysSound pair r.0) }
 {
     let messages = script.load.messages.as_slice();
     let total = total(messages);
     let most = ROUNDS.saturating_add(total.saturating_mul(ROUNDS_EACH));
-    pair.steps(script, rt)?;
-    pair.drain(most, rt)?;
+    let mut pair = pair.steps(script, rt)?;
+    let Ok(()) = pair.drain(most, rt) else {
+        return Err(pair.give_up());
+    };
     if !pair.is_over() {
-        return Ok(false);
+        return Ok((pair, false));
     }
-    Ok(pair.has_sent(messages, rt))
+    let done = pair.has_sent(messages, rt);
+    Ok((pair, done))
 }
 
 /// Whether as many messages were applied as stand in an outbox, where its flow is recoverable.
@@ -127,13 +131,12 @@ pub fn rehearse<R: Threads + Wait + Sync>(
     ensures homeward { IfOk result (λ r. Arrives script.now.link.server_flow r.acceptor r.initiator) }
     ensures undrained { (m n : ℕ) → result ≡ Err (faults.Undrained m n) → ∥ StoppedAt script.now.link.client_flow script.now.link.server_flow m n ∥₁ }
 {
-    let Some(mut pair) = Pair::open(alloc, script) else {
+    let Some(pair) = Pair::open(alloc, script) else {
         return Err(RehearseFault::Memory);
     };
-    let answer = run(&mut pair, script, rt);
+    let Ok((pair, done)) = run(pair, script, rt) else {
+        return Err(RehearseFault::Memory);
+    };
     let (initiator, acceptor) = pair.close();
-    match answer {
-        Ok(done) => judged(script, done, initiator, acceptor),
-        Err(Spent) => Err(RehearseFault::Memory),
-    }
+    judged(script, done, initiator, acceptor)
 }

@@ -86,6 +86,47 @@ pub(crate) fn submit_next<R: Threads + Wait + Sync>(
     Ok(run_seated(gate, senders, &OpenDoor, rt).is_ok())
 }
 
+/// Has each sender go on behind what the outbox has of it, as its plan does.
+///
+/// # Errors
+/// Want of memory.
+#[tactic(auto, using(crate::proofs::Driving::kept_seated))]
+pub(crate) fn go_on<R: Wait>(
+    alloc: Global,
+    gate: &Gate<Log>,
+    senders: &mut Vec<Sender<Log>>,
+    messages: &[u64],
+    rt: &R,
+) -> Result<(), AllocError>
+    requires few { vec_len senders.old ≤ 16 }
+    requires counts { All IsCount messages.now }
+    requires seated { Seated gate.now senders.old.items (vec_len senders.old + 1) }
+    ensures seated { Seated gate.now senders.new.items (vec_len senders.new + 1) }
+    ensures count { vec_len senders.new ≡ vec_len senders.old }
+{
+    count_done(gate, senders, rt);
+    add_done(alloc, senders.as_mut_slice(), messages)
+}
+
+/// Adds to the plan of each sender the messages that it has done.
+///
+/// # Errors
+/// Want of memory.
+fn add_done(alloc: Global, senders: &mut [Sender<Log>], messages: &[u64]) -> Result<(), AllocError>
+    requires few { length senders.old ≤ 16 }
+    requires counts { All IsCount messages.now }
+    ensures passes { KeepsPasses senders.old senders.new }
+{
+    for place in 0..senders.len() {
+        if place < messages.len() {
+            let done = senders[place].done;
+            let plan = &mut senders[place].plan;
+            add_next(alloc, plan, place as u16 + 1, messages[place], done)?;
+        }
+    }
+    Ok(())
+}
+
 /// Whether each sender has done all that it sends.
 fn are_done(senders: &[Sender<Log>], messages: &[u64]) -> bool
     ensures { IsTrue result → AreDone senders.now messages.now }

@@ -11,7 +11,9 @@ pub enum Standing {
     Over,
     /// A connection goes on.
     Open,
-    /// A turn failed otherwise than by its link: nothing follows.
+    /// A call of a disk failed: the end is to be stopped.
+    Failed,
+    /// Memory ran out, or the room of a journal: nothing follows.
     GivenUp,
 }
 
@@ -25,14 +27,10 @@ impl Standing {
         match answer {
             Ok(TurnEnd::Go) => Standing::Open,
             Ok(TurnEnd::Ended(_)) | Err(TurnFault::Link) => Standing::Over,
-            Err(
-                TurnFault::Inbox
-                | TurnFault::Outbox
-                | TurnFault::Changed { .. }
-                | TurnFault::Broken
-                | TurnFault::Full { .. }
-                | TurnFault::Memory,
-            ) => Standing::GivenUp,
+            Err(TurnFault::Inbox | TurnFault::Outbox | TurnFault::Broken) => Standing::Failed,
+            Err(TurnFault::Changed { .. } | TurnFault::Full { .. } | TurnFault::Memory) => {
+                Standing::GivenUp
+            }
         }
     }
 }

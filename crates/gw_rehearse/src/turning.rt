@@ -1,6 +1,6 @@
 //! One turn, and where the end stands behind it.
 
-ghost use Rattle.std.specs.Prelude.{◌≡◌, ◌+◌, ◌<◌, ◌^◌, [], false, ⊤};
+ghost use Rattle.std.specs.Prelude.{◌≡◌, ◌+◌, ◌<◌, ◌^◌, []};
 ghost use Rattle.gate_turn.specs.Places.{known};
 ghost use Rattle.gate_turn.specs.Calls.{IsFree};
 ghost use Rattle.gate_senders.specs.Gate.{IsPassAt};
@@ -9,8 +9,7 @@ ghost use Rattle.conn_turns.specs.News.{items_of};
 ghost use Rattle.jr_kept.specs.Inbox.{flow_of};
 ghost use Rattle.conn_loop.specs.Conn.{line_of, GoesOn, HasSeen, Looks};
 ghost use Rattle.conn_loop.specs.Live.{live_end};
-ghost use Rattle.turn_laws.specs.Turned.{WasTurn};
-ghost use Rattle.gw_rehearse.specs.Standing.{Stands, is_given};
+ghost use Rattle.gw_rehearse.specs.Standing.{Stands, WasMade};
 
 use crate::journals::Log;
 use crate::standing::Standing;
@@ -42,7 +41,7 @@ pub(crate) fn make_turn<L: Link, R: Wait>(
     ensures own { IsPassAt gate.now pass.new }
     ensures free { IsFree pass.new }
     ensures looks { Looks (known pass.old) (known pass.new) }
-    ensures whole { is_given result ≡ false → WasTurn ⊤ L.eager clock.old clock.new (live_end (L.told link.old) (L.carried link.old) (known pass.old).seen (line_of conn.old) inbox.old []) (live_end (L.told link.new) (L.carried link.new) (known pass.new).seen (line_of conn.new) inbox.new (items_of news.new)) }
+    ensures turned { WasMade result L.eager clock.old clock.new (live_end (L.told link.old) (L.carried link.old) (known pass.old).seen (line_of conn.old) inbox.old []) (live_end (L.told link.new) (L.carried link.new) (known pass.new).seen (line_of conn.new) inbox.new (items_of news.new)) }
     ensures flow { flow_of inbox.new ≡ flow_of inbox.old }
     ensures place { L.place link.new ≡ L.place link.old }
     ensures number { (known pass.new).number ≡ (known pass.old).number }

@@ -4,7 +4,7 @@ use cmd_config::{
     DESKS, FLOW_WORDS, KEEPALIVE, ORDER_VERSION, Purpose, REFERENCE, Range, Role, SENDERS,
     SESSION_VERSION,
 };
-use cmd_script::{ACTION_WORDS, COUNT, MESSAGES};
+use cmd_script::{ACTION_WORDS, COUNT, END_WORDS, MESSAGES, PICK_WORDS};
 use say_toml::PRIMITIVES;
 use std::alloc::AllocError;
 use toml::Value;
@@ -92,7 +92,15 @@ const SCRIPT: &[Row] = &[
         admitted: Admitted::Words(ACTION_WORDS),
     },
     Row {
-        keys: &["count", "rounds"],
+        keys: &["end"],
+        admitted: Admitted::Words(END_WORDS),
+    },
+    Row {
+        keys: &["pick"],
+        admitted: Admitted::Words(PICK_WORDS),
+    },
+    Row {
+        keys: &["count", "rounds", "after"],
         admitted: Admitted::Number(COUNT),
     },
 ];

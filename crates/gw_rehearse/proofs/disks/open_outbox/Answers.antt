@@ -1,6 +1,6 @@
 use Rattle.std.proofs.Common.{length, sym, subst, arith}
 use Rattle.jr_segments.specs.Lawful.{few_by}
-use Rattle.jr_segments.specs.Numbers.{numbers_of}
+use Rattle.jr_places.specs.Numbers.{numbers_of}
 use Rattle.gw_rehearse.specs.Stopped.{LeavesNoMore}
 use Rattle.gw_rehearse.proofs.Opening.{outbox_left}
 use Rattle.gw_rehearse.proofs.disks.open_outbox.Goals as goal

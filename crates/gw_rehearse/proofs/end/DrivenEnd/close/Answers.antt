@@ -1,6 +1,6 @@
 use Rattle.std.proofs.Common.{ℕ, ◌+◌, length, refl, sym, ◌∙◌, subst, arith}
 use Rattle.jr_segments.specs.Lawful.{few_by}
-use Rattle.jr_segments.specs.Numbers.{numbers_of}
+use Rattle.jr_places.specs.Numbers.{numbers_of}
 use Rattle.gate_senders.proofs.Keeping.{keeps_stands}
 use Rattle.gate_plans.specs.Seats.{Seated}
 use Rattle.gw_rehearse.proofs.Sent.{sent_back, last_found, opened_found}
@@ -23,6 +23,8 @@ returns-clause-closed c =
     let j = c.close.result.journal in
     record {
       history = closed.history;
+      refused = closed.refused;
+      holds = closed.holds;
       stands = keeps_stands c.close.result closed.history closed.refused closed.holds;
       few = omega (arith, c.close.result.within.all, few_by (length (numbers_of j.places)) j.size j.counted j.small);
       opened = opened_found c.give_last.new.passes c.unseat.new.passes senders.items c.len-count.result c.args.self.pass (count ∙ senders.ok.0) (λ none. seats.first (sym count ∙ none)) c.give_last.ensures.there

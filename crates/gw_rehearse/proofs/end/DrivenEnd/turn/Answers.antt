@@ -11,11 +11,11 @@ returns-then-self-ge-TURNS-clause-turned g c = record { goes = λ b past leg fir
 pub returns-then-matches-clause-turned : goal.returns-then-matches-clause-turned
 returns-then-matches-clause-turned g c = record {
   goes = λ b past leg first k sound.
-      turned b past leg c.args.self.now _ _ _ _ _ _ _ _ _ first refl c.in-Open.is (c.requires.driven.1.turns c.in-Open.is).goes.unended c.make_turn-self.ensures.looks (c.make_turn-self.ensures.whole sound) k;
+      turned b past leg c.args.self.now _ _ _ _ _ _ _ _ _ first refl c.in-Open.is (c.requires.driven.1.turns c.in-Open.is).goes.unended c.make_turn-self.ensures.looks k sound c.make_turn-self.ensures.turned;
 }
 
 pub returns-else-matches-clause-turned : goal.returns-else-matches-clause-turned
 returns-else-matches-clause-turned g c = record {
   goes = λ b past leg first k sound.
-      turned b past leg c.args.self.now _ _ _ _ _ _ _ _ _ first refl c.in-Open.is (c.requires.driven.1.turns c.in-Open.is).goes.unended c.make_turn-self.ensures.looks (c.make_turn-self.ensures.whole sound) k;
+      turned b past leg c.args.self.now _ _ _ _ _ _ _ _ _ first refl c.in-Open.is (c.requires.driven.1.turns c.in-Open.is).goes.unended c.make_turn-self.ensures.looks k sound c.make_turn-self.ensures.turned;
 }
