@@ -56,7 +56,7 @@ impl Met {
         )?;
         add_times("batches of which a part fits", self.cut, told)?;
         add_times(
-            "journals that came to more than 4096 records",
+            "journals that came to more than 4080 records",
             self.borders,
             told,
         )

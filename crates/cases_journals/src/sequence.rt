@@ -14,7 +14,7 @@ use std::alloc::Global;
 use std::{mem, slice};
 
 /// The records of a full segment.
-const SEGMENT: u64 = 4096;
+const SEGMENT: u64 = 4080;
 
 /// A journal that is played, as the plain list that it has to be.
 #[derive(Drop)]

@@ -15,7 +15,7 @@ use std::alloc::{AllocError, Global};
 const LONG_ONES: u64 = 64;
 
 /// The records of a long journal: a few less than a segment has.
-const LONG: u64 = 4090;
+const LONG: u64 = 4074;
 
 /// The room of a disk, in bytes: more than a sequence fills behind a long journal.
 const ROOM: usize = 1 << 19;

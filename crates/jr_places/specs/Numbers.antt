@@ -10,5 +10,5 @@ numbers_of s = joined s.full.items (listed s.last)
 -- one more number takes no memory
 pub record HasRoomForOne (s : Segments) : Type 0 where
   pub few : s.count < 2 ^ 40
-  pub begun : length (listed s.last) < 4096
+  pub begun : length (listed s.last) < 4080
   pub room : HasRoom s.last

@@ -5,9 +5,13 @@ ghost use Rattle.jr_places.specs.Listed.{listed};
 
 use crate::run::Run;
 
-/// Exactly 4,096 numbers.
+/// The numbers of a segment: so few that its memory, 2 or 4 bytes a number, fills that in which a piece of 64 KiB was read, while a
+/// journal is opened.
+pub const SEGMENT: usize = 4080;
+
+/// Exactly 4,080 numbers.
 #[derive(Debug, Drop)]
 pub struct Segment {
     pub numbers: Run,
-    ghost whole: { length (listed numbers) ≡ 4096 },
+    ghost whole: { length (listed numbers) ≡ 4080 },
 }

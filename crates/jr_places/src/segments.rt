@@ -5,12 +5,13 @@ ghost use Rattle.jr_places.specs.Listed.{listed};
 ghost use Rattle.jr_places.specs.Segmented.{joined};
 
 use crate::run::Run;
-use crate::segment::Segment;
+use crate::segment::{SEGMENT, Segment};
 use std::alloc::{AllocError, Global};
 use std::mem;
 
-/// The numbers of a segment.
-const SEGMENT: usize = 4096;
+/// The numbers for which a new segment has room as it begins, which it leaves for that of all where more stand close: no fewer than records of
+/// 60 bytes have places within 2^16 bytes, so that places of records never take the rest in vain.
+const BEGUN: usize = 1100;
 
 /// More numbers than these are refused as want of memory.
 const MOST: usize = 1 << 40;
@@ -22,7 +23,7 @@ pub struct Segments {
     full: Vec<Segment>,
     last: Run,
     count: usize,
-    ghost room: { length (listed last) ≤ 4096 },
+    ghost room: { length (listed last) ≤ 4080 },
     ghost counted: { count ≡ length (joined full.items (listed last)) },
     ghost few: { count ≤ 2 ^ 40 },
 }
@@ -98,13 +99,13 @@ impl Segments {
     fn begin_segment(&mut self) -> Result<(), AllocError>
         ensures same { numbers_of self.new ≡ numbers_of self.old }
         ensures count { self.new.count ≡ self.old.count }
-        ensures room { OnOk result (length (listed self.new.last) < 4096) }
+        ensures room { OnOk result (length (listed self.new.last) < 4080) }
     {
         if self.last.len() < SEGMENT {
             return Ok(());
         }
         self.full.reserve(1)?;
-        let next = Run::with_capacity(self.alloc, SEGMENT)?;
+        let next = Run::with_capacity(self.alloc, BEGUN)?;
         let numbers = mem::replace(&mut self.last, next);
         self.full.push_reserved(Segment { numbers });
         Ok(())

@@ -17,8 +17,8 @@ use jr_record::{AppendFault, OpenFault, Record};
 use std::alloc::Global;
 use std::{mem, slice};
 
-/// A journal with moments on one disk, which keeps the places of its records in memory, four bytes apiece, and reads a
-/// record by one call of the disk.
+/// A journal with moments on one disk, which keeps the places of its records in memory, two or four bytes
+/// apiece, and reads a record by one call of the disk.
 #[derive(Drop)]
 pub struct SegJournal<D: Disk> {
     alloc: Global,
