@@ -82,6 +82,9 @@ fn entry_of(entries: &[Stable], wanted: u64) -> Option<&Stable>
 }
 
 impl Driven {
+    ghost use Rattle.std.specs.Prelude.{◌↔◌, IsTrue};
+    ghost use Rattle.fixp_machine.specs.Machine.{front_of};
+
     /// An end of this version, of a session of which this is recorded, which sends one flow and receives the other, in its first
     /// connection, from this moment on.
     pub fn new(
@@ -134,17 +137,39 @@ impl Driven {
         }
     }
 
-    /// A turn ends.
+    /// A turn ends, where no held message is to be applied first.
     pub fn turn_done(&mut self) {
-        if self.end.out().len() <= UNSENT && self.heard <= 10_000 {
+        if self.is_drained() && self.end.out().len() <= UNSENT && self.heard <= 10_000 {
             self.end.turn_done(self.now);
         }
     }
 
-    /// The outbox has its finish behind so many entries.
+    /// The outbox has its finish behind so many entries, where no held message is to be applied first.
     pub fn closed(&mut self, last: u64) {
-        if self.end.out().len() <= UNSENT {
+        if self.is_drained() && self.end.out().len() <= UNSENT {
             self.end.closed(last, self.now);
+        }
+    }
+
+    /// Whether no held message is to be applied first.
+    fn is_drained(&self) -> bool
+        ensures { IsTrue result ↔ front_of self.now ≡ None }
+    {
+        match self.end.held() {
+            Some(_) => false,
+            None => true,
+        }
+    }
+
+    /// The held message that the inbox awaits, with its number.
+    pub fn held(&self) -> Option<(u64, &[u8])> {
+        self.end.held()
+    }
+
+    /// That message was applied, if there is one.
+    pub fn held_done(&mut self) {
+        if !self.is_drained() {
+            self.end.held_done();
         }
     }
 
@@ -180,7 +205,8 @@ impl Driven {
     }
 
     /// Its act at the message of a frame that begins at this place of the connection's bytes, once that is done, and how many bytes
-    /// were unsent before; none where the connection has ended, or too much is unsent or came in one turn.
+    /// were unsent before; none where the connection has ended, a held message is to be applied first, or too much is unsent or came in
+    /// one turn.
     pub fn act(
         &mut self,
         order: Order,
@@ -191,7 +217,7 @@ impl Driven {
         requires most { length message.now ≤ 16384 }
     {
         let is_full = self.end.out().len() > UNSENT_AT_FRAME || self.heard > FRAMES;
-        if self.end.ending().is_some() || is_full {
+        if self.end.ending().is_some() || !self.is_drained() || is_full {
             return Ok(None);
         }
         self.end.reserve()?;
@@ -204,9 +230,9 @@ impl Driven {
         Ok(Some((act, before)))
     }
 
-    /// Bytes come at this place that are no frame.
+    /// Bytes come at this place that are no frame, where no held message is to be applied first.
     pub fn refuse(&mut self, place: u64) {
-        if self.end.ending().is_none() && self.end.out().len() <= UNSENT {
+        if self.end.ending().is_none() && self.is_drained() && self.end.out().len() <= UNSENT {
             self.end.on_bad_frame(place, self.now);
         }
     }

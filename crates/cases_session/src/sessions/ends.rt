@@ -163,6 +163,19 @@ fn call_of(event: &str) -> Option<Call> {
     }
 }
 
+/// Adds the held message that the inbox of an end awaits, and it is applied.
+fn push_held(alloc: Global, line: &mut String, driven: &mut Driven) -> Result<(), AllocError> {
+    match driven.held() {
+        Some((number, payload)) => {
+            let payload = digits(alloc, payload)?;
+            write!(line, "applied {number} {payload}")?;
+        }
+        None => line.push_str("none")?,
+    }
+    driven.held_done();
+    Ok(())
+}
+
 /// What an end is told from: frames by name, and the entries that it may send.
 #[derive(Clone, Copy)]
 pub struct Sources<'a> {
@@ -170,7 +183,7 @@ pub struct Sources<'a> {
     pub entries: &'a [Stable],
 }
 
-/// Adds what an end does at an event: a call, or a frame by name.
+/// Adds what an end does at an event: a call, a held message that is applied, or a frame by name.
 fn push_event(
     alloc: Global,
     line: &mut String,
@@ -178,6 +191,9 @@ fn push_event(
     sources: Sources<'_>,
     event: &str,
 ) -> Result<(), AllocError> {
+    if event == "held" {
+        return push_held(alloc, line, driven);
+    }
     if let Some(call) = call_of(event) {
         call_end(driven, sources.entries, call);
         return line.push_str("told");
