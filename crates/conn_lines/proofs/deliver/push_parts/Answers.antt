@@ -25,6 +25,6 @@ pub returns : goal.returns
 unfolding encode_with
 returns c = record {
   added =
-    let none = nil_from_length _ c.in-None.ensures.steps.1.0 in
-    sym (append-nil c.loop-part.lines.items) ∙ (ap (λ (ls : List ℕ). c.loop-part.lines.items ++ encode_lower ls) (sym none) ∙ c.loop-part.invariant.3);
+      let none = nil_from_length _ c.in-None.ensures.steps.1.0 in
+      sym (append-nil c.loop-part.lines.items) ∙ (ap (λ (ls : List ℕ). c.loop-part.lines.items ++ encode_lower ls) (sym none) ∙ c.loop-part.invariant.3);
 }
