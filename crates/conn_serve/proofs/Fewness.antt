@@ -1,6 +1,6 @@
 -- A turn tells at most 272 news: each frame that it takes tells once, or is held and tells nothing, and at most 256 messages are held.
-use Rattle.std.proofs.Common.{◌≡◌, ◌⊎◌, inl, inr, ℕ, ◌+◌, ◌-◌, ◌<◌, ◌≤◌, ◌==◌, ◌&&◌, not, nat_lt, zero, suc, Bool, true, false, if◌then◌else◌, List, [], ◌∷◌, ◌++◌, length, Option, Some, None, refl, sym, ap, subst, ◌∙◌, arith, length-append}
-use Rattle.std.specs.Prelude.{⊤, IfSome, is_some, replicate, take, drop, min}
+use Rattle.std.proofs.Common.{◌≡◌, ℕ, ◌+◌, ◌-◌, ◌≤◌, ◌==◌, ◌&&◌, not, nat_lt, zero, suc, Bool, true, false, if◌then◌else◌, List, [], ◌∷◌, ◌++◌, length, Option, Some, None, refl, sym, ap, subst, ◌∙◌, arith, length-append}
+use Rattle.std.specs.Prelude.{IfSome, is_some, replicate, take, drop}
 use Rattle.std.specs.List.{AllByRecursion}
 use Rattle.std.proofs.lemmas.List.{length-map, length-take}
 use Rattle.session_model.specs.Journal.{History}
@@ -10,7 +10,7 @@ use Rattle.flow_recover.specs.declared.numbers.Seen.TheVariants.{Deliver, Hold, 
 use Rattle.flow_recover.specs.Receiving as receiver_is
 use Rattle.flow_retrans.specs.declared.requester.BadStart.{BadStart}
 use Rattle.flow_retrans.specs.Requests as request_is
-use Rattle.flow_window.specs.Window.{front, holding, InReach}
+use Rattle.flow_window.specs.Window.{front, holding}
 use Rattle.flow_window.proofs.Staying.{past_in_reach}
 use Rattle.fixp_shake.specs.declared.config.EndConfig.{EndConfig}
 use Rattle.fixp_shake.specs.declared.violation.Violation.{Violation}
@@ -26,21 +26,20 @@ use Rattle.fixp_replies.specs.Incoming.{Incoming, application, session, wrong_or
 use Rattle.fixp_replies.specs.Outcomes.{Outcome, ignores, breaks, not_in_phase}
 use Rattle.fixp_replies.specs.Flowing.{bad_retransmission, counted, taken_as}
 use Rattle.fixp_replies.specs.Replies.{rows_of, answer_of, terminates, reply_of}
-use Rattle.fixp_machine.specs.Machine.{State, Call, around, did, held_done, step, run, front_of, held_until, held_with, after_frame, reply_applied, held_applied, broken_by, ticked, wrote, bytes_of, Windowed}
+use Rattle.fixp_machine.specs.Machine.{State, around, did, held_done, step, run, front_of, held_until, held_with, after_frame, reply_applied, held_applied, broken_by, ticked, wrote, bytes_of, Windowed}
 use Rattle.fixp_machine.proofs.Rows.{AllRows, by_row, all_rows, all_within}
 use Rattle.fixp_machine.proofs.Holding.{holds_messages}
-use Rattle.conn_turns.specs.declared.news.NewsItem.{NewsItem}
 use Rattle.conn_turns.specs.declared.news.NewsItem.TheVariants as items
 use Rattle.conn_turns.specs.News.{told_by}
-use Rattle.conn_turns.specs.Lines.{Line, TakenFrame, IsTaken, AreTaken, reply_at, act_calls, frame_calls, ready_in, ready_behind, line_after, lines_after}
+use Rattle.conn_turns.specs.Lines.{Line, TakenFrame, IsTaken, AreTaken, reply_at, act_calls, ready_in, ready_behind, line_after, lines_after}
 use Rattle.conn_turns.specs.Frames.{tells, told, delivers}
-use Rattle.conn_turns.specs.Refusals.{IsAwaited, IsRefused, told_before}
+use Rattle.conn_turns.specs.Refusals.{IsRefused}
 use Rattle.conn_turns.specs.Turns.{Turn, Refusal, of_act, of_held, only_sends, works, link_lost, cut_short, not_begun}
 use Rattle.conn_turns.specs.Exact.{line_ticked}
 use Rattle.conn_turns.proofs.Taking.{run_append}
 use Rattle.conn_loop.specs.Turned.{told_of}
 use Rattle.turn_laws.specs.Turns.{line_received, IsTurn, tells_in}
-use Rattle.turn_laws.proofs.Draining.{Awaited, awaited_in, fewer, helds_ready}
+use Rattle.turn_laws.proofs.Draining.{awaited_in, fewer, helds_ready}
 
 -- ---- a message that is held is not told of
 

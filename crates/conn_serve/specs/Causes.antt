@@ -40,7 +40,8 @@ pub record TellsUntil (lacking : Bool) (old new : Option (List ℕ)) (earlier la
   pub first : Appends old between earlier
   pub last : Tells lacking between new late
 
--- so it took the lines of these news, of which the late ones are at most 272
+-- so it took the lines of these news, of which the late ones are at most 272, as many as a turn tells: by 16 frames, and by 256 messages that
+-- were held
 pub record TellsNews (lacking : Bool) (old new : Option (List ℕ)) (news : List NewsItem) : Type 0 where
   pub earlier : List NewsItem
   pub late : List NewsItem
