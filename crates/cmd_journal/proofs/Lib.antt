@@ -1,2 +1,3 @@
+mod Moved
 mod Opened
 mod Printed

@@ -1,1 +1,3 @@
+pub mod Formats
+pub mod Moves
 pub mod Prints

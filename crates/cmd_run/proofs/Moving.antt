@@ -12,7 +12,7 @@ use Rattle.cmd_base.specs.declared.status.Status.{Status}
 use Rattle.cmd_base.specs.declared.status.Status.TheVariants.{Done, JournalFault, JournalBad, Full, Memory}
 use Rattle.cmd_base.specs.Causes.{Counts, IsCaused}
 use Rattle.cmd_base.specs.Contents.{Disks}
-use Rattle.cmd_migrate.specs.Moves.{Moves}
+use Rattle.cmd_journal.specs.Moves.{Moves}
 use Rattle.cmd_run.specs.Completeness.{NoneRose}
 use Rattle.cmd_run.specs.Moving.{IsOldVerdict, MigrateCompletes, Moved, NewTells, OldTells, Refused}
 

@@ -15,7 +15,7 @@ use Rattle.cmd_base.specs.declared.status.Status.TheVariants.{Done, Memory}
 use Rattle.cmd_answer.specs.Answer.{Answer, IsAnswer, acceptor_of}
 use Rattle.cmd_base.specs.Causes.{Counts, IsCaused}
 use Rattle.cmd_base.specs.Contents.{Content, Disks}
-use Rattle.cmd_format.specs.Formats.{IsMade, Formats}
+use Rattle.cmd_journal.specs.Formats.{IsMade, Formats}
 use Rattle.cmd_check.specs.Layouts.{GaveLayout}
 use Rattle.sbe_value.specs.declared.message.Message.{Message}
 use Rattle.cmd_decode.specs.Decoded.{decoded}

@@ -12,7 +12,7 @@ use Rattle.cmd_base.specs.declared.status.Status.{Status}
 use Rattle.cmd_base.specs.declared.status.Status.TheVariants.{Done, JournalBad, Full, Memory}
 use Rattle.cmd_base.specs.Causes.{Counts, IsCaused}
 use Rattle.cmd_base.specs.Contents.{Disks}
-use Rattle.cmd_migrate.specs.Moves.{KeepsOld, Moves}
+use Rattle.cmd_journal.specs.Moves.{KeepsOld, Moves}
 use Rattle.cmd_run.specs.Completeness.{NoneRose}
 
 -- what is found of the content of OLD: the records of a journal of format 1, or why it is none

@@ -1,6 +1,6 @@
 use Rattle.std.proofs.Common.{Err, ap}
-use Rattle.cmd_migrate.proofs.Moved.{moved}
-use Rattle.cmd_migrate.proofs.moving.migrate_journal.Goals as goal
+use Rattle.cmd_journal.proofs.Moved.{moved}
+use Rattle.cmd_journal.proofs.moving.migrate_journal.Goals as goal
 
 pub returns-in-Err-clause-moves : goal.returns-in-Err-clause-moves
 returns-in-Err-clause-moves g c =

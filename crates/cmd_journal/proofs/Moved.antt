@@ -9,7 +9,7 @@ use Rattle.jr_migrate.specs.Migrates.{IsBehindOld, IsPast, OnUnwritten, RefusesO
 use Rattle.jr_migrate.specs.declared.faults.MigrateFault.{MigrateFault}
 use Rattle.jr_migrate.specs.declared.faults.MigrateFault.TheVariants.{Memory, OldFault, NotFormatted, Damaged, NewFault, NotFresh, Full}
 use Rattle.cmd_base.specs.Contents.{Disks}
-use Rattle.cmd_migrate.specs.Moves.{Moves, status_of}
+use Rattle.cmd_journal.specs.Moves.{Moves, status_of}
 
 module _ {D : Type 0} (T : Type 0) (told : D → Option (List ℕ)) (may_leave : D → List ℕ → Type 0) (faults : D → ℕ) (before after : Disks D) where
   pub moved : (fault : MigrateFault) → ForSome (told before.outbox) (RefusesOld fault)

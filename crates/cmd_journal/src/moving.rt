@@ -6,7 +6,7 @@ ghost use Rattle.cmd_base.specs.Causes.{IsCaused, NoneFell, disk_counts};
 ghost use Rattle.jr_migrate.specs.Fresh.{IsFresh};
 ghost use Rattle.jr_migrate.specs.Migrates.{LeavesWhole};
 ghost use Rattle.jr_migrate.specs.declared.faults.MigrateFault.TheVariants as migrate_fault;
-ghost use Rattle.cmd_migrate.specs.Moves.{KeepsOld, Moves, status_of};
+ghost use Rattle.cmd_journal.specs.Moves.{KeepsOld, Moves, status_of};
 
 use cmd_base::{JournalCause, Status, Which};
 use gw_outside::Disk;

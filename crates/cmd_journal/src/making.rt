@@ -2,7 +2,7 @@
 
 ghost use Rattle.std.specs.Prelude.{◌≡◌, ◌≤◌};
 ghost use Rattle.cmd_base.specs.Causes.{IsCaused, NoneFell, disk_counts};
-ghost use Rattle.cmd_format.specs.Formats.{Formats, KeepsBehindHeader};
+ghost use Rattle.cmd_journal.specs.Formats.{Formats, KeepsBehindHeader};
 
 use cmd_base::{JournalCause, Status, Which};
 use gw_outside::Disk;
