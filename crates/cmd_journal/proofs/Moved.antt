@@ -4,10 +4,10 @@ use Rattle.std.specs.Option.{ForSome}
 use Rattle.gw_outside.specs.Faults.{HasRisen}
 use Rattle.jr_record.specs.declared.record.Record.{Record}
 use Rattle.jr_record.specs.Images.{IsJournal as IsPlainJournal}
-use Rattle.jr_migrate.specs.Fresh.{IsFresh, IsUsed}
-use Rattle.jr_migrate.specs.Migrates.{IsBehindOld, IsPast, OnUnwritten, RefusesOld}
-use Rattle.jr_migrate.specs.declared.faults.MigrateFault.{MigrateFault}
-use Rattle.jr_migrate.specs.declared.faults.MigrateFault.TheVariants.{Memory, OldFault, NotFormatted, Damaged, NewFault, NotFresh, Full}
+use Rattle.jr_log.specs.Fresh.{IsFresh, IsUsed}
+use Rattle.jr_log.specs.Migrates.{IsBehindOld, IsPast, OnUnwritten, RefusesOld}
+use Rattle.jr_log.specs.declared.faults.MigrateFault.{MigrateFault}
+use Rattle.jr_log.specs.declared.faults.MigrateFault.TheVariants.{Memory, OldFault, NotFormatted, Damaged, NewFault, NotFresh, Full}
 use Rattle.cmd_base.specs.Contents.{Disks}
 use Rattle.cmd_journal.specs.Moves.{Moves, status_of}
 

@@ -8,10 +8,10 @@ use Rattle.jr_dated.specs.Dated.{dated}
 use Rattle.jr_dated.specs.Images.{IsJournal, journal_size}
 use Rattle.jr_boxes.specs.declared.faults.Which.TheVariants.{Outbox, Inbox}
 use Rattle.jr_boxes.specs.declared.faults.JournalCause.TheVariants as causes
-use Rattle.jr_migrate.specs.Fresh.{IsFresh, IsUsed}
-use Rattle.jr_migrate.specs.Migrates.{IsPast}
-use Rattle.jr_migrate.specs.declared.faults.MigrateFault.{MigrateFault}
-use Rattle.jr_migrate.specs.declared.faults.MigrateFault.TheVariants as migrate
+use Rattle.jr_log.specs.Fresh.{IsFresh, IsUsed}
+use Rattle.jr_log.specs.Migrates.{IsPast}
+use Rattle.jr_log.specs.declared.faults.MigrateFault.{MigrateFault}
+use Rattle.jr_log.specs.declared.faults.MigrateFault.TheVariants as migrate
 use Rattle.cmd_base.specs.declared.status.Status.{Status}
 use Rattle.cmd_base.specs.declared.status.Status.TheVariants.{Done, JournalFault, JournalBad, Full, Memory}
 use Rattle.cmd_base.specs.Contents.{Disks}

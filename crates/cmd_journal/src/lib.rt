@@ -1,5 +1,5 @@
 //! The commands over journals: `format` makes both of a new session, `journal` shows both of an end as lines, `migrate` moves one of
-//! format 1. Relies on `jr_segments` and `jr_migrate` for what becomes of one journal, on `jr_judge` for which records belong into a box,
+//! format 1. Relies on `jr_segments` and `jr_log` for what becomes of one journal, on `jr_judge` for which records belong into a box,
 //! on `jr_text` for the lines, and on `cmd_base` for the devices.
 #![tactic(auto)]
 

@@ -3,14 +3,14 @@
 ghost use Rattle.std.specs.Prelude.{◌≡◌, ◌≤◌, ℕ};
 ghost use Rattle.std.specs.Option.{ForSome};
 ghost use Rattle.cmd_base.specs.Causes.{IsCaused, NoneFell, disk_counts};
-ghost use Rattle.jr_migrate.specs.Fresh.{IsFresh};
-ghost use Rattle.jr_migrate.specs.Migrates.{LeavesWhole};
-ghost use Rattle.jr_migrate.specs.declared.faults.MigrateFault.TheVariants as migrate_fault;
+ghost use Rattle.jr_log.specs.Fresh.{IsFresh};
+ghost use Rattle.jr_log.specs.Migrates.{LeavesWhole};
+ghost use Rattle.jr_log.specs.declared.faults.MigrateFault.TheVariants as migrate_fault;
 ghost use Rattle.cmd_journal.specs.Moves.{KeepsOld, Moves, status_of};
 
 use cmd_base::{JournalCause, Status, Which};
 use gw_outside::Disk;
-use jr_migrate::{MigrateFault, migrate};
+use jr_log::{MigrateFault, migrate};
 use std::alloc::Global;
 
 /// The status of a journal that was not moved.

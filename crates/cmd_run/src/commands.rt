@@ -19,8 +19,8 @@ ghost use Rattle.cmd_codec.specs.Encodes.{GaveWire, LeavesWire};
 ghost use Rattle.cmd_journal.specs.Formats.{Formats, KeepsBehindHeader};
 ghost use Rattle.cmd_journal.specs.Prints.{Prints, journal_devices};
 ghost use Rattle.cmd_journal.specs.Moves.{KeepsOld, Moves};
-ghost use Rattle.jr_migrate.specs.Fresh.{IsFresh};
-ghost use Rattle.jr_migrate.specs.Migrates.{LeavesWhole};
+ghost use Rattle.jr_log.specs.Fresh.{IsFresh};
+ghost use Rattle.jr_log.specs.Migrates.{LeavesWhole};
 ghost use Rattle.std.specs.Option.{ForSome};
 ghost use Rattle.cmd_run.specs.Run.{IsRefused, JudgesBy};
 
