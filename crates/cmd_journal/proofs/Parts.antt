@@ -3,7 +3,7 @@ use Rattle.std.proofs.Common.{◌≡◌, ℕ, ◌+◌, ◌<◌, List, [], ◌∷
 use Rattle.jr_dated.specs.Dated.{Dated}
 use Rattle.jr_segments.specs.Journal.{instead}
 use Rattle.jr_segments.proofs.Instead.{take_instead}
-use Rattle.jr_text.specs.Lines.{line_of, lines_from}
+use Rattle.cmd_journal.specs.Lines.{line_of, lines_from}
 
 pub lines_from-append : (n : ℕ) (xs ys : List Dated) → lines_from n (xs ++ ys) ≡ lines_from n xs ++ lines_from (n + length xs) ys
 lines_from-append n [] ys = let same : n ≡ n + 0 = omega arith in ap (λ (k : ℕ). lines_from k ys) same

@@ -5,7 +5,7 @@ ghost use Rattle.hex.specs.Hex.{encode_lower};
 ghost use Rattle.jr_record.specs.Records.{IsRecord};
 ghost use Rattle.jr_record.specs.declared.record.Record.TheVariants as kinds;
 ghost use Rattle.jr_dated.specs.Dated.{stamped};
-ghost use Rattle.jr_text.specs.Lines.{line_of, words_of};
+ghost use Rattle.cmd_journal.specs.Lines.{line_of, words_of};
 
 use jr_record::Record;
 use std::alloc::AllocError;

@@ -1,8 +1,8 @@
 use Rattle.std.proofs.Common.{◌≡◌, ◌≤◌, false, List, ◌++◌, take}
 use Rattle.jr_dated.specs.Dated.{Dated}
 use Rattle.jr_segments.specs.Journal.{OnlyRead, RestsOn, broken_of, count_of, disk_of}
-use Rattle.jr_text.proofs.Boxes.{WritesFirst}
-use Rattle.jr_text.proofs.printing.write_box.Given as goal
+use Rattle.cmd_journal.proofs.BoxLines.{WritesFirst}
+use Rattle.cmd_journal.proofs.printing.write_box.Given as goal
 
 abbrev pub invariant-loop-at : goal.invariant-loop-at
 invariant-loop-at g l = record {

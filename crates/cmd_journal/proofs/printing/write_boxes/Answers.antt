@@ -1,9 +1,9 @@
 use Rattle.std.proofs.Common.{[]}
 use Rattle.std.proofs.lemmas.Result.{err_from_is_err_and}
 use Rattle.jr_boxes.specs.declared.faults.Which.TheVariants.{Outbox, Inbox}
-use Rattle.jr_text.specs.Lines.{box_lines, journal_lines}
-use Rattle.jr_text.proofs.Writing.{front_of_more, wrote_nothing, wrote_front, all_pushed}
-use Rattle.jr_text.proofs.printing.write_boxes.Goals as goal
+use Rattle.cmd_journal.specs.Lines.{box_lines, journal_lines}
+use Rattle.cmd_journal.proofs.Writing.{front_of_more, wrote_nothing, wrote_front, all_pushed}
+use Rattle.cmd_journal.proofs.printing.write_boxes.Goals as goal
 
 pub returns-in_err-write_box-clause-err : goal.returns-in_err-write_box-clause-err
 returns-in_err-write_box-clause-err g c =

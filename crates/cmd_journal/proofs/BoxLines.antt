@@ -11,10 +11,10 @@ use Rattle.jr_segments.specs.Resting.{Keeps}
 use Rattle.jr_segments.specs.Journal.{OnlyRead, RestsOn, instead}
 use Rattle.jr_segments.specs.declared.journal.SegJournal.{SegJournal}
 use Rattle.jr_segments.proofs.Rereads.{counts}
-use Rattle.jr_text.specs.Lines.{box_lines, line_of, lines_from, name_of}
-use Rattle.jr_text.specs.Printing.{Wrote, WritesFront, WritesMore}
-use Rattle.jr_text.proofs.Parts.{text_with_all, text_with_more}
-use Rattle.jr_text.proofs.Writing.{front_of_more, wrote_so_far}
+use Rattle.cmd_journal.specs.Lines.{box_lines, line_of, lines_from, name_of}
+use Rattle.cmd_journal.specs.Printing.{Wrote, WritesFront, WritesMore}
+use Rattle.cmd_journal.proofs.Parts.{text_with_all, text_with_more}
+use Rattle.cmd_journal.proofs.Writing.{front_of_more, wrote_so_far}
 
 -- what was written so far, with the lines of the first records of a list
 abbrev pub WritesFirst : (old new : Option (List ℕ)) (held now_held : List ℕ) → Which → ℕ → List Dated → Type 0

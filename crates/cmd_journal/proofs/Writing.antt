@@ -5,7 +5,7 @@ use Rattle.std.proofs.lemmas.List.{take-append-le}
 use Rattle.std.specs.Io.KnownBytes.{Appends}
 use Rattle.std.proofs.KnownBytes.{Appends-trans}
 use Rattle.gw_outside.specs.Faults.{TakesFront}
-use Rattle.jr_text.specs.Printing.{Wrote}
+use Rattle.cmd_journal.specs.Printing.{Wrote}
 
 -- more is held
 pub wrote_more : (before : Option (List ℕ)) (text : List ℕ) (now : Option (List ℕ)) (held more : List ℕ) → Wrote before text now held → Wrote before (text ++ more) now (held ++ more)

@@ -1,5 +1,5 @@
-use Rattle.jr_text.proofs.Writing.{front_of_more, wrote_so_far, wrote_pushed, wrote_failed}
-use Rattle.jr_text.proofs.printing.write_record.Goals as goal
+use Rattle.cmd_journal.proofs.Writing.{front_of_more, wrote_so_far, wrote_pushed, wrote_failed}
+use Rattle.cmd_journal.proofs.printing.write_record.Goals as goal
 
 pub returns-in_default-clause-err : goal.returns-in_default-clause-err
 returns-in_default-clause-err g c = λ before text wrote. front_of_more before _ text _ (wrote_so_far before text _ _ wrote)

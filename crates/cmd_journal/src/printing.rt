@@ -9,9 +9,9 @@ ghost use Rattle.jr_dated.specs.declared.faults.FetchFault.TheVariants as fetch;
 ghost use Rattle.jr_boxes.specs.declared.faults.Which as boxes;
 ghost use Rattle.jr_boxes.specs.declared.faults.Which.TheVariants as which_box;
 ghost use Rattle.jr_segments.specs.Journal.{OnlyRead, RestsOn, broken_of, disk_of};
-ghost use Rattle.jr_text.specs.Lines.{box_lines, journal_lines, line_of, name_of};
-ghost use Rattle.jr_text.specs.Printing.{WritesFront, WritesMore};
-ghost use Rattle.jr_text.specs.declared.printing.PrintFault.TheVariants as print;
+ghost use Rattle.cmd_journal.specs.Lines.{box_lines, journal_lines, line_of, name_of};
+ghost use Rattle.cmd_journal.specs.Printing.{WritesFront, WritesMore};
+ghost use Rattle.cmd_journal.specs.declared.printing.PrintFault.TheVariants as print;
 
 use crate::lines::push_record;
 use gw_outside::{Disk, Failed, Sink, push_all};

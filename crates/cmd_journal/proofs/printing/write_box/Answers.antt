@@ -2,9 +2,9 @@ use Rattle.std.proofs.Common.{◌≡◌, sym, ap, ◌∙◌, arith, length}
 use Rattle.std.proofs.lemmas.Result.{err_from_is_err_and}
 use Rattle.jr_dated.specs.Dated.{stamped}
 use Rattle.jr_segments.proofs.Rereads.{read_on}
-use Rattle.jr_text.proofs.Writing.{front_of_more, wrote_so_far}
-use Rattle.jr_text.proofs.Boxes.{failed, finished, kept, so_far, went_on}
-use Rattle.jr_text.proofs.printing.write_box.Goals as goal
+use Rattle.cmd_journal.proofs.Writing.{front_of_more, wrote_so_far}
+use Rattle.cmd_journal.proofs.BoxLines.{failed, finished, kept, so_far, went_on}
+use Rattle.cmd_journal.proofs.printing.write_box.Goals as goal
 
 pub returns-in_err-write_name-clause-err : goal.returns-in_err-write_name-clause-err
 returns-in_err-write_name-clause-err g c =
