@@ -1,19 +1,17 @@
-//! What is wrong with a session, in a line.
+//! What is wrong with a session that has ended, in a line.
 
-use cmd_run::Status;
-use gw_outside::Disk;
-use gw_real::{FileSink, FileSource};
-use say_live::Teller;
-use say_session::{
+use crate::said::{
     SaysWhy, push_bad, push_config, push_failed, push_plans, push_reject, push_undialed,
     push_unfinished, push_unread, push_unwritten,
 };
-use session_files::{Session, push_place};
+use cmd_base::Status;
+use gw_outside::Disk;
+use gw_real::{FileSink, FileSource};
+use session_files::{Outlook, Session, push_place};
 use std::alloc::{AllocError, Global};
 use std::fs::File;
 use std::io::Printer;
 use std::rt::Files;
-use std::time::Clock;
 
 /// The devices of a session, out of their watches.
 #[derive(Drop)]
@@ -53,14 +51,14 @@ fn push_full<R, D: Disk, N>(
 }
 
 /// Adds what is wrong; nothing where the status says all.
-fn push_line<R: Clock + Eprint + Files<File = File>, D: Disk + SaysWhy, N: SaysWhy>(
+fn push_line<R: Files<File = File>, D: Disk + SaysWhy, N: SaysWhy>(
     rt: &R,
     alloc: Global,
     line: &mut String,
     session: Session<'_>,
     status: &Status,
     outside: &mut Said<'_, R, D, N>,
-    teller: &Teller<'_, R>,
+    outlook: Outlook,
 ) -> Result<(), AllocError> {
     match status {
         Status::Config(fault) => {
@@ -77,8 +75,8 @@ fn push_line<R: Clock + Eprint + Files<File = File>, D: Disk + SaysWhy, N: SaysW
             push_failed(rt, line, session, &outside.out_disk, &outside.in_disk)
         }
         Status::JournalBad { which, cause } => push_bad(line, session, *which, *cause),
-        Status::DialFault => { push_undialed(line, session, &outside.dialer, teller.outlook()) }
-        Status::Unfinished { .. } => push_unfinished(line, session.most, teller.outlook()),
+        Status::DialFault => push_undialed(line, session, &outside.dialer, outlook),
+        Status::Unfinished { .. } => push_unfinished(line, session.most, outlook),
         Status::Rejected { template, code } => push_reject(line, session, *template, *code),
         Status::Full { entries, bytes } => push_full(line, session, outside, *entries, *bytes),
         Status::Message(bad) => push_plans(
@@ -94,17 +92,18 @@ fn push_line<R: Clock + Eprint + Files<File = File>, D: Disk + SaysWhy, N: SaysW
     }
 }
 
-/// What is wrong, in a line; none where the status says all, or where there is no memory to say it.
-pub fn line_of<R: Clock + Eprint + Files<File = File>, D: Disk + SaysWhy, N: SaysWhy>(
+/// What is wrong with a session that ended with this status, in a line; none where the status says all, or where there is no memory
+/// to say it. The outlook is said where there was no connection, or not all was done.
+pub fn line_of<R: Files<File = File>, D: Disk + SaysWhy, N: SaysWhy>(
     rt: &R,
     alloc: Global,
     session: Session<'_>,
     status: &Status,
     outside: &mut Said<'_, R, D, N>,
-    teller: &Teller<'_, R>,
+    outlook: Outlook,
 ) -> Option<String> {
     let mut line = String::new(alloc);
-    match push_line(rt, alloc, &mut line, session, status, outside, teller) {
+    match push_line(rt, alloc, &mut line, session, status, outside, outlook) {
         Ok(()) if !line.is_empty() => Some(line),
         _ => None,
     }
