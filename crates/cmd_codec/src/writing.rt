@@ -33,7 +33,7 @@ fn read_all(alloc: Global, plan: &Plan, text: &[u8]) -> Result<(), Refusal>
 }
 
 /// Why no frame is made of the message at the front of a text.
-#[derive(Debug, Drop)]
+#[derive(Drop)]
 pub enum Stop {
     /// A line is refused, at which so many are left.
     Line(u64),
@@ -85,7 +85,7 @@ fn write_message<'a>(
 }
 
 /// How far the frames of a text are made.
-#[derive(Clone, Copy, Debug)]
+#[derive(Clone, Copy)]
 pub struct Place<'a> {
     /// The text from the next message on.
     pub left: &'a [u8],

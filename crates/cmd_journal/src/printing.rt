@@ -22,7 +22,7 @@ use jr_segments::SegJournal;
 use std::alloc::Global;
 
 /// Why not all lines were printed.
-#[derive(Clone, Copy, Debug, PartialEq, Eq)]
+#[derive(Clone, Copy)]
 pub enum PrintFault {
     /// The output failed.
     Output,

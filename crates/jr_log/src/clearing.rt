@@ -9,7 +9,7 @@ ghost use Rattle.jr_log.specs.Fresh.{AllCleared, IsFresh, IsSeen};
 use gw_outside::{Disk, Failed};
 
 /// What stands at the front of a disk.
-#[derive(Clone, Copy, Debug, PartialEq, Eq)]
+#[derive(Clone, Copy)]
 pub enum Seen {
     /// 16 bytes or more, of which the first is not 0.
     Used,

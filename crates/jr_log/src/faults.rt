@@ -30,7 +30,7 @@ pub enum MigrateFault {
 }
 
 /// Why the bytes of a journal were not written.
-#[derive(Clone, Copy, Debug)]
+#[derive(Clone, Copy)]
 pub enum LayFault {
     Memory,
     /// A call of the disk failed.
