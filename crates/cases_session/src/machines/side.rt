@@ -52,13 +52,14 @@ fn message_of(payload: &[u8]) -> &[u8] {
 }
 
 impl Side {
-    /// An end of a new session, in its first connection. `pace` is how many messages it sends live in a turn, at most.
+    /// An end of this version, of a new session, in its first connection. `pace` is how many messages it sends live in a turn, at most.
     pub fn new(
         alloc: Global,
         role: Role,
         own_flow: Flow,
         peer_flow: Flow,
         pace: u64,
+        version: u16,
     ) -> Result<Side, AllocError> {
         let recorded = EndState {
             negotiated: false,
@@ -67,7 +68,7 @@ impl Side {
             sent: 0,
             finish: None,
         };
-        let driven = Driven::new(alloc, role, own_flow, peer_flow, recorded, 0, 0)?;
+        let driven = Driven::new(alloc, role, own_flow, peer_flow, recorded, 0, version)?;
         Ok(Side {
             driven,
             own_flow,

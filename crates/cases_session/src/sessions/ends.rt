@@ -19,7 +19,7 @@ const BEGINNING: u64 = 5;
 const PLACE: u64 = 7;
 
 /// A flow by its name.
-fn flow_of(word: &str) -> Flow {
+pub fn flow_of(word: &str) -> Flow {
     match word {
         "recoverable" => Flow::Recoverable,
         "idempotent" => Flow::Idempotent,
@@ -28,7 +28,8 @@ fn flow_of(word: &str) -> Flow {
     }
 }
 
-fn role_of(side: &str) -> Role {
+/// A role by its name.
+pub fn role_of(side: &str) -> Role {
     match side {
         "initiator" => Role::Initiator,
         _ => Role::Acceptor,
@@ -202,6 +203,22 @@ fn push_event(
     push_bytes(line, driven, bytes.as_slice())
 }
 
+/// Adds what an end does at an event: at the last of them where it comes more than once, as in `256*application`.
+fn push_last(
+    alloc: Global,
+    line: &mut String,
+    driven: &mut Driven,
+    sources: Sources<'_>,
+    event: &str,
+) -> Result<(), AllocError> {
+    let (times, event) = event.split_once("*").unwrap_or(("1", event));
+    for _ in 1..number(times) {
+        let mut unsaid = String::new(alloc);
+        push_event(alloc, &mut unsaid, driven, sources, event)?;
+    }
+    push_event(alloc, line, driven, sources, event)
+}
+
 /// Adds the line of an event.
 fn push_event_line(
     alloc: Global,
@@ -211,7 +228,7 @@ fn push_event_line(
     event: &str,
 ) -> Result<(), AllocError> {
     write!(line, "\n  {event}: ")?;
-    push_event(alloc, line, driven, sources, event)?;
+    push_last(alloc, line, driven, sources, event)?;
     push_taken(alloc, line, driven, ", ")
 }
 
