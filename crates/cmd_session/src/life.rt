@@ -43,7 +43,7 @@ use std::sync::Wait;
 use std::thread::Threads;
 
 /// The status of a life that was served so.
-fn status_of(answer: Result<(), ServeFault>) -> Status
+pub fn status_of(answer: Result<(), ServeFault>) -> Status
     ensures value { result ≡ status_of answer }
     ensures of_life { IsOfLife result }
     ensures output { result ≡ Status.OutputFault → answer ≡ Err faults.Output }
@@ -192,13 +192,13 @@ fn serve_seated<
 }
 
 /// The passes and the gate of an outbox.
-type Made<D> = (Gate<SegJournal<D>>, Passes<Kept<SegJournal<D>>>);
+pub type Made<D> = (Gate<SegJournal<D>>, Passes<Kept<SegJournal<D>>>);
 
 /// A gate round an outbox for so many senders, and its passes.
 ///
 /// # Errors
 /// The outbox comes back where memory runs out.
-fn made_gate<D: Disk>(
+pub fn made_gate<D: Disk>(
     alloc: Global,
     outbox: Outbox<SegJournal<D>>,
     senders: u16,

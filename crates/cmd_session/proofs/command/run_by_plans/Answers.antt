@@ -11,8 +11,8 @@ use Rattle.cmd_session.proofs.Given.{given_back, refused_by, lived_by}
 use Rattle.cmd_session.proofs.Over.{lived_disks}
 use Rattle.cmd_session.proofs.Later.{left_as_told, later_holds, later_goes}
 use Rattle.cmd_session.proofs.Served.{lived_since}
-use Rattle.cmd_session.proofs.command.run_over_disks.Goals.{in-Ok, in-Err}
-use Rattle.cmd_session.proofs.command.run_over_disks.Goals as goal
+use Rattle.cmd_session.proofs.command.run_by_plans.Goals.{in-Ok, in-Err}
+use Rattle.cmd_session.proofs.command.run_by_plans.Goals as goal
 
 pub returns-clause-ended : goal.returns-clause-ended
 returns-clause-ended g c = λ first.
