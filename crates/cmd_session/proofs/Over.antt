@@ -42,7 +42,8 @@ use Rattle.life_laws.specs.Lives.{LifeOfLoop, served_of}
 use Rattle.life_laws.proofs.Loops.{served_keeps}
 use Rattle.life_laws.proofs.Opened.{opened_opens}
 use Rattle.life_laws.proofs.Seen.{order_prop}
-use Rattle.life_laws.specs.Plans.{plan_in, GoesOnBy, GoesOnWith}
+use Rattle.life_laws.specs.Plans.{plan_in, submitting, KeepsSenders, GoesOnBy, GoesOnWith}
+use Rattle.life_laws.proofs.Submitting.{plans_submitted, none_of, keeps_submitted}
 use Rattle.life_laws.proofs.Lost.{plans_go_on}
 use Rattle.life_laws.specs.PlanLives.{clocked, LivedBoxes, WasFull, FillsInbox}
 use Rattle.plan_outbox.specs.Behind.{GoesOnFrom}
@@ -52,6 +53,7 @@ use Rattle.cmd_session.specs.Lived.{LeavesImages, FullInbox, limits, OpensInbox,
 use Rattle.cmd_session.specs.Outsides.{Sees, live_of}
 use Rattle.cmd_session.specs.declared.outside.SessionOutside.{SessionOutside}
 use Rattle.cmd_session.proofs.Histories.{same_history}
+use Rattle.cmd_session.proofs.Verdicts.{at_most_one_verdict}
 use Rattle.cmd_session.proofs.Kept.{left_images, held_kept, inbox_kept}
 use Rattle.cmd_session.proofs.Later.{HoldsTold}
 
@@ -71,7 +73,7 @@ module _ {S K D N C J : Type 0} {H : Ghosts J} (outbox : Outbox J H) (sees : See
       (o : HoldsTold (sees.told before.out_disk) outbox) (i : OpensInbox (sees.told before.in_disk) box) (limit : ((outboxes.limits_of outbox).entries ≡ 2 ^ 26) × ((outboxes.limits_of outbox).bytes ≡ 2 ^ 33))
       (in_limit : (inboxes.limits_of box).bytes ≡ 2 ^ 33) (now_out_is : after.out_disk ≡ disk_at (outboxes.journal_of closed)) (now_in_is : after.in_disk ≡ disk_at (inboxes.journal_of since))
       (out_least : sees.disk before.out_disk ≤ outboxes.faults_of outbox) (in_least : sees.disk before.in_disk ≤ inboxes.faults_of box) (out_count : sees.disk after.out_disk ≡ outboxes.faults_of closed) (in_count : sees.disk after.in_disk ≡ inboxes.faults_of since)
-      (go : ForSome (sees.told before.out_disk) (λ content. (h : History) → outboxes.HoldsBox outbox h [] → GoesOnFrom plans h)) (l : LivedBoxes (clocked H.tells sees.links (sees.last before.clock) (sees.last after.clock)) config plans (beside (sees.carried before.dialer) (sees.taken before.out) box) (beside (sees.carried after.dialer) (sees.taken after.out) since) outbox closed result) where
+      (l : LivedBoxes (clocked H.tells sees.links (sees.last before.clock) (sees.last after.clock)) config plans (beside (sees.carried before.dialer) (sees.taken before.out) box) (beside (sees.carried after.dialer) (sees.taken after.out) since) outbox closed result) where
     abbrev machine : State
     machine = fresh config (opened_state l.opening box) (2 ^ 26)
 
@@ -82,11 +84,6 @@ module _ {S K D N C J : Type 0} {H : Ghosts J} (outbox : Outbox J H) (sees : See
     same_records : (content : List ℕ) → sees.told before.out_disk ≡ Some content → records_of_history o.history ≡ records_of_history l.opening
     same_records content is = ∥∥₁_elim l.opened (records_prop (records_of_history o.history) (records_of_history l.opening))
         (λ h. ap (λ (x : History). records_of_history x) (sym (o.one content is l.opening h)))
-
-    -- so the plans go on from it
-    goes_on_from : ForSome (sees.told before.out_disk) (λ content. GoesOnFrom plans l.opening)
-    goes_on_from content is = subst (λ (h : History). GoesOnFrom plans h) (same_history o.history l.opening (same_records content is))
-        (go content is o.history o.holds)
 
     has : Has entries_then l.seen
     has = subst (λ (es : List Entry). Has es l.seen) (sym (entries-outbox_of l.closing)) (record { begins = l.begins.made; few = l.few })
@@ -135,6 +132,9 @@ module _ {S K D N C J : Type 0} {H : Ghosts J} (outbox : Outbox J H) (sees : See
     abbrev list : List InboxRecord
     list = i.inbox ++ adds_of (all_of l.served.life.ended l.served.life.given_up)
 
+    planned : KeepsSenders (submitting plans) l.opening l.closing goes_whole.whole l.lost i.inbox list
+    planned = keeps_submitted plans l.opening l.closing goes_whole.whole l.lost i.inbox (adds_of (all_of l.served.life.ended l.served.life.given_up)) l.loses goes_whole.keeps
+
     held : inboxes.HoldsBox since list (refused_of_all (option_to_list l.served.life.given_up))
     held = l.served.life.refuses.holds i.inbox i.holds
 
@@ -165,7 +165,7 @@ module _ {S K D N C J : Type 0} {H : Ghosts J} (outbox : Outbox J H) (sees : See
         ap (λ (n : ℕ). record { entries = n; bytes = (outboxes.limits_of outbox).bytes }) limit.0 ∙ ap (λ (n : ℕ). record { entries = 2 ^ 26; bytes = n }) limit.1 in
         inr (subst (λ (x : Limits). WasFull x plans l.opening l.closing entries bytes) same w)
 
-    pub lived_over : LivedOver sees config plans before after box since result
+    pub lived_over : LivedOver sees config (submitting plans) before after box since result
     lived_over = record {
       opening = l.opening;
       closing = l.closing;
@@ -175,7 +175,6 @@ module _ {S K D N C J : Type 0} {H : Ghosts J} (outbox : Outbox J H) (sees : See
       refused = l.refused;
       out_opened = λ content is. subst (λ (rs : List Record). IsJournal content rs) (same_records content is) (o.told content is);
       in_opened = i.told;
-      goes_on_from = goes_on_from;
       holds = i.holds;
       served = l.served;
       answer = l.answer;
@@ -183,11 +182,10 @@ module _ {S K D N C J : Type 0} {H : Ghosts J} (outbox : Outbox J H) (sees : See
       begins = l.begins;
       grows = l.plans_kept.begins;
       lost = l.lost;
-      loses = l.loses;
       whole = goes_whole.whole;
       goes_on = goes_whole.goes_on;
       in_order = goes_whole.in_order order;
-      keeps = goes_whole.keeps;
+      planned = λ looks. planned;
       life = life;
       contract = λ t. record { connections = connections t; outbox = outbox_is_kept t };
       out_left = out_left;
@@ -195,14 +193,17 @@ module _ {S K D N C J : Type 0} {H : Ghosts J} (outbox : Outbox J H) (sees : See
       in_left = left_images (sees.may_leave after.in_disk) held.dated held.late (records_of_inbox list) (records_of_inbox (refused_of_all (option_to_list l.served.life.given_up))) held.bare held.bare_late
           (λ image left. held.journal.images image (leaves_are (inboxes.journal_of since) image (subst (λ (d : D). LeavesDated (sees.may_leave d) image) now_in_is left)));
       room = room;
-      marked = l.marked;
-      none = l.plans_kept.none;
+      marked = λ u some waits. l.marked u some;
+      none = λ e. l.plans_kept.none (none_of plans e);
       journal = λ e. ⊎_elim
           (λ risen. inr (risen_over (sees.disk before.in_disk) (sees.disk after.in_disk) (inboxes.faults_of box) (inboxes.faults_of since) in_least (sym in_count) risen))
           (λ risen. inl (risen_over (sees.disk before.out_disk) (sees.disk after.out_disk) (outboxes.faults_of outbox) (outboxes.faults_of closed) out_least (sym out_count) risen))
           (l.journal e);
       changed = l.changed;
-      full = λ entries bytes e. full entries bytes (l.full entries bytes e);
+      full = λ entries bytes e. ⊎_elim
+          (λ f. inl f)
+          (λ w. inr (λ looks. subst (λ (ps : List (List (List ℕ))). WasFull limits ps l.opening l.closing entries bytes) (sym (plans_submitted plans planned.answered)) w))
+          (full entries bytes (l.full entries bytes e));
     }
 
   -- what was lived over the boxes was lived over their disks
@@ -215,6 +216,8 @@ module _ {S K D N C J : Type 0} {H : Ghosts J} (outbox : Outbox J H) (sees : See
   lived_disks senders config before after closed box since status o i limit in_limit now_out_is now_in_is out_least in_least out_count in_count l = record {
     plans = l.plans;
     life = l.life;
+    goes_on = λ content is h journal. subst (λ (x : History). GoesOnFrom l.plans x)
+        (same_history o.history h (at_most_one_verdict.one_list content (records_of_history o.history) (records_of_history h) (o.told content is) journal)) (l.goes_on content is o.history o.holds);
     lived = ⊎_elim
         (λ b. inl (record {
           cause = b.cause;
@@ -229,7 +232,7 @@ module _ {S K D N C J : Type 0} {H : Ghosts J} (outbox : Outbox J H) (sees : See
           new = since;
           result = h.result;
           status_is = h.status_is;
-          over = lived_over config l.plans before after closed box since h.result o i limit in_limit now_out_is now_in_is out_least in_least out_count in_count l.goes_on h.boxes;
+          over = lived_over config l.plans before after closed box since h.result o i limit in_limit now_out_is now_in_is out_least in_least out_count in_count h.boxes;
         }))
         l.lived;
   }

@@ -8,5 +8,6 @@ pub mod Lost
 pub mod Outboxes
 pub mod Seen
 pub mod Senders
+pub mod Submitting
 pub mod Passes
 pub mod Boxes

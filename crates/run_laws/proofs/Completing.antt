@@ -9,6 +9,8 @@ use Rattle.cmd_base.specs.declared.status.Status.{Status}
 use Rattle.cmd_base.specs.declared.status.Status.TheVariants.{Memory}
 use Rattle.conn_door.specs.declared.answer.ServeFault.TheVariants as faults
 use Rattle.conn_door.specs.Answers.{answer_of}
+use Rattle.life_laws.specs.Plans.{submitting}
+use Rattle.life_laws.proofs.Submitting.{never_waits}
 use Rattle.cmd_session.specs.Inputs.{configuration_at, flow_received, end_of}
 use Rattle.cmd_session.specs.Lived.{status_of, IsPlannedLife, HasLivedOver, Lived}
 use Rattle.cmd_session.specs.Outsides.{Sees, live_of, counts_of}
@@ -52,7 +54,7 @@ module _ {S K D N C J : Type 0} (G : Ghosts J) (sees : Sees S K D N C)
       s.refused
 
   module _ (plans : List (List (List ℕ))) (life : IsPlannedLife sees c.trade.senders plans before.input (live_of before) (live_of after) status)
-      (h : HasLivedOver G sees (end_of role c.link) plans before after status) where
+      (h : HasLivedOver G sees (end_of role c.link) (submitting plans) before after status) where
     blames_none : BlamesNone h.result
     blames_none faults.Output of e = none.out (life.output (h.status_is ∙ ap status_of e))
     blames_none faults.Journal of e = ⊎_elim none.out_disk none.in_disk (h.over.journal e)
@@ -83,7 +85,7 @@ module _ {S K D N C J : Type 0} (G : Ghosts J) (sees : Sees S K D N C)
           (behind_finish h.over.served.life.behind h.over.seen h.over.served.life.mid (sees.carried after.dialer) h.over.served.life.ended h.over.served.life.given_up h.over.connections h.over.refused h.over.refusal answer_blames_none h.over.served.life.answer one);
       full = λ entries bytes e. full_is h.result entries bytes (sym h.status_is ∙ e);
       marked = λ of some. h.over.marked (unrefused h.result (subst (λ (s : Status). IsOfConnections s) h.status_is of))
-          (subst (λ (n : ℕ). 0 < n) (sym (as_many c.trade.senders told_plans.0 plans has_plans)) some);
+          (subst (λ (n : ℕ). 0 < n) (sym (as_many c.trade.senders told_plans.0 plans has_plans)) some) never_waits;
     }
 
   at_life : Lived G sees c.trade.senders (end_of role c.link) before after status → LeftEnds

@@ -18,6 +18,7 @@ use Rattle.cmd_session.specs.Journals.{IsJournal, Leaves}
 use Rattle.cmd_session.proofs.Verdicts.{at_most_one_verdict}
 use Rattle.jr_boxes.specs.Outboxes.{record_of, outbox_of, records_of_history}
 use Rattle.life_laws.specs.Plans.{plan_in, KeepsPlans}
+use Rattle.life_laws.proofs.Submitting.{never_waits, plans_kept}
 use Rattle.life_laws.proofs.Outboxes.{entries-outbox_of}
 use Rattle.cmd_session.specs.Lived.{IsKept}
 use Rattle.cmd_session.specs.Outsides.{Sees}
@@ -177,7 +178,8 @@ module _ {S K D N C J : Type 0} (G : Ghosts J) (sees : Sees S K D N C) (role : R
           was = told_was sees outboxes r.before.out_disk (records_of_history v.opening) at v.out_opened;
           begins = prefix_trans (outbox_of v.opening) (outbox_of v.closing) (outbox_of h) (opening_closing v)
               (prefix_trans (outbox_of v.closing) later.opened (outbox_of h) (image.kept, sym image.holds) later.begins);
-          stays = λ was. later.stays (gave_now by.plans v.opening v.closing v.whole v.lost t.0 t.1 senders has v.goes_on v.in_order v.keeps (v.goes_on_from found.0 found.1) image was);
+          stays = λ was. later.stays (gave_now by.plans v.opening v.closing v.whole v.lost t.0 t.1 senders has v.goes_on v.in_order (plans_kept by.plans v.opening v.closing v.whole v.lost v.inbox _ (v.planned never_waits))
+              (by.goes_on found.0 found.1 v.opening (v.out_opened found.0 found.1)) image was);
         }
 
   stays_over : (runs : List (Run S K D N C)) (outboxes inboxes : List ℕ → Type 0) (outbox inbox : List ℕ) → ((r : Run S K D N C) → Contains runs r → Contains all r) → IsJournal outbox (records_of_history h)

@@ -23,6 +23,7 @@ use Rattle.jr_boxes.specs.Outboxes.{record_of, outbox_of}
 use Rattle.jr_boxes.specs.Inboxes.{records_of_inbox}
 use Rattle.cmd_config.specs.Settings.{own_flow, peer_flow}
 use Rattle.life_laws.proofs.Outboxes.{entries-outbox_of}
+use Rattle.life_laws.specs.Plans.{submitting}
 use Rattle.cmd_session.specs.Inputs.{configuration_at, end_of}
 use Rattle.cmd_session.specs.Outsides.{Sees}
 use Rattle.run_laws.specs.Several.{Run, Flows, HasFlows, IsEmptyJournal, IsAt, brought, RunsOver, WasRun, HasRun}
@@ -58,7 +59,7 @@ module _ {S K D N C J : Type 0} (G : Ghosts J) (sees : Sees S K D N C) (role : R
         let spelled : configuration_at role t.0 ≡ Ok c = by.spelled t.0 t.1 in
         let same : (c.link.client_flow ≡ flows.client) × (c.link.server_flow ≡ flows.server) = t.2 c spelled in
         let fits = configurations_fit role t.0 c spelled in
-        lived_on G sees (own role flows) (peer role flows) o i payloads r.before r.after carried outboxes inboxes out_at in_at was.links later told (end_of role c.link) by.plans r.status by.lived
+        lived_on G sees (own role flows) (peer role flows) o i payloads r.before r.after carried outboxes inboxes out_at in_at was.links later told (end_of role c.link) (submitting by.plans) r.status by.lived
         (ap (λ (f : Flow). own_flow role f c.link.server_flow) same.0 ∙ ap (λ (f : Flow). own_flow role flows.client f) same.1)
         (ap (λ (f : Flow). peer_flow role f c.link.server_flow) same.0 ∙ ap (λ (f : Flow). peer_flow role flows.client f) same.1)
         fits.session fits.keepalive fits.credentials

@@ -21,7 +21,7 @@ use Rattle.jr_kept.specs.declared.inbox.Inbox.{Inbox}
 use Rattle.cmd_config.specs.Settings.{own_flow, peer_flow}
 use Rattle.conn_door.specs.declared.answer.ServeFault.{ServeFault}
 use Rattle.conn_serve.specs.Connections.{all_of, adds_of}
-use Rattle.life_laws.specs.Plans.{plan_in}
+use Rattle.life_laws.specs.Plans.{plan_in, submitting}
 use Rattle.cmd_session.specs.Inputs.{end_of}
 use Rattle.cmd_session.specs.Lived.{LeavesImages, LivedOver}
 use Rattle.cmd_session.specs.Outsides.{Sees}
@@ -38,7 +38,7 @@ all_images may_leave closing refused merely None left = none_left may_leave clos
 all_images may_leave closing refused merely (Some records) left = image_left may_leave closing refused records merely left
 
 module _ {J : Type 0} {G : Ghosts J} {S K D N C : Type 0} (sees : Sees S K D N C) (config : EndConfig) (plans : List (List (List ℕ))) (before after : SessionOutside S K D N C) (old new : Inbox J G)
-    (result : Result (Unit {0}) ServeFault) (t : G.tells) (v : LivedOver sees config plans before after old new result) where
+    (result : Result (Unit {0}) ServeFault) (t : G.tells) (v : LivedOver sees config (submitting plans) before after old new result) where
   abbrev life : Life
   life = life_in (machine_life (v.life t).life)
 

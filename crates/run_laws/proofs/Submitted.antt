@@ -18,7 +18,8 @@ use Rattle.cmd_session.specs.declared.outside.SessionOutside.{SessionOutside}
 use Rattle.cmd_session.specs.Journals.{IsJournal, Leaves}
 use Rattle.cmd_session.proofs.Verdicts.{at_most_one_verdict}
 use Rattle.jr_boxes.specs.Outboxes.{record_of, outbox_of, records_of_history}
-use Rattle.life_laws.specs.Plans.{plan_in, KeepsPlans}
+use Rattle.life_laws.specs.Plans.{plan_in, KeepsPlans, Senders}
+use Rattle.life_laws.proofs.Submitting.{never_waits, plans_kept}
 use Rattle.life_laws.proofs.Outboxes.{entries-outbox_of, outbox_begins}
 use Rattle.cmd_session.specs.Lived.{IsKept, LivedOver}
 use Rattle.cmd_session.specs.Outsides.{Sees}
@@ -59,8 +60,8 @@ continued plan whole before after part begun c =
     (prefix_trans c.more (drop (length before) plan) (drop (length before) whole) c.planned (prefix_drop (length before) plan whole part)))
 
 -- a life only adds to its outbox
-pub opening_closing : {J : Type 0} {G : Ghosts J} {S K D N C : Type 0} {sees : Sees S K D N C} {config : EndConfig} {plans : List (List (List ℕ))} {before after : SessionOutside S K D N C} {old new : Inbox J G} {result : Result (Unit {0}) ServeFault}
-    (v : LivedOver sees config plans before after old new result) → IsPrefix (outbox_of v.opening) (outbox_of v.closing)
+pub opening_closing : {J : Type 0} {G : Ghosts J} {S K D N C : Type 0} {sees : Sees S K D N C} {config : EndConfig} {senders : Senders} {before after : SessionOutside S K D N C} {old new : Inbox J G} {result : Result (Unit {0}) ServeFault}
+    (v : LivedOver sees config senders before after old new result) → IsPrefix (outbox_of v.opening) (outbox_of v.closing)
 opening_closing v = outbox_begins v.opening v.closing v.grows
 
 module _ {S K D N C J : Type 0} (G : Ghosts J) (sees : Sees S K D N C) (role : Role) (plan : ℕ → List (List ℕ)) (all : List (Run S K D N C)) (h : History) where
@@ -146,7 +147,7 @@ module _ {S K D N C J : Type 0} (G : Ghosts J) (sees : Sees S K D N C) (role : R
           was = told_was sees outboxes r.before.out_disk (records_of_history v.opening) at v.out_opened;
           begins = prefix_trans (outbox_of v.opening) (outbox_of v.closing) (outbox_of h) (opening_closing v)
               (prefix_trans (outbox_of v.closing) later.opened (outbox_of h) (image.kept, sym image.holds) later.begins);
-          stays = λ was. later.stays (sent_now by.plans v.opening v.closing v.whole v.lost t.0 t.1 senders has (t.2 senders by.plans has) v.goes_on v.in_order v.keeps image was);
+          stays = λ was. later.stays (sent_now by.plans v.opening v.closing v.whole v.lost t.0 t.1 senders has (t.2 senders by.plans has) v.goes_on v.in_order (plans_kept by.plans v.opening v.closing v.whole v.lost v.inbox _ (v.planned never_waits)) image was);
         }
 
   stays_over : (runs : List (Run S K D N C)) (outboxes inboxes : List ℕ → Type 0) (outbox inbox : List ℕ) → ((r : Run S K D N C) → Contains runs r → Contains all r) → IsJournal outbox (records_of_history h)

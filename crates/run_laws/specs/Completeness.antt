@@ -25,6 +25,7 @@ use Rattle.conn_door.specs.declared.answer.ServeFault.TheVariants as faults
 use Rattle.conn_door.specs.declared.answer.LifeEnd.TheVariants as ends
 use Rattle.conn_serve.specs.Connections.{Connection}
 use Rattle.conn_serve.specs.Served.{IsLifeAnswer}
+use Rattle.life_laws.specs.Plans.{submitting}
 use Rattle.cmd_session.specs.Inputs.{configuration_at, flow_received, end_of}
 use Rattle.cmd_session.specs.Boxes.{IsBox}
 use Rattle.cmd_session.specs.Lived.{HasLivedOver}
@@ -108,7 +109,7 @@ module _ {S K D N C J : Type 0} where
       (status : Status) : Type 0 where
     pub plans : List (List (List ℕ))
     pub planned : IsSomeAnd (sees.left before.input) (λ text. HasPlans c.trade.senders text plans)
-    pub lived : HasLivedOver G sees (end_of role c.link) plans before after status
+    pub lived : HasLivedOver G sees (end_of role c.link) (submitting plans) before after status
     pub ends : EndsAs lived.over.served.life.behind lived.over.seen lived.over.served.life.mid (sees.carried after.dialer) lived.over.served.life.ended
         lived.over.served.life.given_up status
     pub finished : OneFinished lived.over.served.life.ended → IsBehindFinish lived.over.refused status
