@@ -7,7 +7,7 @@ use Rattle.session_model.specs.Journal.{Entry, History, OutboxRecord, entry, fin
 use Rattle.session_model.specs.Inbox.{InboxRecord, applied, payloads_of, has_peer_finished}
 use Rattle.session_model.specs.Plans.{GoesOn, sent_by, Continues, Completes, SendersDone}
 use Rattle.session_model.specs.Lives.{Life, IsImage, KeepsOutbox}
-use Rattle.session_model.proofs.Lists.{prefix_trans, prefix_continued, length-counts_from}
+use Rattle.session_model.proofs.Lists.{prefix_self, prefix_trans, prefix_continued, length-counts_from}
 use Rattle.jr_boxes.specs.Outboxes.{outbox_of}
 use Rattle.jr_kept.specs.Entries.{entries_made}
 use Rattle.gate_senders.specs.Shown.{entries_after}
@@ -21,8 +21,10 @@ use Rattle.gate_business.specs.Business as business
 use Rattle.gate_business.proofs.Making.{prefix_drop, prefix_whole}
 use Rattle.conn_turns.proofs.Delivering.{applied_payloads}
 use Rattle.conn_serve.specs.Answering.{messages_of}
-use Rattle.life_laws.specs.Plans.{plan_in, MadeOf, LosesMessages, AllMade, LosesOwn, PlansMade}
-use Rattle.business_laws.specs.Answered.{plans_over, answering_plan, PassesAnswered, KeepsAnswers, AnswersOnBy, ContinuesGoesOn, ContinuesCompletes, AnsweringGoesOn, AnswersAreKept, AnswersKeepOutbox}
+use Rattle.life_laws.specs.Plans.{plan_in, MadeOf, LosesMessages, AllMade, LosesOwn, PlansMade, KeepsPlans, LosesNext, plans_at}
+use Rattle.life_laws.proofs.Submitting.{plans_submitted}
+use Rattle.business_laws.specs.Served.{KeepsWhole}
+use Rattle.business_laws.specs.Answered.{plans_over, answering_plan, answering, PassesAnswered, KeepsAnswers, AnswersOnBy, ContinuesGoesOn, ContinuesCompletes, AnsweringGoesOn, AnswersAreKept, AnswersKeepOutbox}
 use Rattle.life_laws.proofs.Planned.{plans_are_kept}
 use Rattle.life_laws.proofs.Lost.{plans_go_on}
 use Rattle.life_laws.proofs.Outboxes.{history_of-outbox_of, entries-outbox_of, outbox_begins}
@@ -218,6 +220,42 @@ finished_first [] more e = absurd (true≢false (sym e))
 finished_first (entry x ∷ rs) more e = finished_first rs more e
 finished_first (finish ∷ rs) more e = refl
 
+-- where the history with a beginning of what was lost has the mark, the peer's finish is among what was answered
+peer_done_by : (opening now : Account) (plan : ℕ → List (List ℕ) → List (List ℕ)) (count : ℕ) (known : ℕ → Part) (answered : List InboxRecord) → PassesAnswered opening plan count known answered
+    → Closed known (known 1).made opening now → (kept : List OutboxRecord) → IsPrefix kept now.refused → (whole : History) → outbox_of now.history ++ kept ≡ outbox_of whole
+    → opening.history.finished ≡ false → whole.finished ≡ true → has_peer_finished answered ≡ true
+peer_done_by opening now plan count known answered p c kept first whole goes_on open_is marked = ⊎_elim
+    (λ now_marked. marked_now opening now plan count known answered p c open_is (sym (finished_of now.history) ∙ now_marked))
+    (λ late. marked_late opening now plan count known answered p c (ap is_finished (sym first.1) ∙ finished_first kept first.0 late))
+    (finished_behind (outbox_of now.history) kept (ap is_finished goes_on ∙ finished_of whole ∙ marked))
+
+-- the plans of its senders are those of the business
+plans_answered : (plan : ℕ → List (List ℕ) → List (List ℕ)) (count : ℕ) (i : List InboxRecord) → plans_at (answering plan count) i ≡ plans_over plan count (messages_of i)
+plans_answered plan count i =
+    let plans : List (List (List ℕ)) = plans_over plan count (messages_of i) in
+    subst (λ (k : ℕ). map (λ (n : ℕ). plan_in plans n (messages_of i)) (counts_from 1 k) ≡ plans) (length-over plan count (messages_of i)) (plans_submitted plans i)
+
+pub answers_whole : (opening now : Account) (plan : ℕ → List (List ℕ) → List (List ℕ)) (count : ℕ) (known : ℕ → Part) (answered i j : List InboxRecord) → PassesAnswered opening plan count known answered
+    → Closed known (known 1).made opening now → IsPrefix i answered → IsPrefix answered j → KeepsWhole (answering plan count) opening now i j
+answers_whole opening now plan count known answered i j p c opened reached =
+    let plans : List (List (List ℕ)) = plans_over plan count (messages_of answered) in
+    let both = plans_are_kept opening now plans known (plans_made opening now plan count known answered p c) c in
+    let on = plans_go_on plans opening.history now.history now.refused both.0 both.1 now.refused (prefix_self now.refused) in
+    let same : plans ≡ plans_at (answering plan count) answered = sym (plans_answered plan count answered) in
+    record {
+      whole = on.whole;
+      goes_on = on.goes_on;
+      in_order = on.in_order;
+      keeps = record {
+        answered = answered;
+        opened = opened;
+        reached = reached;
+        loses = subst (λ (ps : List (List (List ℕ))). LosesNext ps opening.history now.history now.refused) same both.1;
+        keeps = subst (λ (ps : List (List (List ℕ))). KeepsPlans ps opening.history on.whole) same on.keeps;
+        waited = λ waits open_is marked. peer_done_by opening now plan count known answered p c now.refused (prefix_self now.refused) on.whole on.goes_on open_is marked;
+      };
+    }
+
 pub answers_are_kept : AnswersAreKept
 answers_are_kept opening now plan count known i j answered p c opened reached kept first =
     let both = plans_are_kept opening now (plans_over plan count (messages_of answered)) known (plans_made opening now plan count known answered p c) c in
@@ -230,10 +268,7 @@ answers_are_kept opening now plan count known i j answered p c opened reached ke
         opened = opened;
         reached = reached;
         keeps = on.keeps;
-        peer_done = λ open_is marked. ⊎_elim
-            (λ now_marked. marked_now opening now plan count known answered p c open_is (sym (finished_of now.history) ∙ now_marked))
-            (λ late. marked_late opening now plan count known answered p c (ap is_finished (sym first.1) ∙ finished_first kept first.0 late))
-            (finished_behind (outbox_of now.history) kept (ap is_finished on.goes_on ∙ finished_of on.whole ∙ marked));
+        peer_done = peer_done_by opening now plan count known answered p c kept first on.whole on.goes_on;
       };
       in_order = on.in_order;
     }

@@ -22,9 +22,9 @@ use Rattle.conn_door.specs.declared.answer.ServeFault.{ServeFault}
 use Rattle.conn_door.specs.declared.answer.ServeFault.TheVariants as faults
 use Rattle.conn_turns.proofs.Delivering.{applied_payloads}
 use Rattle.conn_serve.specs.Answering.{messages_of, BusinessAt, AnsweringAt, Answers, AnsweredLife}
-use Rattle.business_laws.specs.Answered.{answering_plan, PassesAnswered}
-use Rattle.business_laws.specs.Served.{AreParted, KnowAnswered, IsOver, UsedPasses}
-use Rattle.business_laws.proofs.Answering.{answers_are_kept, answers_keep_outbox}
+use Rattle.business_laws.specs.Answered.{answering_plan, answering, PassesAnswered}
+use Rattle.business_laws.specs.Served.{AreParted, KnowAnswered, KeepsWhole, IsOver, UsedPasses}
+use Rattle.business_laws.proofs.Answering.{answers_are_kept, answers_keep_outbox, answers_whole}
 
 -- what a call left of some passes, said of passes that know the same
 module _ (plan : ℕ → List (List ℕ)) (count : ℕ) (p q r t : ℕ → Part) (finished : Bool) (before : (n : ℕ) → In count n → p n ≡ r n)
@@ -131,6 +131,11 @@ module _ {J : Type 0} {G : Ghosts J} (old new : AnsweringAt J G) (opening : Acco
   pub know_answered : (each Nothing : Type 0) → AnsweredLife each old new adds ⊎ ((new.business.part ≡ old.business.part) × Nothing) → KnowAnswered opening plan count known inbox adds
   know_answered each Nothing is = ⊎_elim (λ a. by_life each a) (λ b. by_none b.0) is
 
+-- the records behind some are a beginning of more behind them
+more_behind : (xs ys zs : List InboxRecord) → IsPrefix ys zs → IsPrefix (xs ++ ys) (xs ++ zs)
+more_behind [] ys zs p = p
+more_behind (x ∷ xs) ys zs p = let q = more_behind xs ys zs p in (q.0, ap (λ (l : List InboxRecord). x ∷ l) q.1)
+
 -- such passes make an outbox that keeps the plan of the business
 pub know_keeps : (opening now : Account) (plan : ℕ → List (List ℕ) → List (List ℕ)) (count : ℕ) (known : ℕ → Part) (inbox adds : List InboxRecord) (life : Life)
     → KnowAnswered opening plan count known inbox adds → GoesOn plan → Closed known (known 1).made opening now → InOrder now.history.made
@@ -142,7 +147,8 @@ know_keeps opening now plan count known inbox adds life k goes closed order is =
     answers_keep_outbox plan count opening.history now.history life goes order is.outbox.0 is.outbox.1
     (λ kept first. answers_are_kept opening now plan count known life.served.opening_inbox life.served.closing_inbox (inbox ++ k.answered) k.passes closed opened reached kept
     (subst (λ (rs : List OutboxRecord). IsPrefix kept rs) is.refused first))
-  where
-    more_behind : (xs ys zs : List InboxRecord) → IsPrefix ys zs → IsPrefix (xs ++ ys) (xs ++ zs)
-    more_behind [] ys zs p = p
-    more_behind (x ∷ xs) ys zs p = let q = more_behind xs ys zs p in (q.0, ap (λ (l : List InboxRecord). x ∷ l) q.1)
+
+pub know_whole : (opening now : Account) (plan : ℕ → List (List ℕ) → List (List ℕ)) (count : ℕ) (known : ℕ → Part) (inbox adds : List InboxRecord)
+    → KnowAnswered opening plan count known inbox adds → Closed known (known 1).made opening now → KeepsWhole (answering plan count) opening now inbox (inbox ++ adds)
+know_whole opening now plan count known inbox adds k closed =
+    answers_whole opening now plan count known (inbox ++ k.answered) inbox (inbox ++ adds) k.passes closed (k.answered, refl) (more_behind inbox k.answered adds k.reached)

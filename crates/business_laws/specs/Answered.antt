@@ -12,7 +12,7 @@ use Rattle.gate_turn.specs.Calls.{made_part}
 use Rattle.gate_turn.specs.Steps.{Closed}
 use Rattle.gate_business.specs.Business.{Grew}
 use Rattle.conn_serve.specs.Answering.{messages_of}
-use Rattle.life_laws.specs.Plans.{plan_in, KeepsPlans}
+use Rattle.life_laws.specs.Plans.{plan_in, KeepsPlans, Senders}
 
 -- the plans of the senders from 1 to `count` over these messages, in their order
 abbrev pub plans_over : (plan : ℕ → List (List ℕ) → List (List ℕ)) (count : ℕ) (messages : List (List ℕ)) → List (List (List ℕ))
@@ -21,6 +21,10 @@ plans_over plan count messages = map (λ (n : ℕ). plan n messages) (counts_fro
 -- the plan of an end with such a business: that of each of its senders, and nobody else has one
 abbrev pub answering_plan : (plan : ℕ → List (List ℕ) → List (List ℕ)) (count : ℕ) → ℕ → List (List ℕ) → List (List ℕ)
 answering_plan plan count s messages = plan_in (plans_over plan count messages) s messages
+
+-- the senders of such an end: their mark waits for the peer's finish
+abbrev pub answering : (plan : ℕ → List (List ℕ) → List (List ℕ)) (count : ℕ) → Senders
+answering plan count = record { count = count; plan = answering_plan plan count; waits = true }
 
 -- What the passes of a gate know, those of a business and one more: the business answered what these records apply, as far as each pass got; and the
 -- last pass made nothing and no mark, and lost nothing

@@ -1,7 +1,7 @@
 -- From what `serve_answering` ensures of a life to what the passes of a gate know behind it, and so to what its outbox keeps (this project's profile).
 use Rattle.std.specs.Prelude.{◌≡◌, ℕ, ◌+◌, List, [], ◌++◌, Option, Result}
 use mathlib.Core.List.{IsPrefix}
-use Rattle.session_model.specs.Journal.{InOrder}
+use Rattle.session_model.specs.Journal.{History, InOrder}
 use Rattle.session_model.specs.Inbox.{InboxRecord}
 use Rattle.session_model.specs.Plans.{GoesOn}
 use Rattle.session_model.specs.Lives.{Life, KeepsOutbox}
@@ -21,7 +21,8 @@ use Rattle.conn_door.specs.declared.answer.ServeFault.{ServeFault}
 use Rattle.conn_serve.specs.declared.answering.Answering.{Answering}
 use Rattle.conn_serve.specs.Connections.{all_of, adds_of}
 use Rattle.conn_serve.specs.Answering.{BusinessAt, business_at, AnsweringAt, answering_at, AnsweredSo}
-use Rattle.business_laws.specs.Answered.{answering_plan, PassesAnswered}
+use Rattle.life_laws.specs.Plans.{Senders, KeepsSenders}
+use Rattle.business_laws.specs.Answered.{answering_plan, answering, PassesAnswered}
 
 -- these passes are those of a business and, behind them, that of the connection
 pub record AreParted (known : ℕ → Part) (count : ℕ) (part : ℕ → Part) (pass : Part) : Type 0 where
@@ -34,6 +35,14 @@ pub record KnowAnswered (opening : Account) (plan : ℕ → List (List ℕ) → 
   pub answered : List InboxRecord
   pub reached : IsPrefix answered adds
   pub passes : PassesAnswered opening plan count known (inbox ++ answered)
+
+-- An outbox came from one account to another, and all that was lost goes on behind it as one history, in order as it is: so the plans of these senders
+-- were kept, over what the inbox applied up to a list between these
+pub record KeepsWhole (senders : Senders) (opening now : Account) (i j : List InboxRecord) : Type 0 where
+  pub whole : History
+  pub goes_on : outbox_of now.history ++ now.refused ≡ outbox_of whole
+  pub in_order : InOrder now.history.made → InOrder whole.made
+  pub keeps : KeepsSenders senders opening.history now.history whole now.refused i j
 
 -- a life of the session model over these journals: the outbox has come from one account to another, and the inbox gained these records
 pub record IsOver (opening now : Account) (inbox adds : List InboxRecord) (life : Life) : Type 0 where
@@ -87,3 +96,13 @@ module _ {B J : Type 0} {G : Ghosts J} (stands : B → List (List ℕ) → Type 
         → GoesOn (plan old.answering.business) → Closed known (known 1).made opening now → InOrder now.history.made
         → IsOver opening now inbox (adds_of (all_of s.life.life.ended s.life.life.given_up)) life
         → KeepsOutbox (answering_plan (plan old.answering.business) (count old.answering.business)) life
+
+    -- Its outbox keeps what its senders were to send, and goes on with all that was lost with a failed call
+    abbrev pub AnsweringKeepsSenders : Inbox J G → Type 0
+    AnsweringKeepsSenders box =
+        (old new : LifeWith B J G) (before behind : ℕ) (m : State) (result : Result (Unit {0}) ServeFault) (opening now : Account) (known : ℕ → Part)
+        (inbox : List InboxRecord)
+        → G.tells → HoldsBox old.box inbox [] → UsedPasses opening known (around old) (around new)
+        → (s : AnsweredSo tells links before behind (around old) (around new) m result) → Closed known (known 1).made opening now
+        → KeepsWhole (answering (plan old.answering.business) (count old.answering.business)) opening now inbox
+        (inbox ++ adds_of (all_of s.life.life.ended s.life.life.given_up))

@@ -242,6 +242,16 @@ module _ {S K D N C J : Type 0} where
     pub status_is : status ≡ status_of result
     pub over : LivedOver sees config senders before after old new result
 
+  -- A life by a business: the status is one of a life, with its cause where it blames OUT or the dialer, and INPUT is as it was; and no life began, or
+  -- one was lived over both disks, by these senders
+  pub record LivedAnswering (G : Ghosts J) (sees : Sees S K D N C) (senders : Senders) (config : EndConfig) (before after : SessionOutside S K D N C)
+      (status : Status) : Type 0 where
+    pub of_life : IsOfLife status
+    pub output : status ≡ OutputFault → HasRisen (sees.sink before.out) (sees.sink after.out)
+    pub dial : status ≡ DialFault → HasRisen (sees.dials before.dialer) (sees.dials after.dialer)
+    pub input_is : after.input ≡ before.input
+    pub lived : LeftAll sees before after status ⊎ HasLivedOver G sees config senders before after status
+
   -- INPUT has plans, which go on from the history of which OUTBOX told a journal; OUT was begun; and no life began, or one was lived over both disks
   pub record Lived (G : Ghosts J) (sees : Sees S K D N C) (senders : ℕ) (config : EndConfig) (before after : SessionOutside S K D N C)
       (status : Status) : Type 0 where

@@ -1,4 +1,3 @@
-use Rattle.conn_serve.specs.Answering.{AnsweredEach}
 use Rattle.business_laws.proofs.Passes.{know_answered}
 use Rattle.business_laws.proofs.served.answered_passes.Goals as goal
 
