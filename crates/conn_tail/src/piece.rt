@@ -25,7 +25,7 @@ fn load<D: Disk>(disk: &mut D, piece: &mut [u8], place: u64) -> Result<Part, Tai
     requires piece { length piece.old ≡ 65536 }
     requires small { place < 2 ^ 40 }
     requires place { ForSome (D.told disk.old) (λ content. place < length content) }
-    ensures before { IfOk result (λ part. part.at ≤ place) }
+    ensures before { IfOk result (λ part. part.at ≡ place + 1 - 65536) }
     ensures behind { IfOk result (λ part. place < part.at + part.size) }
     ensures most { IfOk result (λ part. part.size ≤ 65536) }
     ensures stands { IfOk result (λ part. ForSome (D.told disk.old) (λ content. StandsAt content piece.new part.at part.size)) }
@@ -127,4 +127,36 @@ pub(crate) fn line_start<D: Disk>(
         start -= 1;
     }
     Ok(0)
+}
+
+/// Has the bytes from a place to another, and the byte there, stand in the piece. They are no more than half a piece.
+pub(crate) fn hold<D: Disk>(
+    disk: &mut D,
+    piece: &mut [u8],
+    part: &mut Part,
+    start: u64,
+    end: u64,
+) -> Result<(), TailFault>
+    requires piece { length piece.old ≡ 65536 }
+    requires most { part.old.size ≤ 65536 }
+    requires order { start ≤ end }
+    requires short { end - start ≤ 32801 }
+    requires small { end < 2 ^ 40 }
+    requires within { ForSome (D.told disk.old) (λ content. end < length content) }
+    requires stands { ForSome (D.told disk.old) (λ content. StandsAt content piece.old part.old.at part.old.size) }
+    ensures before { OnOk result (part.new.at ≤ start) }
+    ensures behind { OnOk result (end < part.new.at + part.new.size) }
+    ensures most { OnOk result (part.new.size ≤ 65536) }
+    ensures stands { OnOk result (ForSome (D.told disk.old) (λ content. StandsAt content piece.new part.new.at part.new.size)) }
+    ensures content { D.told disk.new ≡ D.told disk.old }
+    ensures images { LeavesSame (D.may_leave disk.old) (D.may_leave disk.new) }
+    ensures counted { D.faults disk.old ≤ D.faults disk.new }
+    ensures fault { IsErrOf result TailFault.Disk → HasRisen (D.faults disk.old) (D.faults disk.new) }
+    ensures short { IsErrOf result TailFault.Short → D.told disk.old ≡ None }
+{
+    if start >= part.at && end - part.at < part.size as u64 {
+        return Ok(());
+    }
+    *part = load(disk, piece, end)?;
+    Ok(())
 }

@@ -10,7 +10,7 @@ ghost use Rattle.conn_tail.specs.Places.{BeginsLine, StandsAt};
 
 use crate::fault::TailFault;
 use crate::line::number_of;
-use crate::piece::{PIECE, Part, line_start};
+use crate::piece::{PIECE, Part, hold, line_start};
 use gw_outside::Disk;
 use std::alloc::{AllocError, Global};
 
@@ -34,42 +34,25 @@ fn room(alloc: Global, size: usize) -> Result<Vec<u8>, AllocError>
     vec![in alloc; 0; size]
 }
 
-/// The bytes of the file from the place `start` to the place `end`.
-fn read_line<D: Disk>(
-    alloc: Global,
-    disk: &mut D,
-    start: u64,
-    end: u64,
-) -> Result<Vec<u8>, TailFault>
-    requires order { start ≤ end }
-    requires short { end ≤ start + 65536 }
-    requires within { ForSome (D.told disk.old) (λ content. end ≤ length content) }
-    ensures line { IfOk result (λ line. ForSome (D.told disk.old) (λ content. line.items ≡ slice_range content start end)) }
-    ensures content { D.told disk.new ≡ D.told disk.old }
-    ensures images { LeavesSame (D.may_leave disk.old) (D.may_leave disk.new) }
-    ensures counted { D.faults disk.old ≤ D.faults disk.new }
-    ensures fault { IsErrOf result TailFault.Disk → HasRisen (D.faults disk.old) (D.faults disk.new) }
-    ensures short { IsErrOf result TailFault.Short → D.told disk.old ≡ None }
-{
-    let mut line = room(alloc, (end - start) as usize)?;
-    let count = disk.read_at(start, line.as_mut_slice())?;
-    if count < line.len() {
-        return Err(TailFault::Short);
-    }
-    Ok(line)
-}
-
-/// The number of the message that was applied, where the line between two places tells of one.
+/// The number of the message that was applied, where the line between two places tells of one. The line feed stands at the second.
 fn number_at<D: Disk>(
     alloc: Global,
     disk: &mut D,
+    piece: &mut [u8],
+    part: &mut Part,
     start: u64,
     end: u64,
 ) -> Result<Option<u64>, TailFault>
+    requires piece { length piece.old ≡ 65536 }
+    requires most { part.old.size ≤ 65536 }
     requires order { start ≤ end }
-    requires within { ForSome (D.told disk.old) (λ content. end ≤ length content) }
+    requires small { end < 2 ^ 40 }
+    requires within { ForSome (D.told disk.old) (λ content. end < length content) }
+    requires stands { ForSome (D.told disk.old) (λ content. StandsAt content piece.old part.old.at part.old.size) }
     ensures found { IfOk result (λ o. IfSome o (λ number. ForSome (D.told disk.old) (λ content. IsDeliver (slice_range content start end) number))) }
     ensures none { IfOk result (λ o. IfNone o (ForSome (D.told disk.old) (λ content. TellsNothing (slice_range content start end)))) }
+    ensures most { OnOk result (part.new.size ≤ 65536) }
+    ensures stands { OnOk result (ForSome (D.told disk.old) (λ content. StandsAt content piece.new part.new.at part.new.size)) }
     ensures content { D.told disk.new ≡ D.told disk.old }
     ensures images { LeavesSame (D.may_leave disk.old) (D.may_leave disk.new) }
     ensures counted { D.faults disk.old ≤ D.faults disk.new }
@@ -79,8 +62,10 @@ fn number_at<D: Disk>(
     if end - start > LONGEST_LINE {
         return Ok(None);
     }
-    let line = read_line(alloc, disk, start, end)?;
-    Ok(number_of(alloc, line.as_slice())?)
+    hold(disk, piece, part, start, end)?;
+    let from = (start - part.at) as usize;
+    let to = (end - part.at) as usize;
+    Ok(number_of(alloc, &piece[from..to])?)
 }
 
 /// The number of the message of which the last whole line tells that tells of an applied one.
@@ -106,7 +91,7 @@ fn last_number<D: Disk>(
     let mut end = whole;
     while end > 0 {
         let start = line_start(disk, piece, part, end - 1)?;
-        if let Some(number) = number_at(alloc, disk, start, end - 1)? {
+        if let Some(number) = number_at(alloc, disk, piece, part, start, end - 1)? {
             return Ok(Some(number));
         }
         end = start;

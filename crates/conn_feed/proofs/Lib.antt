@@ -1,0 +1,5 @@
+mod Texts
+mod Coming
+mod Making
+mod Ending
+mod Lines
