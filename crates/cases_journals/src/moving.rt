@@ -4,7 +4,7 @@ use crate::disks::ROOM;
 use cases_words::{bytes, halves, number};
 use gw_fakes::MemDisk;
 use gw_outside::Disk;
-use jr_migrate::migrate;
+use jr_log::migrate;
 use std::alloc::{AllocError, Global};
 
 /// A journal without moments, of one entry, in hexadecimal.

@@ -1,2 +1,6 @@
+mod BoxLines
+mod Moved
 mod Opened
+mod Parts
 mod Printed
+mod Writing

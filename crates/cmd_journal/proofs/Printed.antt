@@ -9,7 +9,7 @@ use Rattle.jr_dated.specs.Dated.{Dated}
 use Rattle.cmd_base.specs.declared.status.Status.{Status}
 use Rattle.cmd_base.specs.declared.status.Status.TheVariants.{Done, OutputFault, JournalFault, JournalBad, Memory}
 use Rattle.cmd_base.specs.Contents.{Disks}
-use Rattle.jr_text.specs.Lines.{journal_lines}
+use Rattle.cmd_journal.specs.Lines.{journal_lines}
 use Rattle.cmd_journal.specs.Prints.{GaveLines, HasChanged, HoldBoth, JournalDevices, Prints, Stops}
 
 -- a status of both journals printed, or in part, says of the run what it has to

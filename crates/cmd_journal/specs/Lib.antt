@@ -1,1 +1,5 @@
+pub mod Formats
+pub mod Lines
+pub mod Moves
+pub mod Printing
 pub mod Prints

@@ -15,7 +15,7 @@ use Rattle.jr_judge.specs.Judged.{IsBox, IsNoBox}
 use Rattle.cmd_base.specs.declared.status.Status.{Status}
 use Rattle.cmd_base.specs.declared.status.Status.TheVariants.{Done, OutputFault, JournalFault, JournalBad, Memory}
 use Rattle.cmd_base.specs.Contents.{Disks}
-use Rattle.jr_text.specs.Lines.{journal_lines}
+use Rattle.cmd_journal.specs.Lines.{journal_lines}
 
 -- what the status of a journal that was not opened says of the content that its disk told
 abbrev pub IsRefusal : Which → Option (List ℕ) → Status → Type 0

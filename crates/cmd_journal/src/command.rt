@@ -10,15 +10,15 @@ ghost use Rattle.jr_boxes.specs.declared.faults.Which as boxes;
 ghost use Rattle.jr_boxes.specs.declared.faults.Which.TheVariants as which_box;
 ghost use Rattle.jr_dated.specs.Dated.{Dated};
 ghost use Rattle.jr_segments.specs.Journal.{OnlyRead, RestsOn, broken_of, disk_of};
-ghost use Rattle.jr_text.specs.Lines.{journal_lines};
-ghost use Rattle.jr_text.specs.declared.printing.PrintFault.TheVariants as print;
+ghost use Rattle.cmd_journal.specs.Lines.{journal_lines};
+ghost use Rattle.cmd_journal.specs.declared.printing.PrintFault.TheVariants as print;
 ghost use Rattle.cmd_journal.specs.Prints.{GaveLines, HasChanged, Prints, Stops, journal_devices};
 
 use crate::boxes::open_box;
+use crate::printing::{PrintFault, print_boxes};
 use cmd_base::{JournalCause, Outside, Status, Which, begin};
 use gw_outside::{Disk, Sink, Source};
 use jr_segments::SegJournal;
-use jr_text::{PrintFault, print_boxes};
 use std::alloc::Global;
 
 /// The status of lines that were not all printed.

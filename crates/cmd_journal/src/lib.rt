@@ -1,8 +1,15 @@
-//! The command `journal`: both journals of an end as lines. Relies on `jr_segments` for the reading of a journal, on `jr_judge` for
-//! which records belong into a box, on `jr_text` for the lines, and on `cmd_base` for the devices.
+//! The commands over journals: `format` makes both of a new session, `journal` shows both of an end as lines, which are pushed in pieces
+//! while the records are read one after another, `migrate` moves one of format 1. Relies on `jr_segments` and `jr_log` for what becomes of one
+//! journal, on `jr_judge` for which records belong into a box, on `text_words` for numbers and bytes, and on `cmd_base` for the devices.
 #![tactic(auto)]
 
 mod boxes;
 mod command;
+mod lines;
+mod making;
+mod moving;
+mod printing;
 
 pub use command::journal;
+pub use making::format_journals;
+pub use moving::migrate_journal;

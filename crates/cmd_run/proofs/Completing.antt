@@ -11,9 +11,9 @@ use Rattle.cmd_answer.specs.Promise.{GaveWhole}
 use Rattle.cmd_run.specs.Completeness.{CheckCompletes, AnswerCompletes, Answered, DecodeCompletes, EncodeCompletes, WroteFrames}
 use Rattle.sbe_value.specs.declared.message.Message as values
 use Rattle.sbe_layout.specs.declared.plan.Plan.{Plan}
-use Rattle.cmd_encode.specs.Encoded.{AreSpelled, written}
-use Rattle.cmd_encode.specs.Promise.{GaveFrames}
-use Rattle.cmd_encode.proofs.Rows.{one-row, not-refused}
+use Rattle.cmd_codec.specs.Encoded.{AreSpelled, written}
+use Rattle.cmd_codec.specs.Encodes.{GaveFrames}
+use Rattle.cmd_codec.proofs.Rows.{one-row, not-refused}
 use Rattle.cmd_base.specs.declared.status.Bad.TheVariants as bads
 use Rattle.sbe_text.specs.Lines.{lines_in}
 use Rattle.cmd_answer.proofs.Fronts.{one_answer}

@@ -7,12 +7,12 @@ use Rattle.jr_dated.specs.Images.{journal_size}
 use Rattle.jr_boxes.specs.declared.faults.Which.TheVariants.{Outbox, Inbox}
 use Rattle.jr_boxes.specs.declared.faults.JournalCause.{JournalCause}
 use Rattle.jr_boxes.specs.declared.faults.JournalCause.TheVariants.{NotFormatted, OldFormat, Damaged, Wrong, Changed, Already, NotFresh}
-use Rattle.jr_migrate.specs.Fresh.{IsFresh, IsUsed}
+use Rattle.jr_log.specs.Fresh.{IsFresh, IsUsed}
 use Rattle.cmd_base.specs.declared.status.Status.{Status}
 use Rattle.cmd_base.specs.declared.status.Status.TheVariants.{Done, JournalFault, JournalBad, Full, Memory}
 use Rattle.cmd_base.specs.Causes.{Counts, IsCaused}
 use Rattle.cmd_base.specs.Contents.{Disks}
-use Rattle.cmd_migrate.specs.Moves.{Moves}
+use Rattle.cmd_journal.specs.Moves.{Moves}
 use Rattle.cmd_run.specs.Completeness.{NoneRose}
 use Rattle.cmd_run.specs.Moving.{IsOldVerdict, MigrateCompletes, Moved, NewTells, OldTells, Refused}
 

@@ -15,13 +15,13 @@ use Rattle.cmd_base.specs.declared.status.Status.TheVariants.{Done, Memory}
 use Rattle.cmd_answer.specs.Answer.{Answer, IsAnswer, acceptor_of}
 use Rattle.cmd_base.specs.Causes.{Counts, IsCaused}
 use Rattle.cmd_base.specs.Contents.{Content, Disks}
-use Rattle.cmd_format.specs.Formats.{IsMade, Formats}
-use Rattle.cmd_check.specs.Layouts.{GaveLayout}
+use Rattle.cmd_journal.specs.Formats.{IsMade, Formats}
+use Rattle.cmd_codec.specs.Layouts.{GaveLayout}
 use Rattle.sbe_value.specs.declared.message.Message.{Message}
-use Rattle.cmd_decode.specs.Decoded.{decoded}
-use Rattle.cmd_decode.specs.Promise.{GaveDecoded, GaveText}
-use Rattle.cmd_encode.specs.Encoded.{AreSpelled, written}
-use Rattle.cmd_encode.specs.Promise.{GaveWire}
+use Rattle.cmd_codec.specs.Decoded.{decoded}
+use Rattle.cmd_codec.specs.Decodes.{GaveDecoded, GaveText}
+use Rattle.cmd_codec.specs.Encoded.{AreSpelled, written}
+use Rattle.cmd_codec.specs.Encodes.{GaveWire}
 use Rattle.cmd_answer.specs.Promise.{GaveBy}
 use Rattle.cmd_run.specs.Run.{JudgesBy}
 

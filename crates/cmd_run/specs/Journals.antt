@@ -10,7 +10,7 @@ use Rattle.cmd_base.specs.declared.status.Status.{Status}
 use Rattle.cmd_base.specs.declared.status.Status.TheVariants.{Done, JournalBad, Memory}
 use Rattle.cmd_base.specs.Causes.{Counts, IsCaused}
 use Rattle.cmd_base.specs.Contents.{Disks}
-use Rattle.jr_text.specs.Lines.{journal_lines}
+use Rattle.cmd_journal.specs.Lines.{journal_lines}
 use Rattle.cmd_journal.specs.Prints.{JournalDevices, Prints}
 use Rattle.cmd_run.specs.Completeness.{NoneRose}
 

@@ -7,12 +7,12 @@ use Rattle.jr_dated.specs.Images.{IsJournal, journal_size}
 use Rattle.jr_boxes.specs.declared.faults.Which.TheVariants.{Outbox, Inbox}
 use Rattle.jr_boxes.specs.declared.faults.JournalCause.{JournalCause}
 use Rattle.jr_boxes.specs.declared.faults.JournalCause.TheVariants.{NotFormatted, Damaged, NotFresh}
-use Rattle.jr_migrate.specs.Fresh.{IsFresh, IsUsed}
+use Rattle.jr_log.specs.Fresh.{IsFresh, IsUsed}
 use Rattle.cmd_base.specs.declared.status.Status.{Status}
 use Rattle.cmd_base.specs.declared.status.Status.TheVariants.{Done, JournalBad, Full, Memory}
 use Rattle.cmd_base.specs.Causes.{Counts, IsCaused}
 use Rattle.cmd_base.specs.Contents.{Disks}
-use Rattle.cmd_migrate.specs.Moves.{KeepsOld, Moves}
+use Rattle.cmd_journal.specs.Moves.{KeepsOld, Moves}
 use Rattle.cmd_run.specs.Completeness.{NoneRose}
 
 -- what is found of the content of OLD: the records of a journal of format 1, or why it is none

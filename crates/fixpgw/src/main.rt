@@ -3,7 +3,6 @@
 #![tactic(auto)]
 
 mod rehearsals;
-mod session_said;
 mod sessions;
 
 use cmd_files::{Report, VERSION, asked, finish, run_over_files, usage_fault};

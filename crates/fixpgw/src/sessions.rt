@@ -3,7 +3,6 @@
 
 ghost use Rattle.std.specs.Prelude.{◌≡◌, false};
 
-use crate::session_said::{Said, line_of};
 use cmd_files::Report;
 use cmd_run::Status;
 use cmd_session::{Role, SessionOutside, run_session};
@@ -13,9 +12,9 @@ use gw_real::{FileSink, FileSource, Named};
 use gw_sockets::{AcceptDialer, ConnectDialer, MachineClock};
 use gw_watch::{Approaches, HasPeer, Pauses, WatchedDialer, WatchedSink, WatchedSource};
 use say_live::Teller;
-use say_session::SaysWhy;
+use say_session::{Said, SaysWhy, line_of};
 use schema_toml::TEXT_LIMIT;
-use session_files::Session;
+use session_files::{Outlook, Session};
 use std::alloc::Global;
 use std::fs::File;
 use std::io::{self, Printer};
@@ -103,6 +102,17 @@ fn run_over<R: Threads + Wait + Sync, S: Source, K: Sink, D: Disk + Send, N: Dia
     run_session(rt, alloc, role, outside)
 }
 
+/// What running again can bring, looked for in the journals where it is said of this status.
+fn outlook_of<R: Clock + Eprint + Files<File = File>>(
+    status: &Status,
+    teller: &Teller<'_, R>,
+) -> Outlook {
+    match status {
+        Status::DialFault | Status::Unfinished { .. } => teller.outlook(),
+        _ => Outlook::Open,
+    }
+}
+
 /// The report of a session that ended so. It closes the devices.
 fn report_of<
     R: Clock + Eprint + Files<File = File> + Print + AllocGlobal,
@@ -133,7 +143,8 @@ fn report_of<
         dialer: dialer.into_inner(),
     };
     teller.close();
-    let line = line_of(rt, rt.alloc(), session, &status, &mut said, teller);
+    let outlook = outlook_of(&status, teller);
+    let line = line_of(rt, rt.alloc(), session, &status, &mut said, outlook);
     Report { status, line }
 }
 

@@ -1,2 +1,4 @@
 mod Fronts
 mod Scans
+mod Cleared
+mod Written

@@ -1,1 +1,4 @@
 pub mod Opening
+pub mod Fresh
+pub mod Laid
+pub mod Migrates

@@ -4,7 +4,7 @@
 const GAPS: usize = 8;
 
 /// Numbers in a row, from the first to the one before `behind`; none where that is not above the first.
-#[derive(Clone, Copy, Debug)]
+#[derive(Clone, Copy)]
 struct Gap {
     first: u64,
     behind: u64,
@@ -22,7 +22,7 @@ impl Gap {
 
 /// Which of this end's messages a run has handed to a connection, each at least in part. One that is sent again counts once: so the numbers are
 /// kept that were not handed over. On a flow without numbers none is sent again, and each that is handed over is another one.
-#[derive(Clone, Copy, Debug)]
+#[derive(Clone, Copy)]
 pub(crate) struct Sent {
     /// How many messages stood in OUTBOX as the run began.
     stood: u64,

@@ -3,7 +3,7 @@
 use text_words::{number, number_before};
 
 /// How a connection ended, by the line of its end.
-#[derive(Clone, Copy, Debug, PartialEq, Eq)]
+#[derive(Clone, Copy)]
 pub(crate) enum EndWords {
     Finished,
     Terminated(u64),
@@ -14,7 +14,7 @@ pub(crate) enum EndWords {
 }
 
 /// A line on OUT.
-#[derive(Clone, Copy, Debug, PartialEq, Eq)]
+#[derive(Clone, Copy)]
 pub(crate) enum OutLine {
     Delivered,
     Ended(EndWords),

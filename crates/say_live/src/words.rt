@@ -1,6 +1,7 @@
 //! The numbers of a session's messages and rules, in words.
 
 use std::alloc::AllocError;
+use uuid::Uuid;
 
 /// A flow by its code.
 pub(crate) fn flow_name(code: u8) -> &'static str {
@@ -45,13 +46,8 @@ pub(crate) fn rule_name(number: u64) -> &'static str {
 
 /// Adds the identifier of a session, as UUIDs are written.
 pub(crate) fn push_session(line: &mut String, session: &[u8; 16]) -> Result<(), AllocError> {
-    for (at, &byte) in session.iter().enumerate() {
-        if matches!(at, 4 | 6 | 8 | 10) {
-            line.push_str("-")?;
-        }
-        write!(line, "{byte:02x}")?;
-    }
-    Ok(())
+    let session = Uuid::from_bytes(*session);
+    write!(line, "{session}")
 }
 
 /// Adds a number of messages.

@@ -1,4 +1,4 @@
-use Rattle.jr_text.specs.Lines.{journal_lines}
+use Rattle.cmd_journal.specs.Lines.{journal_lines}
 use Rattle.cmd_journal.proofs.Printed.{from_nothing, stops_gave}
 use Rattle.cmd_journal.proofs.command.print_records.Goals as goal
 

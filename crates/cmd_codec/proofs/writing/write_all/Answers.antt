@@ -1,0 +1,53 @@
+use Rattle.std.proofs.Common.{◌≡◌, [], rules, arith}
+use Rattle.std.proofs.lemmas.Grind.{common_steps}
+use Rattle.sbe_text.proofs.Feeds.{lines_within}
+use Rattle.cmd_codec.proofs.Steps.{written-more, front-part, front-kept, front-one, stopped-at, stopped-part, written-all}
+use Rattle.cmd_codec.proofs.writing.write_all.Goals as goal
+
+pub loop-left-init : goal.loop-left-init
+loop-left-init g c = record { written = c.requires.made.front (g.K.Sink.taken c.args.wire.now); counted = omega arith }
+
+pub returns-in_default-clause-writes : goal.returns-in_default-clause-writes
+returns-in_default-clause-writes g c =
+    front-one c.args.plan.now c.args.text.now c.loop-left.left.now c.in-Ok.rest.now c.loop-left.number (g.K.Sink.taken c.args.wire.now) (g.K.Sink.taken c.loop-left.wire) (g.K.Sink.taken c.push_full.new.wire)
+    c.loop-left.frames.items c.write_message.new.frames.items c.loop-left.invariant.written c.requires.made.spelled c.in-Ok.ensures c.in_default.ensures.err
+
+pub overflow_add-number : goal.overflow_add-number
+overflow_add-number g c = omega (arith, c.loop-left.invariant.written.counted, lines_within c.args.text.now, c.requires.short)
+
+pub loop-left-preserved : goal.loop-left-preserved
+loop-left-preserved g c = record {
+  written =
+      written-more c.args.plan.now c.args.text.now c.loop-left.left.now c.in-Ok.rest.now c.loop-left.number (g.K.Sink.taken c.args.wire.now) (g.K.Sink.taken c.loop-left.wire) (g.K.Sink.taken c.push_full.new.wire)
+      c.loop-left.frames.items c.write_message.new.frames.items c.push_full.new.frames.items c.loop-left.invariant.written c.in-Ok.ensures c.in-Ok-push_full.ensures.ok;
+  counted = omega (arith, c.loop-left.invariant.counted, c.push_full.ensures.cause.never_falls);
+}
+
+pub returns-in_default-push_all-clause-writes : goal.returns-in_default-push_all-clause-writes
+returns-in_default-push_all-clause-writes g c =
+    stopped-part c.args.plan.now c.args.text.now c.loop-left.left.now c.loop-left.number (g.K.Sink.taken c.args.wire.now) (g.K.Sink.taken c.loop-left.wire) (g.K.Sink.taken c.push_all.new.sink)
+    c.loop-left.frames.items c.write_message.new.frames.items c.in-Err-Fault.fault c.loop-left.invariant.written c.requires.made.spelled
+    (rw c.in-Err-Fault.field-0-is at c.in-Err-Fault.ensures) (rw c.as_slice.ensures.value at c.in_default-push_all.ensures.err)
+
+pub returns-in-Err-Fault-clause-writes : goal.returns-in-Err-Fault-clause-writes
+returns-in-Err-Fault-clause-writes g c =
+    rw c.in-Err-Fault.field-0-is (
+    stopped-at c.args.plan.now c.args.text.now c.loop-left.left.now c.loop-left.number (g.K.Sink.taken c.args.wire.now) (g.K.Sink.taken c.loop-left.wire) (g.K.Sink.taken c.push_all.new.sink)
+    c.loop-left.frames.items c.write_message.new.frames.items c.in-Err-Fault.fault c.loop-left.invariant.written c.requires.made.spelled
+    (rw c.in-Err-Fault.field-0-is at c.in-Err-Fault.ensures) (rw c.as_slice.ensures.value at c.in-Ok-push_all.ensures.ok))
+
+pub returns-in-Err-Line-clause-writes : goal.returns-in-Err-Line-clause-writes
+returns-in-Err-Line-clause-writes g c =
+    front-kept c.args.plan.now c.args.text.now c.loop-left.left.now c.loop-left.number (g.K.Sink.taken c.args.wire.now) (g.K.Sink.taken c.loop-left.wire)
+    c.loop-left.frames.items c.loop-left.invariant.written c.requires.made.spelled
+
+pub returns-in_default-push_all-2-clause-writes : goal.returns-in_default-push_all-2-clause-writes
+returns-in_default-push_all-2-clause-writes g c =
+    front-part c.args.plan.now c.args.text.now c.loop-left.left.now c.loop-left.number (g.K.Sink.taken c.args.wire.now) (g.K.Sink.taken c.loop-left.wire) (g.K.Sink.taken c.push_all-2.new.sink)
+    c.loop-left.frames.items c.loop-left.invariant.written c.requires.made.spelled (rw c.as_slice-2.ensures.value at c.in_default-push_all-2.ensures.err)
+
+pub returns-clause-writes : goal.returns-clause-writes
+returns-clause-writes g c =
+    let none : c.loop-left.left.now ≡ [] = first_of (search rules, grind (arith, common_steps)) in
+    written-all c.args.plan.now c.args.text.now c.loop-left.left.now c.loop-left.number (g.K.Sink.taken c.args.wire.now) (g.K.Sink.taken c.loop-left.wire) (g.K.Sink.taken c.push_all-2.new.sink)
+    c.loop-left.frames.items c.loop-left.invariant.written none (rw c.as_slice-2.ensures.value at c.in-Ok-push_all-2.ensures.ok)

@@ -1,0 +1,209 @@
+//! The messages of a text, one after another: whether all of them can be read, and their frames. Only one message is in
+//! memory at a time, beside the text and frames of about its size.
+
+ghost use Rattle.std.specs.Prelude.{◌≡◌, ◌≤◌, [], length, OnOk, OnErr};
+ghost use Rattle.gw_outside.specs.Faults.{HasCause, HasRisen, TakesFront};
+ghost use Rattle.cmd_codec.specs.Encoding.{IsMade, Makes, MakesFront, Pushed, Reads, WritesOne};
+ghost use Rattle.cmd_codec.specs.Encoded.{text_limit};
+ghost use Rattle.cmd_codec.specs.Encodes.{LeavesWire, Writes};
+
+use crate::frame::add_frame;
+use cmd_base::{Bad, Status};
+use gw_outside::{Failed, Sink, push_all};
+use sbe_encode::{EncodeError, EncodeFault};
+use sbe_layout::Plan;
+use sbe_text::{Refusal, Spare, first_message, next_message};
+use std::alloc::Global;
+
+/// How many bytes of frames wait at least before they are pushed.
+const PIECE: usize = 32_768;
+
+// Reads all messages of a text, and keeps none of them.
+fn read_all(alloc: Global, plan: &Plan, text: &[u8]) -> Result<(), Refusal>
+    ensures { Reads plan.now text.now result }
+{
+    let mut left = text;
+    while !left.is_empty() {
+        match first_message(alloc, plan, left) {
+            Ok((_, rest)) => left = rest,
+            Err(refusal) => return Err(refusal),
+        }
+    }
+    Ok(())
+}
+
+/// Why no frame is made of the message at the front of a text.
+#[derive(Drop)]
+pub enum Stop {
+    /// A line is refused, at which so many are left.
+    Line(u64),
+    /// The message may not be written.
+    Fault(EncodeFault),
+    /// There is not enough memory.
+    Memory,
+}
+
+// Room that serves one message after another: for its items, and for its bytes.
+#[derive(Drop)]
+struct Rooms {
+    items: Spare,
+    bytes: Vec<u8>,
+}
+
+impl Rooms {
+    fn new(alloc: Global) -> Rooms {
+        Rooms {
+            items: Spare::new(alloc),
+            bytes: Vec::new(alloc),
+        }
+    }
+}
+
+// Adds the frame of the message at the front of a text, and gives the text behind it.
+fn write_message<'a>(
+    alloc: Global,
+    plan: &Plan,
+    left: &'a [u8],
+    rooms: &mut Rooms,
+    frames: &mut Vec<u8>,
+) -> Result<&'a [u8], Stop>
+    ensures { WritesOne plan.now left.now frames.old.items frames.new.items result }
+{
+    match next_message(alloc, &mut rooms.items, plan, left) {
+        Ok((message, rest)) => {
+            let added = add_frame(alloc, plan, &message, &mut rooms.bytes, frames);
+            rooms.items.keep(message);
+            match added {
+                Ok(()) => Ok(rest),
+                Err(EncodeError::Fault(fault)) => Err(Stop::Fault(fault)),
+                Err(EncodeError::Memory) => Err(Stop::Memory),
+            }
+        }
+        Err(Refusal::Left(lines)) => Err(Stop::Line(lines)),
+        Err(Refusal::Memory) => Err(Stop::Memory),
+    }
+}
+
+/// How far the frames of a text are made.
+#[derive(Clone, Copy)]
+pub struct Place<'a> {
+    /// The text from the next message on.
+    pub left: &'a [u8],
+    /// The number of that message, from 1.
+    pub number: u64,
+}
+
+// Makes the frames of the messages at the front of a text: as long as they take no more memory than the text does, and up to
+// the first message that may not be written.
+fn make_front<'a>(
+    alloc: Global,
+    plan: &Plan,
+    text: &'a [u8],
+    frames: &mut Vec<u8>,
+) -> Result<Place<'a>, Refusal>
+    requires empty { frames.old.items ≡ [] }
+    requires short { length text.now ≤ text_limit }
+    ensures { MakesFront plan.now text.now frames.new.items result }
+{
+    let mut rooms = Rooms::new(alloc);
+    let mut number = 1;
+    let mut left = text;
+    while !left.is_empty() && frames.len() <= text.len() {
+        match write_message(alloc, plan, left, &mut rooms, frames) {
+            Ok(rest) => {
+                number += 1;
+                left = rest;
+            }
+            Err(Stop::Line(lines)) => return Err(Refusal::Left(lines)),
+            Err(Stop::Fault(_)) => return Ok(Place { left, number }),
+            Err(Stop::Memory) => return Err(Refusal::Memory),
+        }
+    }
+    Ok(Place { left, number })
+}
+
+/// Reads all messages of a text, and makes the frames of those at its front. The others are read to see that no line of the
+/// text is refused, and not kept: one line may stand for a block of 16,384 bytes.
+///
+/// # Errors
+/// `Left` with how many lines are left at the first that is refused, and `Memory`.
+pub fn make_frames<'a>(
+    alloc: Global,
+    plan: &Plan,
+    text: &'a [u8],
+    frames: &mut Vec<u8>,
+) -> Result<Place<'a>, Refusal>
+    requires empty { frames.old.items ≡ [] }
+    requires short { length text.now ≤ text_limit }
+    ensures { Makes plan.now text.now frames.new.items result }
+{
+    let place = make_front(alloc, plan, text, frames)?;
+    match read_all(alloc, plan, place.left) {
+        Ok(()) => Ok(place),
+        Err(refusal) => Err(refusal),
+    }
+}
+
+// Pushes the frames that wait, where they are enough.
+fn push_full<K: Sink>(wire: &mut K, frames: &mut Vec<u8>) -> Result<(), Failed>
+    ensures ok { OnOk result (Pushed (K.taken wire.old) (K.taken wire.new) frames.old.items frames.new.items) }
+    ensures err { OnErr result (TakesFront (K.taken wire.old) (K.taken wire.new) frames.old.items) }
+    ensures kept { OnErr result (frames.new.items ≡ frames.old.items) }
+    ensures cause { HasCause (K.faults wire.old) (K.faults wire.new) result }
+{
+    if frames.len() < PIECE {
+        return Ok(());
+    }
+    push_all(wire, frames.as_slice())?;
+    frames.clear();
+    Ok(())
+}
+
+/// Pushes the frames that wait, and writes those of the messages from a place on, up to the first that may not be written.
+/// The text can be read.
+pub fn write_all<K: Sink>(
+    alloc: Global,
+    plan: &Plan,
+    text: &[u8],
+    place: Place<'_>,
+    frames: &mut Vec<u8>,
+    wire: &mut K,
+) -> Status
+    requires made { IsMade plan.now text.now place frames.old.items }
+    requires short { length text.now ≤ text_limit }
+    ensures writes { Writes plan.now text.now (K.taken wire.old) (K.taken wire.new) result }
+    ensures begun { LeavesWire result → ⊥ }
+    ensures counted { K.faults wire.old ≤ K.faults wire.new }
+    ensures cause { result ≡ Status.OutputFault → HasRisen (K.faults wire.old) (K.faults wire.new) }
+{
+    let _ = text;
+    let mut rooms = Rooms::new(alloc);
+    let mut number = place.number;
+    let mut left = place.left;
+    while !left.is_empty() {
+        match write_message(alloc, plan, left, &mut rooms, frames) {
+            Ok(rest) => {
+                let Ok(()) = push_full(wire, frames) else {
+                    return Status::OutputFault;
+                };
+                number += 1;
+                left = rest;
+            }
+            Err(Stop::Fault(fault)) => {
+                let Ok(()) = push_all(wire, frames.as_slice()) else {
+                    return Status::OutputFault;
+                };
+                return Status::Message(Bad::Encode {
+                    message: number,
+                    fault,
+                });
+            }
+            // A text that was read once is read again.
+            Err(Stop::Line(_)) | Err(Stop::Memory) => return Status::Memory,
+        }
+    }
+    let Ok(()) = push_all(wire, frames.as_slice()) else {
+        return Status::OutputFault;
+    };
+    Status::Done
+}

@@ -1,9 +1,0 @@
-use Rattle.std.proofs.Common.{length}
-use Rattle.cmd_decode.specs.Progress.{Keeps}
-use Rattle.cmd_decode.proofs.decoder.Decoder.take_frames.Given as goal
-
-abbrev pub invariant-loop : goal.invariant-loop
-invariant-loop l = Keeps l.plan l.fn.self l.self
-
-abbrev pub decreases-loop : goal.decreases-loop
-decreases-loop l = length l.self.framer.held

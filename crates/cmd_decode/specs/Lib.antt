@@ -1,3 +1,0 @@
-pub mod Decoded
-pub mod Progress
-pub mod Promise

@@ -1,4 +1,0 @@
-pub mod Fronts
-pub mod Reading
-pub mod Rows
-pub mod Steps

@@ -1,3 +1,0 @@
-pub mod Encoded
-pub mod Progress
-pub mod Promise

@@ -1,0 +1,1 @@
+use Rattle.jr_log.proofs.clearing.clear.Goals as goal

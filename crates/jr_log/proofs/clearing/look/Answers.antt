@@ -1,0 +1,1 @@
+use Rattle.jr_log.proofs.clearing.look.Goals as goal

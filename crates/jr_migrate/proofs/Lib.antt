@@ -1,2 +1,0 @@
-mod Cleared
-mod Written

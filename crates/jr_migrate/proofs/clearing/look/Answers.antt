@@ -1,1 +1,0 @@
-use Rattle.jr_migrate.proofs.clearing.look.Goals as goal

@@ -1,3 +1,0 @@
-pub mod Fresh
-pub mod Laid
-pub mod Migrates

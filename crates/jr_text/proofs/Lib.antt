@@ -1,3 +1,0 @@
-mod Boxes
-mod Parts
-mod Writing
