@@ -1,5 +1,5 @@
 -- The plans of a business over a life: those over what it answered are plans of senders, which do not look at what was applied.
-use Rattle.std.proofs.Common.{◌≡◌, ◌≢◌, ◌⊎◌, inl, inr, ⊎_elim, ℕ, zero, suc, ◌+◌, ◌<◌, ◌≤◌, true, false, true≢false, List, [], ◌∷◌, ◌++◌, map, length, take, drop, slice_get, slice_index_or, Some, refl, sym, ap, subst, ◌∙◌, arith, append-nil, append_assoc, length-append, drop-drop}
+use Rattle.std.proofs.Common.{◌≡◌, ◌⊎◌, inl, inr, ⊎_elim, ℕ, zero, suc, ◌+◌, ◌<◌, ◌≤◌, true, false, true≢false, List, [], ◌∷◌, ◌++◌, map, length, take, drop, slice_get, slice_index_or, Some, refl, sym, ap, subst, ◌∙◌, arith, append-nil, append_assoc, length-append, drop-drop}
 use Rattle.std.proofs.lemmas.Bool.{cases_lt}
 use Rattle.std.proofs.lemmas.List.{length-map, get_or_past}
 use mathlib.Core.List.{IsPrefix}
@@ -128,12 +128,13 @@ module _ (opening now : Account) (plan : ℕ → List (List ℕ) → List (List 
       (λ is. absurd (true≢false (sym (subst (λ k. (known k).ended ≡ true) is e) ∙ p.unmarked)))
       (which n h)
 
-  -- what it lost is something
-  loses_some : (n : ℕ) → business.Loses (λ k. plan k (messages_of answered)) count (made_part (count + 1) opening) known (has_peer_finished answered) n → (known n).lost ≢ []
-  loses_some n l = ⊎_elim (λ m e. absurd (none-cons (sym e ∙ m.is))) (λ f e. absurd (none-cons (sym e ∙ f.0))) l.what
-    where
-      none-cons : {X : Type 0} {x : X} {xs : List X} → [] ≡ x ∷ xs → ⊥
-      none-cons e = absurd (cc e)
+  -- where one lost something, none made the mark
+  no_mark : (n : ℕ) → In count n → business.Loses (λ k. plan k (messages_of answered)) count (made_part (count + 1) opening) known (has_peer_finished answered) n
+      → (m : ℕ) → In (count + 1) m → (known m).ended ≡ true → ⊥
+  no_mark n h l m inside e = ⊎_elim
+      (λ (s : In count m). true≢false (sym (l.unmade m s e)))
+      (λ is. true≢false (sym (subst (λ k. (known k).ended ≡ true) is e) ∙ p.unmarked))
+      (which m inside)
 
   -- the next message of a plan, as the first of what is behind
   one_behind : (ps : List (List ℕ)) (k : ℕ) (x : List ℕ) → slice_get ps k ≡ Some x → take 1 (drop k ps) ≡ x ∷ []
@@ -150,7 +151,7 @@ module _ (opening now : Account) (plan : ℕ → List (List ℕ) → List (List 
   loses_own n h l = record {
     sender = record { from_one = h.from_one; up_to = omega (arith, h.up_to, many) };
     opened = λ was. l.unmarked (ap (λ (x : History). x.finished) (sym ((p.grew.same n h).seen.alone was)) ∙ was);
-    unended = λ m inside. p.unended n m h (wider m inside) (loses_some n l);
+    unended = λ m inside. no_mark n h l m (wider m inside);
     what = ⊎_elim
         (λ m. inl (messages m))
         (λ f. inr (f.0, all_made f.2))

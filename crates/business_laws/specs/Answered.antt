@@ -1,5 +1,5 @@
 -- What an outbox keeps of a business: of plans over the messages that its own end applied (this project's profile).
-use Rattle.std.specs.Prelude.{◌≡◌, ◌≢◌, ℕ, ◌+◌, true, false, List, [], ◌++◌, map}
+use Rattle.std.specs.Prelude.{◌≡◌, ℕ, ◌+◌, true, false, List, [], ◌++◌, map}
 use mathlib.Core.List.{IsPrefix}
 use Rattle.session_model.specs.Journal.{History, OutboxRecord, InOrder, counts_from, entries_of}
 use Rattle.session_model.specs.Inbox.{InboxRecord, has_peer_finished}
@@ -22,8 +22,8 @@ plans_over plan count messages = map (λ (n : ℕ). plan n messages) (counts_fro
 abbrev pub answering_plan : (plan : ℕ → List (List ℕ) → List (List ℕ)) (count : ℕ) → ℕ → List (List ℕ) → List (List ℕ)
 answering_plan plan count s messages = plan_in (plans_over plan count messages) s messages
 
--- What the passes of a gate know, those of a business and one more: the business answered what these records apply, as far as each pass got. The
--- last pass made nothing and no mark; and where one lost something with a failed call, none made the mark
+-- What the passes of a gate know, those of a business and one more: the business answered what these records apply, as far as each pass got; and the
+-- last pass made nothing and no mark, and lost nothing
 pub record PassesAnswered (opening : Account) (plan : ℕ → List (List ℕ) → List (List ℕ)) (count : ℕ) (known : ℕ → Part)
     (answered : List InboxRecord) : Type 0 where
   pub made : (known 1).made ≡ count + 1
@@ -32,7 +32,6 @@ pub record PassesAnswered (opening : Account) (plan : ℕ → List (List ℕ) �
   pub last : (known (count + 1)).mine ≡ entries_of opening.history.made (count + 1)
   pub unmarked : (known (count + 1)).ended ≡ false
   pub unlost : (known (count + 1)).lost ≡ []
-  pub unended : (n m : ℕ) → In count n → In (count + 1) m → (known n).lost ≢ [] → (known m).ended ≢ true
 
 -- An outbox keeps the plans of a business over what its inbox applied between these lists: it keeps its plans over some list between them, as far as
 -- each sender got; and where the mark was added, that list has the peer's finish

@@ -66,7 +66,7 @@ module _ (count : ℕ) (p r : ℕ → Part) where
       all_on a = λ n inside. all_made_on (p n).mine (r n).mine n (longer n) (made n inside) (q n).mine (a n inside)
 
       loses_on : (n : ℕ) → Loses longer count r q finished n → Loses longer count p q finished n
-      loses_on n l = record { broken = l.broken; unmarked = l.unmarked; what = what l.what }
+      loses_on n l = record { broken = l.broken; unmarked = l.unmarked; unmade = λ m inside e. ended m inside (l.unmade m inside e); what = what l.what }
         where
           what : LosesMessage (longer n) (q n) ⊎ (((q n).lost ≡ finish ∷ []) × (finished ≡ true) × AllMade longer count r q)
               → LosesMessage (longer n) (q n) ⊎ (((q n).lost ≡ finish ∷ []) × (finished ≡ true) × AllMade longer count p q)
@@ -134,7 +134,7 @@ module _ (count : ℕ) (p q : ℕ → Part) (plan longer : ℕ → List (List �
 
       lost : (n : ℕ) → ((q n).lost ≡ (p n).lost) ⊎ Loses plan count p q false n → ((q n).lost ≡ (p n).lost) ⊎ Loses longer count p q finished n
       lost n (inl e) = inl e
-      lost n (inr l) = inr (record { broken = l.broken; unmarked = l.unmarked; what = what l.what })
+      lost n (inr l) = inr (record { broken = l.broken; unmarked = l.unmarked; unmade = l.unmade; what = what l.what })
         where
           what : LosesMessage (plan n) (q n) ⊎ (((q n).lost ≡ finish ∷ []) × (false ≡ true) × AllMade plan count p q)
               → LosesMessage (longer n) (q n) ⊎ (((q n).lost ≡ finish ∷ []) × (finished ≡ true) × AllMade longer count p q)

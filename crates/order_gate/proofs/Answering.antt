@@ -97,7 +97,7 @@ module _ (plan : ℕ → List (List ℕ)) (count : ℕ) (p m : ℕ → Part) (an
   }
     where
       lost : (n : ℕ) → In count n → (answer n ≡ Err submit.Fault) ⊎ (answer n ≡ Err submit.Fault → ⊥) → ((m n).lost ≡ (p n).lost) ⊎ Loses plan count p m finished n
-      lost n inside (inl e) = let l = loses (plan n) n (p n) (m n) (answer n) (sends n inside) e in inr (record { broken = l.0; unmarked = l.1; what = inl l.2 })
+      lost n inside (inl e) = let l = loses (plan n) n (p n) (m n) (answer n) (sends n inside) e in inr (record { broken = l.0; unmarked = l.1; unmade = λ k at x. sym (sends k at).reported.pass.ended ∙ x; what = inl l.2 })
       lost n inside (inr un) = inl ((sends n inside).reported.unlost un)
 
   pub all_whole : ((n : ℕ) → In count n → answer n ≡ Ok tt) → AllMade plan count p m
@@ -171,13 +171,19 @@ module _ (plan : ℕ → List (List ℕ)) (count : ℕ) (p m q : ℕ → Part) (
   still : (n : ℕ) → In count n → (m n).lost ≡ (p n).lost
   still = none_lost plan count p m answer sends (λ n inside. inl (ok n inside))
 
+  kept : (n : ℕ) → In count n → (m n).ended ≡ (p n).ended
+  kept n inside = (sends n inside).reported.pass.ended
+
+  unmade : (q 1).ended ≡ (m 1).ended → (k : ℕ) → In count k → (q k).ended ≡ true → (p k).ended ≡ true
+  unmade same = by_number (λ k x. x.ended ≡ true → (p k).ended ≡ true) (λ e. sym (same ∙ kept 1 one) ∙ e) (λ k inside ne e. sym (kept k inside) ∙ e)
+
   finished_lost : (n : ℕ) → In count n → ((q n).lost ≡ (p n).lost) ⊎ Loses plan count p q true n
   finished_lost zero inside = absurd (omega (arith, inside.from_one))
   finished_lost (suc zero) inside = first fin.lost
     where
-      first : ((q 1).lost ≡ (m 1).lost) ⊎ LosesFinish (q 1) → ((q 1).lost ≡ (p 1).lost) ⊎ Loses plan count p q true 1
+      first : ((q 1).lost ≡ (m 1).lost) ⊎ LosesFinish (m 1) (q 1) → ((q 1).lost ≡ (p 1).lost) ⊎ Loses plan count p q true 1
       first (inl e) = inl (e ∙ still 1 one)
-      first (inr l) = inr (record { broken = l.broken; unmarked = l.unmarked; what = inr (l.lost, refl, finished_all) })
+      first (inr l) = inr (record { broken = l.broken; unmarked = l.unmarked; unmade = unmade l.ended; what = inr (l.lost, refl, finished_all) })
   finished_lost (suc (suc k)) inside = inl (ap (λ (x : Part). x.lost) (others (suc (suc k)) (λ e. omega (arith, e))) ∙ still (suc (suc k)) inside)
 
   finished_grew : Grew plan count p q true
@@ -186,7 +192,7 @@ module _ (plan : ℕ → List (List ℕ)) (count : ℕ) (p m q : ℕ → Part) (
   marked_none_lost : (q 1).seen.finished ≡ true → LoseNothing count p q
   marked_none_lost marked = by_number (λ n x. x.lost ≡ (p n).lost) (first fin.lost) (λ n inside ne. still n inside)
     where
-      first : ((q 1).lost ≡ (m 1).lost) ⊎ LosesFinish (q 1) → (q 1).lost ≡ (p 1).lost
+      first : ((q 1).lost ≡ (m 1).lost) ⊎ LosesFinish (m 1) (q 1) → (q 1).lost ≡ (p 1).lost
       first (inl e) = e ∙ still 1 one
       first (inr l) = absurd (l.unmarked marked)
 

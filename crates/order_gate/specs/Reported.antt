@@ -38,9 +38,11 @@ pub record Reported (p q : Part) (next : List (List ℕ)) (result : Result (Unit
   pub refused : (f : SubmitFault) → result ≡ Err f → f ≢ submit.Memory → RefusedAt p q rest f
   pub unlost : (result ≡ Err submit.Fault → ⊥) → q.lost ≡ p.lost
 
--- the mark was refused with a failed call, so a stop may leave it behind the history, which had none; and nothing is taken any more
-pub record LosesFinish (q : Part) : Type 0 where
+-- the mark was refused with a failed call, so a stop may leave it behind the history, which had none; the pass has not made it, and nothing is taken
+-- any more
+pub record LosesFinish (p q : Part) : Type 0 where
   pub lost : q.lost ≡ finish ∷ []
+  pub ended : q.ended ≡ p.ended
   pub broken : q.broken ≡ true
   pub unmarked : q.seen.finished ≢ true
 
@@ -50,7 +52,7 @@ pub record Finishing (p q : Part) (result : Result (Unit {0}) SubmitFault) : Typ
   pub same : StaysPass p q
   pub mine : q.mine ≡ p.mine
   pub marked : OnOk result (q.seen.finished ≡ true)
-  pub lost : (q.lost ≡ p.lost) ⊎ LosesFinish q
+  pub lost : (q.lost ≡ p.lost) ⊎ LosesFinish p q
   pub failed : result ≡ Err submit.Fault → HasFailed p.faults q.faults
   pub broken : result ≡ Err submit.Broken → HasFailed q.opening.faults q.faults
   pub unclosed : result ≢ Err submit.Closed
