@@ -1,5 +1,5 @@
 -- What the act of a reply leaves, as the caller of an end sees it.
-use Rattle.std.proofs.Common.{◌≡◌, ◌⊎◌, inl, inr, ℕ, ◌≤◌, List, length, Option, Some, None, refl, sym, ap, subst, ◌∙◌}
+use Rattle.std.proofs.Common.{◌≡◌, ◌⊎◌, inl, inr, ℕ, ◌≤◌, List, length, Option, Some, None, refl, sym, subst}
 use Rattle.std.specs.Prelude.{IfSome}
 use Rattle.sbe_prim.specs.declared.Order.{Order}
 use Rattle.fixp_msgs.specs.declared.flow.Flow.{Flow}
@@ -28,7 +28,7 @@ serves_next cfg most f i o s fits = by_range o.next.connection.serving refl
     by_range None is = tt
     by_range (Some range) is = by_case range (fits.served range is)
 
-is_payload : (order : Order) (message : List ℕ) (i : Incoming) → IsIncoming order message i → 8 ≤ length message → length message ≤ 16384 → IsMessage i
+pub is_payload : (order : Order) (message : List ℕ) (i : Incoming) → IsIncoming order message i → 8 ≤ length message → length message ≤ 16384 → IsMessage i
     → IsApplication (payload_of (record { order = order; message = message }))
 is_payload order message (application p) is least most here = record {
   frame = record { order = order; message = message };

@@ -5,6 +5,7 @@ pub mod Written
 pub mod Told
 pub mod RunLemmas
 pub mod Turn
+pub mod Held
 pub mod Frames
 pub mod OneClass
 mod Outcomes

@@ -9,7 +9,7 @@ use Rattle.fixp_replies.specs.Events.{Made, outbox_finished, tells_finish, finis
 use Rattle.fixp_replies.specs.Serving.{own_finishing}
 use Rattle.fixp_machine.specs.Sound.{Sound}
 
-abbrev told_as : Around → Facts → ℕ → Bool → Made
+abbrev pub told_as : Around → Facts → ℕ → Bool → Made
 told_as x f last b =
     if b
     then record { written = finished_sending x.config.session (if is_sequenced x.config.own_flow then Some last else None) ∷ []; next = own_finishing (outbox_finished f last) own.Told }

@@ -13,7 +13,7 @@ use Rattle.fixp_machine.specs.Machine.{bytes_of, sent_at}
 use Rattle.fixp_machine.specs.Sound.{Sound, MayWrite}
 use Rattle.fixp_end.proofs.Limits.{ArePlain}
 
-abbrev turn_as : Around → Facts → List Range → Bool → Made
+abbrev pub turn_as : Around → Facts → List Range → Bool → Made
 turn_as x f runs b =
     if b
     then record { written = applied_runs runs ++ terminate x.config.session 1 [] ∷ []; next = in_phase f Closing }

@@ -11,4 +11,4 @@ pub record AnswersFrame (old new : State) (order : Order) (message : List ℕ) (
   pub incoming : Incoming
   pub is : IsIncoming order message incoming
   pub replies : act ≡ (reply_of (around old at now) old.facts incoming).act
-  pub after : new ≡ after_frame old (reply_of (around old at now) old.facts incoming) now
+  pub after : new ≡ after_frame old incoming (reply_of (around old at now) old.facts incoming) now

@@ -2,6 +2,7 @@
 //! `fixp_replies`, and holds what it wrote until its link has taken it. It does no input or output itself.
 #![tactic(auto)]
 
+mod holding;
 mod laws;
 mod machine;
 mod messages;

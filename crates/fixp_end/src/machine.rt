@@ -7,7 +7,11 @@ ghost use Rattle.fixp_replies.specs.Acts.{is_record};
 ghost use Rattle.fixp_replies.specs.Outgoing.{outcome_of, reply_limit, written_limit};
 ghost use Rattle.fixp_machine.specs.Sound.{KeepsSound};
 ghost use Rattle.fixp_end.specs.Doing.{Serves};
+ghost use Rattle.flow_window.specs.Window.{holding};
 
+use crate::holding::{
+    drop_front, front, go_on, hold_message, least, let_go, let_go_at, new_window,
+};
 use crate::output::Output;
 use crate::runs::write_turn;
 use crate::sending::{rest_of, write_entries};
@@ -23,6 +27,7 @@ use fixp_replies::{
 };
 use fixp_shake::{EndConfig, Phase, Violation};
 use flow_idem::Applied;
+use flow_window::Window;
 use jr_kept::Stable;
 use sbe_prim::Order;
 use std::alloc::{AllocError, Global};
@@ -49,6 +54,8 @@ pub struct End {
     last_sent: u64,
     last_received: u64,
     applied: Applied,
+    /// What is held past a gap of the peer's flow, where that is recoverable.
+    window: Option<Window>,
 }
 
 impl Model for End {
@@ -60,7 +67,7 @@ impl Model for End {
 
     ghost Value = { State };
 
-    ghost use Rattle.fixp_end.specs.Keeping.{Keeps};
+    ghost use Rattle.fixp_end.specs.Keeping.{Keeps, held_in};
 
     ghost view = { λ e. record {
       config = e.config;
@@ -76,6 +83,7 @@ impl Model for End {
       last_sent = e.last_sent;
       last_received = e.last_received;
       untold = e.applied.untold;
+      held = held_in e.window;
     } };
 
     ghost invariant = { λ e. Keeps e × IfSome e.pending (λ reply. written_limit e.config reply.written ≤ reply_limit e.config) };
@@ -84,7 +92,10 @@ impl Model for End {
 impl End {
     ghost use Rattle.fixp_replies.specs.Events.{heartbeats, lateness};
     ghost use Rattle.fixp_replies.specs.Outcomes.{breaks};
-    ghost use Rattle.fixp_machine.specs.Machine.{fresh, connected, around, wrote, bytes_of, broken_by, ticked, after_closed, after_turn, payload_frames, range_end, rest_of, sent_again, sent_live, reply_applied, after_bad_frame, after_act, link_ended, phase_of};
+    ghost use Rattle.fixp_machine.specs.Machine.{fresh, connected, around, wrote, bytes_of, broken_by, ticked, after_closed, after_turn, payload_frames, range_end, rest_of, sent_again, sent_live, reply_applied, after_bad_frame, after_act, link_ended, phase_of, front_of, held_applied, held_until, held_with, Windowed};
+    ghost use Rattle.std.specs.Option.{option_map};
+    ghost use Rattle.fixp_replies.specs.declared.act.Act.TheVariants.{Apply};
+    ghost use Rattle.fixp_machine.specs.Machine.{State};
     ghost use Rattle.fixp_shake.specs.Flows.{is_absent};
     ghost use Rattle.fixp_shake.specs.Phases.{is_established};
     ghost use Rattle.fixp_msgs.specs.Numbering.{payload_of};
@@ -98,7 +109,8 @@ impl End {
     /// A new end that has begun no connection. `most` is the greatest number of an application message.
     ///
     /// # Errors
-    /// Want of memory for the output of 5,242,880 bytes, or for what is to be told.
+    /// Want of memory for the output of 5,242,880 bytes, for what is to be told, or, where the peer's flow is recoverable, for its
+    /// window of some 4 MB.
     pub fn new(
         alloc: Global,
         config: EndConfig,
@@ -115,6 +127,7 @@ impl End {
     {
         let output = Output::new(alloc)?;
         let applied = Applied::new(alloc, state.inbox_next)?;
+        let window = new_window(alloc, &config, state.inbox_next)?;
         let facts = Facts {
             recorded: state,
             connection: Connection::new(&state, Phase::Idle),
@@ -135,11 +148,12 @@ impl End {
             last_sent: 0,
             last_received: 0,
             applied,
+            window,
         })
     }
 
     /// A connection begins at the moment `now` in milliseconds, and an initiator writes its first message. What the connection
-    /// before left unsent is dropped.
+    /// before left unsent is dropped, and so is what was held.
     pub fn begin(&mut self, now: u64)
         requires over { self.old.begun ≡ true → IsSome self.old.ending }
         requires time { (self.old.moment ≤ now) × (now < 2 ^ 44) }
@@ -152,6 +166,7 @@ impl End {
             most: self.most,
             at: 0,
             moment: now,
+            held: least(&self.window),
         };
         let opening = begin_connection(&around, &mut self.facts);
         self.begun = true;
@@ -163,6 +178,7 @@ impl End {
         self.last_sent = now;
         self.last_received = now;
         self.applied.forget_runs();
+        let_go(&mut self.window, self.facts.recorded.inbox_next);
         write_place(
             &self.config,
             &mut self.output,
@@ -186,15 +202,16 @@ impl End {
         Ok(())
     }
 
-    /// Answers a frame of the connection. `message` begins with its SBE header, `at` is the frame's place in the connection's
+    /// Answers a frame of the connection, where no held message is to be applied first. `message` begins with its SBE header, `at` is the frame's place in the connection's
     /// bytes, and `now` the moment in milliseconds. Where the act is a record, the caller makes it stable and then calls `did`,
-    /// which writes the reply; any other reply is written at once.
+    /// which writes the reply; any other reply is written at once. A message that came past a gap is held.
     pub fn on_frame(&mut self, order: Order, message: &[u8], at: u64, now: u64) -> Act
         requires header { 8 ≤ length message.now }
         requires most { length message.now ≤ 16384 }
         requires begun { self.old.begun ≡ true }
         requires open { self.old.ending ≡ None }
         requires done { self.old.pending ≡ None }
+        requires drained { front_of self.old ≡ None }
         requires room { 0 < self.old.room }
         requires output { length self.old.unsent ≤ 1000000 }
         requires time { (self.old.moment ≤ now) × (now < 2 ^ 44) }
@@ -215,6 +232,7 @@ impl End {
             most: self.most,
             at,
             moment: now,
+            held: least(&self.window),
         };
         self.next = self.facts;
         let reply = reply_to_frame(&around, &mut self.next, &classify(order, message));
@@ -226,7 +244,15 @@ impl End {
             self.pending = Some(reply);
         } else {
             let next = self.next;
+            let holds = reply.holds;
             self.apply_reply(reply, next);
+            hold_message(
+                &mut self.window,
+                holds,
+                order,
+                message,
+                self.facts.recorded.inbox_next,
+            );
         }
         act
     }
@@ -236,6 +262,7 @@ impl End {
         requires begun { self.old.begun ≡ true }
         requires open { self.old.ending ≡ None }
         requires done { self.old.pending ≡ None }
+        requires drained { front_of self.old ≡ None }
         requires output { length self.old.unsent ≤ 5100000 }
         requires time { (self.old.moment ≤ now) × (now < 2 ^ 44) }
         ensures reply { self.new ≡ after_bad_frame self.old at now }
@@ -267,6 +294,16 @@ impl End {
                 &mut self.applied,
                 &self.config,
                 reply.act,
+                self.next.recorded.inbox_next,
+            );
+            go_on(
+                &mut self.window,
+                self.facts.recorded.inbox_next,
+                self.next.recorded.inbox_next,
+            );
+            let_go_at(
+                &mut self.window,
+                reply.ending,
                 self.next.recorded.inbox_next,
             );
             write_reply(
@@ -314,6 +351,7 @@ impl End {
     /// them an initiator closes a connection on which both finishes are exchanged.
     pub fn turn_done(&mut self, now: u64)
         requires done { self.old.pending ≡ None }
+        requires drained { front_of self.old ≡ None }
         requires output { length self.old.unsent ≤ 2000000 }
         requires few { length self.old.untold ≤ 10000 }
         requires time { (self.old.moment ≤ now) × (now < 2 ^ 44) }
@@ -334,6 +372,7 @@ impl End {
             most: self.most,
             at: 0,
             moment: now,
+            held: least(&self.window),
         };
         write_turn(
             &around,
@@ -349,6 +388,7 @@ impl End {
     /// where all of them were sent.
     pub fn closed(&mut self, last: u64, now: u64)
         requires done { self.old.pending ≡ None }
+        requires drained { front_of self.old ≡ None }
         requires output { length self.old.unsent ≤ 5100000 }
         requires time { (self.old.moment ≤ now) × (now < 2 ^ 44) }
         ensures finish { self.new ≡ after_closed self.old last now }
@@ -365,6 +405,7 @@ impl End {
             most: self.most,
             at: 0,
             moment: now,
+            held: least(&self.window),
         };
         if self.ending.is_some() {
             outbox_finished(&mut self.facts, last);
@@ -391,7 +432,44 @@ impl End {
             let ending = link_ending(&self.around(0, self.moment), &self.facts);
             self.ending = Some(ending);
             self.pending = None;
+            let_go(&mut self.window, self.facts.recorded.inbox_next);
         }
+    }
+
+    /// What is held lies within reach of the number that the inbox awaits, is not past the greatest one, and is there only on a
+    /// recoverable flow, behind the handshake, before the connection's end.
+    pub fn windowed(&self)
+        ensures { Windowed self.now.config self.now.most self.now.facts self.now.ending self.now.held }
+    {
+        let _ = &self.window;
+    }
+
+    /// The held message that the inbox awaits, with its number. Its caller applies it, makes the record stable, and then calls
+    /// `held_done`, before it tells a frame, bytes that are none, the end of a turn or the outbox's finish.
+    pub fn held(&self) -> Option<(u64, &[u8])>
+        ensures value { option_map (λ h. record { number = h.0; payload = h.1.now }) result ≡ front_of self.now }
+        ensures takes { IfSome result (λ h. CanTake self.now.config.peer_flow self.now.most self.now.facts.recorded (IsApplication h.1.now) (Apply h.0)) }
+    {
+        front(&self.window, self.facts.recorded.inbox_next)
+    }
+
+    /// The record of the held message is stable: the inbox awaits the number behind it. Nothing is written.
+    pub fn held_done(&mut self)
+        requires done { self.old.pending ≡ None }
+        requires held { IsSome (front_of self.old) }
+        ensures applied { self.new ≡ held_applied self.old (front_of self.old) }
+        ensures recorded { self.new.facts.recorded ≡ record self.old.facts.recorded { inbox_next = self.old.facts.recorded.inbox_next + 1 } }
+        ensures done { self.new.pending ≡ None }
+        ensures stays { Stays self.old self.new self.old.moment }
+        ensures ending { self.new.ending ≡ self.old.ending }
+        ensures room { self.new.room ≡ self.old.room }
+        ensures unsent { self.new.unsent ≡ self.old.unsent }
+        ensures untold { self.new.untold ≡ self.old.untold }
+        ensures serving { self.new.facts.connection.serving ≡ self.old.facts.connection.serving }
+    {
+        drop_front(&mut self.window, self.facts.recorded.inbox_next);
+        self.facts.recorded.inbox_next += 1;
+        self.facts.connection.receiver.pass();
     }
 
     /// What is still to be sent again of the range that the peer asked for.
@@ -508,6 +586,7 @@ impl End {
             most: self.most,
             at,
             moment: now,
+            held: least(&self.window),
         }
     }
 
@@ -516,9 +595,13 @@ impl End {
         requires act { is_record reply.act ≡ false }
         requires keeps { KeepsSound self.old.config self.old.most self.old.facts (outcome_of self.old.config reply next) }
         requires serves { Serves next }
+        requires still { next.recorded.inbox_next ≡ self.old.facts.recorded.inbox_next }
+        requires window { Windowed self.old.config self.old.most next reply.ending (held_until reply.ending self.old.held) }
         requires small { written_limit self.old.config reply.written ≤ reply_limit self.old.config }
         requires output { length self.old.unsent ≤ 5100000 }
         ensures applied { self.new ≡ reply_applied self.old (outcome_of self.old.config reply next) self.old.moment }
+        ensures facts { self.new.facts ≡ next }
+        ensures config { self.new.config ≡ self.old.config }
         ensures untold { self.new.untold ≡ self.old.untold }
         ensures small { length self.new.unsent ≤ length self.old.unsent + written_limit self.old.config reply.written }
     {
@@ -527,6 +610,11 @@ impl End {
             &self.config,
             reply.act,
             next.recorded.inbox_next,
+        );
+        let_go_at(
+            &mut self.window,
+            reply.ending,
+            self.facts.recorded.inbox_next,
         );
         write_reply(
             &self.config,
@@ -556,6 +644,7 @@ impl End {
             most: self.most,
             at: 0,
             moment,
+            held: least(&self.window),
         };
         let due = beat(&around, &self.facts, self.last_sent);
         write_place(

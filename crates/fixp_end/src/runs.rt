@@ -1,11 +1,11 @@
 //! How an end tells the numbers that an idempotent flow applied: one message for each run of consecutive ones.
 
-ghost use Rattle.std.specs.Prelude.{◌≡◌, ◌+◌, ◌*◌, ◌<◌, ◌≤◌, ◌^◌, ◌++◌, ◌∷◌, [], length, take};
+ghost use Rattle.std.specs.Prelude.{◌≡◌, ℕ, Option, ◌+◌, ◌*◌, ◌<◌, ◌≤◌, ◌^◌, ◌++◌, ◌∷◌, [], length, take};
 ghost use Rattle.flow_idem.specs.Runs.{runs_of};
 ghost use Rattle.fixp_replies.specs.Events.{applied_runs, turn_ended};
 ghost use Rattle.fixp_replies.specs.Facts.{around_of};
 ghost use Rattle.fixp_machine.specs.Machine.{bytes_of, sent_at};
-ghost use Rattle.fixp_machine.specs.Sound.{Sound};
+ghost use Rattle.fixp_machine.specs.Sound.{Sound, HeldFits};
 
 use crate::output::Output;
 use crate::sound::finish_turn;
@@ -83,6 +83,7 @@ pub fn write_turn(
     ensures next { facts.new ≡ (turn_ended (around_of around.now) facts.old (runs_of applied.now.untold)).next }
     ensures sound { Sound around.now.config.now facts.new }
     ensures recorded { facts.new.recorded ≡ facts.old.recorded }
+    ensures fits { (held : Option ℕ) → HeldFits held facts.old → HeldFits held facts.new }
     ensures serving { facts.new.connection.serving ≡ facts.old.connection.serving }
     ensures short { length output.new ≤ length output.old + 64 * (length applied.now.untold + 1) }
 {

@@ -12,8 +12,8 @@ use Rattle.fixp_msgs.specs.declared.flow.Flow.{Flow}
 use Rattle.fixp_msgs.specs.declared.flow.Flow.TheVariants as flows
 use Rattle.fixp_msgs.specs.Flow.{flow_code}
 use Rattle.fixp_msgs.specs.Message.{Message, negotiate, negotiation_response, negotiation_reject, establish, establishment_ack, establishment_reject, sequence, unsequenced_heartbeat, retransmit_request, retransmission, retransmit_reject, applied as applied_message, not_applied, finished_sending, finished_receiving, terminate}
-use Rattle.flow_recover.specs.declared.receiver.Seen.{Seen}
-use Rattle.flow_recover.specs.declared.receiver.Seen.TheVariants.{Deliver, Gap, Repeat}
+use Rattle.flow_recover.specs.declared.numbers.Seen.{Seen}
+use Rattle.flow_recover.specs.declared.numbers.Seen.TheVariants.{Deliver, Hold, Gap, Repeat}
 use Rattle.flow_recover.specs.Receiving as receiver_is
 use Rattle.flow_recover.specs.Laws.{message, given}
 use Rattle.flow_recover.proofs.Chains.{grows_recoverable, number_counted, next_counted}
@@ -32,7 +32,7 @@ use Rattle.fixp_replies.specs.declared.facts.Facts.{Facts}
 use Rattle.fixp_replies.specs.declared.facts.PeerFinish.TheVariants as peer
 use Rattle.fixp_replies.specs.declared.facts.OwnFinish.TheVariants as own
 use Rattle.fixp_replies.specs.Incoming.{Incoming, application, session, wrong_order, too_short, unknown}
-use Rattle.fixp_replies.specs.Facts.{Around, is_initiator, connecting, in_phase, requesting, serves, negotiated as as_negotiated, awaiting, awaits_gap, gap_to_ask, announced_number, finishes_exchanged}
+use Rattle.fixp_replies.specs.Facts.{Around, is_initiator, connecting, in_phase, requesting, serves, negotiated as as_negotiated, awaiting, awaits_gap, gap_of, gap_to_ask, holding_too, announced_number, finishes_exchanged}
 use Rattle.fixp_replies.specs.Outcomes.{Outcome, Row, row, goes_on, accepts, ignores, ends, not_in_phase, request_for, skip_of, told_skip, opening_negotiate, opening_establish}
 use Rattle.fixp_replies.specs.Events.{Made, applied_runs, outbox_finished, tells_finish}
 use Rattle.fixp_machine.specs.Machine.{counted_sent}
@@ -45,9 +45,9 @@ use Rattle.fixp_replies.specs.Replies.{reply_of, template_of, rows_of, answer_of
 use Rattle.fixp_machine.proofs.Calls.{begun_as}
 use Rattle.fixp_machine.proofs.Expecting.{returned_stays}
 use Rattle.fixp_machine.proofs.Rows.{AllRows, by_row, all_rows, all_within, announced_rows, own_rows}
-use Rattle.fixp_machine.proofs.Tests.{not_true, not_false, none-some, delivers, passes, is_done, not_negotiated, not_established}
+use Rattle.fixp_machine.proofs.Tests.{not_true, not_false, none-some, delivers, passes, other_gap, is_done, not_negotiated, not_established}
 use Rattle.fixp_machine.specs.Accepting.{records_of, event_of, next_message, AsksNothing, Agrees, GrowsBy, told_in, AcceptedFrameGrows, RefusedFrameSpares, FrameTells, BeginsAgreeing, turn_end, outbox_finish, live, again, OwnKeepsAgreeing}
-use Rattle.fixp_machine.proofs.Growing.{announced_on, fault_on, in_order, gap_none, agrees_asked, Behind, quiet_grows, recoverable_announced, announced_grows, message_grows}
+use Rattle.fixp_machine.proofs.Growing.{announced_on, fault_on, in_order, IsOf, agrees_asked, Behind, quiet_grows, recoverable_announced, announced_grows, message_grows}
 
 -- what an outcome leaves: where it is accepted the inbox is grown, and else it stays; and what is skipped is told
 record Leaves (flow : Flow) (c : Option ℕ) (inbox : List InboxRecord) (i : Incoming) (o : Outcome) : Type 0 where
@@ -68,12 +68,12 @@ told_asking : (x : Around) (written : List Message) (g : Option Range) → told_
 told_asking x written g = flat_map-append _ written (request_for x g) ∙ (ap (λ rs. told_in written ++ rs) (asks_no_range x g) ∙ append-nil (told_in written))
 
 -- the connection goes on
-going : (flow : Flow) (c : Option ℕ) (inbox : List InboxRecord) (i : Incoming) (x : Around) (act : Act) (written : List Message) (f : Facts)
+going : (flow : Flow) (c : Option ℕ) (inbox : List InboxRecord) (i : Incoming) (x : Around) → IsOf flow x → (act : Act) (written : List Message) (f : Facts)
     → GrowsBy flow c inbox (option_to_list (event_of i)) (records_of act i) f → told_in written ≡ skips (records_of act i) → Leaves flow c inbox i (goes_on x act written f)
-going flow c inbox i x act written f g told = record {
-  grows = λ _. record { grown = g.grown; agrees = agrees_asked flow (standing c (option_to_list (event_of i))) f (inbox ++ records_of act i) g.agrees };
+going flow c inbox i x of act written f g told = record {
+  grows = λ _. record { grown = g.grown; agrees = agrees_asked flow x (standing c (option_to_list (event_of i))) f (inbox ++ records_of act i) of g.agrees };
   spares = λ e. absurd (true≢false e);
-  tells = told_asking x written (gap_to_ask f) ∙ told;
+  tells = told_asking x written (gap_to_ask x f) ∙ told;
 }
 
 bad : (flow : Flow) (c : Option ℕ) (inbox : List InboxRecord) (i : Incoming) (x : Around) (f : Facts) (b : Option BadStart) → Agrees flow c f inbox → Leaves flow c inbox i (bad_retransmission x f b)
@@ -99,11 +99,11 @@ still_shaking flow c f g inbox a before now next receiver requester finish = rec
   stands = λ t. a.stands t ∙ (ap (λ b. if b then Some (next_message flow f) else None) before ∙ sym (ap (λ b. if b then Some (next_message flow g) else None) now));
 }
 
-shaking : (flow : Flow) (c : Option ℕ) (inbox : List InboxRecord) (i : Incoming) (x : Around) (f : Facts) → event_of i ≡ None → Agrees flow c f inbox → is_shaken f.connection.phase ≡ false → Leaves flow c inbox i (shaken x f)
-shaking flow c inbox i x f none a before =
+shaking : (flow : Flow) (c : Option ℕ) (inbox : List InboxRecord) (i : Incoming) (x : Around) (f : Facts) → IsOf flow x → event_of i ≡ None → Agrees flow c f inbox → is_shaken f.connection.phase ≡ false → Leaves flow c inbox i (shaken x f)
+shaking flow c inbox i x f of none a before =
     let g : Facts = in_phase (as_negotiated f) phases.Establishing in
     let act : Act = if f.recorded.negotiated then acts.Nothing else acts.Negotiated in
-    going flow c inbox i x act (opening_establish x f ∷ []) g
+    going flow c inbox i x of act (opening_establish x f ∷ []) g
     (subst (λ e. GrowsBy flow c inbox (option_to_list e) (records_of act i) g) (sym none)
     (quiet_grows flow c inbox (records_of act i) f g a (still_shaking flow c f g inbox a before refl refl refl refl refl) (applies f.recorded.negotiated) (skipping f.recorded.negotiated)))
     (sym (skipping f.recorded.negotiated))
@@ -153,7 +153,7 @@ reaching : (x : Around) (f : Facts) (c : Option ℕ) (inbox : List InboxRecord) 
 reaching x f c inbox i keepalive next e is a none =
     let d : Announced = announced x f next in
     let interval : ℕ = min 60000 (max 100 keepalive) in
-    going x.config.peer_flow c inbox i x (skip_of d.skipped) (told_skip d.skipped ++ told_return x d.facts e) (established (returned x d.facts e) interval)
+    going x.config.peer_flow c inbox i x (λ e. e) (skip_of d.skipped) (told_skip d.skipped ++ told_return x d.facts e) (established (returned x d.facts e) interval)
     (handshaken x f 5 c inbox i next (established (returned x d.facts e) interval) is a none (behind_return x d.facts e interval))
     (flat_map-append _ (told_skip d.skipped) (told_return x d.facts e)
     ∙ (ap (λ rs. told_in (told_skip d.skipped) ++ rs) (return_tells_nothing x d.facts e) ∙ (append-nil (told_in (told_skip d.skipped)) ∙ told_as d.skipped i)))
@@ -173,7 +173,7 @@ establish_all x f id timestamp keepalive next expected credentials c inbox a = b
         let d : Announced = announced x f next in
         let g : Facts = returned x d.facts expected in
         let b = behind_return x d.facts expected keepalive in
-        going x.config.peer_flow c inbox i x (skip_of d.skipped)
+        going x.config.peer_flow c inbox i x (λ e. e) (skip_of d.skipped)
         (establishment_ack x.config.session timestamp x.config.keepalive (announced_number x g) (answers_next x expected g) ∷ told_skip d.skipped)
         (established (softened x expected g) keepalive)
         (handshaken x f 4 c inbox i next (established (softened x expected g) keepalive) refl a none
@@ -195,10 +195,10 @@ establish_all x f id timestamp keepalive next expected credentials c inbox a = b
     by_place false false = tt
 
 -- facts that differ in nothing that is agreed on
-unchanged : (flow : Flow) (c : Option ℕ) (inbox : List InboxRecord) (i : Incoming) (x : Around) (act : Act) (written : List Message) (f g : Facts) → event_of i ≡ None → Agrees flow c f inbox → Agrees flow c g inbox
+unchanged : (flow : Flow) (c : Option ℕ) (inbox : List InboxRecord) (i : Incoming) (x : Around) → IsOf flow x → (act : Act) (written : List Message) (f g : Facts) → event_of i ≡ None → Agrees flow c f inbox → Agrees flow c g inbox
     → applied (records_of act i) ≡ [] → skips (records_of act i) ≡ [] → told_in written ≡ [] → Leaves flow c inbox i (goes_on x act written g)
-unchanged flow c inbox i x act written f g none a b applies skipping told =
-    going flow c inbox i x act written g
+unchanged flow c inbox i x of act written f g none a b applies skipping told =
+    going flow c inbox i x of act written g
     (subst (λ e. GrowsBy flow c inbox (option_to_list e) (records_of act i) g) (sym none) (quiet_grows flow c inbox (records_of act i) f g a b applies skipping))
     (told ∙ sym skipping)
 
@@ -220,12 +220,12 @@ answered_agrees flow c f inbox last recorded a = record {
 }
 
 -- Sequence: where it stands the handshake is done
-sequence_all : (flow : Flow) (x : Around) (f : Facts) (next : ℕ) (c : Option ℕ) (inbox : List InboxRecord) → Agrees flow c f inbox → is_shaken f.connection.phase ≡ true
+sequence_all : (flow : Flow) (x : Around) (f : Facts) (next : ℕ) (c : Option ℕ) (inbox : List InboxRecord) → IsOf flow x → Agrees flow c f inbox → is_shaken f.connection.phase ≡ true
     → fault_on flow x.most f 7 (Some next) ≡ None → Leaves flow c inbox (session (sequence next)) (sequence_follows x f next (announced_on flow f (Some next)))
-sequence_all flow x f next c inbox a settled none =
+sequence_all flow x f next c inbox of a settled none =
     by_row P (is_past_finish x f next) _ (sequence_taken x (announced_on flow f (Some next))) (λ _. refused flow c inbox i _ refl refl refl a)
-    (λ _. by_row P (is_filled (announced_on flow f (Some next)).facts) (answers_finish x (announced_on flow f (Some next)).facts (unwrap_or (awaits_gap (announced_on flow f (Some next)).facts.connection.peer_finish) 0)) _ (filled flow a none)
-    (λ _. going flow c inbox i x (skip_of (announced_on flow f (Some next)).skipped) (told_skip (announced_on flow f (Some next)).skipped) (announced_on flow f (Some next)).facts
+    (λ _. by_row P (is_filled x (announced_on flow f (Some next)).facts) (answers_finish x (announced_on flow f (Some next)).facts (unwrap_or (awaits_gap (announced_on flow f (Some next)).facts.connection.peer_finish) 0)) _ (filled flow a none)
+    (λ _. going flow c inbox i x of (skip_of (announced_on flow f (Some next)).skipped) (told_skip (announced_on flow f (Some next)).skipped) (announced_on flow f (Some next)).facts
     (announced_grows flow x.most 7 c inbox i in_flow (Some next) f (announced_on flow f (Some next)).facts a none
     (record { inbox_next = refl; receiver = refl; requester = refl; finish = refl; shaken = same_phase flow ∙ settled }))
     (told_as (announced_on flow f (Some next)).skipped i)))
@@ -256,12 +256,12 @@ sequence_all flow x f next c inbox a settled none =
     filled_grows h last b e = grown_behind (records_of (finish_act h.recorded.peer_last last) i) (peer_finished h (peer.Exchanged last) (Some (unwrap_or h.recorded.peer_last last)))
         (ap (λ k. k.recorded.inbox_next) e) (ap (λ k. k.connection.receiver) e) (ap (λ k. is_shaken k.connection.phase) e ∙ settled) b (finish_applies h.recorded.peer_last last i) (finish_skips h.recorded.peer_last last i)
 
-    filled : (k : Flow) → Agrees k c f inbox → fault_on k x.most f 7 (Some next) ≡ None → is_filled (announced_on k f (Some next)).facts ≡ true
+    filled : (k : Flow) → Agrees k c f inbox → fault_on k x.most f 7 (Some next) ≡ None → is_filled x (announced_on k f (Some next)).facts ≡ true
         → Leaves k c inbox i (answers_finish x (announced_on k f (Some next)).facts (unwrap_or (awaits_gap (announced_on k f (Some next)).facts.connection.peer_finish) 0))
     filled flows.Recoverable b e t =
         let h : Facts = (announced_on flows.Recoverable f (Some next)).facts in
         let last : ℕ = unwrap_or (awaits_gap h.connection.peer_finish) 0 in
-        going flows.Recoverable c inbox i x (finish_act h.recorded.peer_last last) (finished_receiving x.config.session ∷ []) (peer_finished h (peer.Exchanged last) (Some (unwrap_or h.recorded.peer_last last)))
+        going flows.Recoverable c inbox i x (λ r. absurd (true≢false r)) (finish_act h.recorded.peer_last last) (finished_receiving x.config.session ∷ []) (peer_finished h (peer.Exchanged last) (Some (unwrap_or h.recorded.peer_last last)))
         (filled_grows h last b refl)
         (sym (finish_skips h.recorded.peer_last last i))
     filled flows.Idempotent b e t = absurd (none-some (awaits_gap f.connection.peer_finish) (and_left _ _ t) (b.quiet refl).no_finish)
@@ -302,7 +302,7 @@ taking x f inbox p e a (Deliver n) is =
     let w : r.next ≡ next_number inbox = a.waits refl in
     let base = grows_recoverable r (message p ∷ []) inbox (sym w) in
     let step : next_number (inbox ++ apply m ∷ []) ≡ n + 1 = omega (arith, next_number-append inbox (apply m ∷ []), d.0, d.1, w) in
-    going flows.Recoverable (Some (receiver_is.number r)) inbox (application p) x (acts.Apply n) [] (awaiting (counted f) (n + 1)) (record {
+    going flows.Recoverable (Some (receiver_is.number r)) inbox (application p) x (λ t. absurd (true≢false t)) (acts.Apply n) [] (awaiting (counted f) (n + 1)) (record {
       grown = subst (λ s. GrownRecoverable (Some (receiver_is.number r)) (Event.message p ∷ []) inbox (inbox ++ map apply (given s p ++ []))) is base;
       agrees = record {
         recorded = sym step;
@@ -314,15 +314,22 @@ taking x f inbox p e a (Deliver n) is =
         stands = λ _. counted_stands f e;
       };
     }) refl
+taking x f inbox p e a (Hold n) is =
+    let r = f.connection.receiver in
+    let base = grows_recoverable r (message p ∷ []) inbox (sym (a.waits refl)) in
+    let k = going flows.Recoverable (Some (receiver_is.number r)) inbox (application p) (holding_too x n) (λ t. absurd (true≢false t)) acts.Nothing [] (counted f)
+    (left_out f inbox p e a ((passes r.next (receiver_is.number r) n).hold is)
+    (subst (λ s. GrownRecoverable (Some (receiver_is.number r)) (Event.message p ∷ []) inbox (inbox ++ map apply (given s p ++ []))) is base)) refl in
+    record { grows = k.grows; spares = k.spares; tells = k.tells }
 taking x f inbox p e a (Gap n) is =
     let r = f.connection.receiver in
     let base = grows_recoverable r (message p ∷ []) inbox (sym (a.waits refl)) in
-    going flows.Recoverable (Some (receiver_is.number r)) inbox (application p) x acts.Nothing [] (counted f) (left_out f inbox p e a ((passes r.next (receiver_is.number r) n).0 is)
+    going flows.Recoverable (Some (receiver_is.number r)) inbox (application p) x (λ t. absurd (true≢false t)) acts.Nothing [] (counted f) (left_out f inbox p e a ((passes r.next (receiver_is.number r) n).gap is)
     (subst (λ s. GrownRecoverable (Some (receiver_is.number r)) (Event.message p ∷ []) inbox (inbox ++ map apply (given s p ++ []))) is base)) refl
 taking x f inbox p e a (Repeat n) is =
     let r = f.connection.receiver in
     let base = grows_recoverable r (message p ∷ []) inbox (sym (a.waits refl)) in
-    going flows.Recoverable (Some (receiver_is.number r)) inbox (application p) x acts.Nothing [] (counted f) (left_out f inbox p e a ((passes r.next (receiver_is.number r) n).1 is)
+    going flows.Recoverable (Some (receiver_is.number r)) inbox (application p) x (λ t. absurd (true≢false t)) acts.Nothing [] (counted f) (left_out f inbox p e a ((passes r.next (receiver_is.number r) n).repeat is)
     (subst (λ s. GrownRecoverable (Some (receiver_is.number r)) (Event.message p ∷ []) inbox (inbox ++ map apply (given s p ++ []))) is base)) refl
 
 -- a message of a recoverable flow, whichever number it has
@@ -349,7 +356,7 @@ message_rows x f p c inbox a =
         λ _. (
           λ _. refused flow c inbox i _ refl refl refl a,
           λ _. (
-            λ other. going flow c inbox i x (acts.Apply f.recorded.inbox_next) [] (awaiting f (f.recorded.inbox_next + 1))
+            λ other. going flow c inbox i x (λ e. e) (acts.Apply f.recorded.inbox_next) [] (awaiting f (f.recorded.inbox_next + 1))
                 (message_grows flow c inbox p f a (not_false (is_recoverable flow) other) present (is_done f.connection.phase done)) refl,
             λ rec. (
               λ _. bad flow c inbox i x f (request_is.message_fault f.connection.requester) a,
@@ -393,7 +400,7 @@ restarted_grows flow c inbox f next count a shaken asked = by_flow flow a
 answered : (x : Around) (f : Facts) (i : Incoming) (id : List ℕ) (timestamp : ℕ) (r : Result Range RetransmitCode) (c : Option ℕ) (inbox : List InboxRecord) → event_of i ≡ None → Agrees x.config.peer_flow c f inbox
     → Leaves x.config.peer_flow c inbox i (request_answered x f id timestamp r)
 answered x f i id timestamp (Ok range) c inbox none a =
-    unchanged x.config.peer_flow c inbox i x acts.Nothing (retransmission x.config.session range.from timestamp range.count ∷ []) f (serves f (Some range)) none a
+    unchanged x.config.peer_flow c inbox i x (λ e. e) acts.Nothing (retransmission x.config.session range.from timestamp range.count ∷ []) f (serves f (Some range)) none a
     (record { recorded = a.recorded; waits = a.waits; quiet = λ r. let q = a.quiet r in record { no_request = q.no_request; no_gap = q.no_gap; no_finish = q.no_finish }; stands = a.stands })
     refl refl refl
 answered x f i id timestamp (Err code) c inbox none a = refused x.config.peer_flow c inbox i _ refl refl refl a
@@ -408,10 +415,10 @@ ended_agrees flow c f inbox a = record {
 
 finishing : (x : Around) (f : Facts) (i : Incoming) (last : ℕ) (c : Option ℕ) (inbox : List InboxRecord) → event_of i ≡ None → Agrees x.config.peer_flow c f inbox → Leaves x.config.peer_flow c inbox i (finished x f last)
 finishing x f i last c inbox none a =
-    by_row (Leaves x.config.peer_flow c inbox i) (is_some (receiver_is.gap f.connection.receiver)) (accepts x [] (peer_finished f (peer.Read last) f.recorded.peer_last)) (answers_finish x f last)
-    (λ g. unchanged x.config.peer_flow c inbox i x acts.Nothing [] f (peer_finished f (peer.Read last) f.recorded.peer_last) none a
-    (record { recorded = a.recorded; waits = a.waits; quiet = λ r. absurd (true≢false (sym g ∙ ap is_some (gap_none f (a.quiet r)))); stands = a.stands }) refl refl refl)
-    (λ _. unchanged x.config.peer_flow c inbox i x (finish_act f.recorded.peer_last last) (finished_receiving x.config.session ∷ []) f
+    by_row (Leaves x.config.peer_flow c inbox i) (is_some (gap_of x f)) (accepts x [] (peer_finished f (peer.Read last) f.recorded.peer_last)) (answers_finish x f last)
+    (λ g. unchanged x.config.peer_flow c inbox i x (λ e. e) acts.Nothing [] f (peer_finished f (peer.Read last) f.recorded.peer_last) none a
+    (record { recorded = a.recorded; waits = a.waits; quiet = λ r. absurd (true≢false (sym g ∙ ap is_some (other_gap x f r))); stands = a.stands }) refl refl refl)
+    (λ _. unchanged x.config.peer_flow c inbox i x (λ e. e) (finish_act f.recorded.peer_last last) (finished_receiving x.config.session ∷ []) f
     (peer_finished f (peer.Exchanged last) (Some (unwrap_or f.recorded.peer_last last))) none a (answered_agrees x.config.peer_flow c f inbox last (Some (unwrap_or f.recorded.peer_last last)) a)
     (finish_applies f.recorded.peer_last last i) (finish_skips f.recorded.peer_last last i) refl)
 
@@ -428,7 +435,7 @@ session_rows x f (negotiate id timestamp flow credentials) c inbox a =
           λ _. (
             λ _. refused x.config.peer_flow c inbox i _ refl refl refl a,
             λ _. (
-              λ _. unchanged x.config.peer_flow c inbox i x acts.Negotiated (negotiation_response x.config.session timestamp (flow_code x.config.own_flow) [] ∷ []) f (as_negotiated f) refl a
+              λ _. unchanged x.config.peer_flow c inbox i x (λ e. e) acts.Negotiated (negotiation_response x.config.session timestamp (flow_code x.config.own_flow) [] ∷ []) f (as_negotiated f) refl a
                   (record { recorded = a.recorded; waits = a.waits; quiet = λ r. let q = a.quiet r in record { no_request = q.no_request; no_gap = q.no_gap; no_finish = q.no_finish }; stands = a.stands }) refl refl refl,
               λ _. tt,
             ),
@@ -440,12 +447,12 @@ session_rows x f (negotiation_response id timestamp flow credentials) c inbox a 
     let i = session (negotiation_response id timestamp flow credentials) in
     own_rows (Leaves x.config.peer_flow c inbox i) x f 2 id _ (λ e. refused x.config.peer_flow c inbox i _ refl refl refl a) (all_within (Leaves x.config.peer_flow c inbox i) (is_negotiating f.connection.phase) _ (λ n. (
       λ _. refused x.config.peer_flow c inbox i _ refl refl refl a,
-      λ _. (λ _. shaking x.config.peer_flow c inbox i x f refl a (not_negotiated f.connection.phase n), λ _. tt),
+      λ _. (λ _. shaking x.config.peer_flow c inbox i x f (λ e. e) refl a (not_negotiated f.connection.phase n), λ _. tt),
     )))
 session_rows x f (negotiation_reject id timestamp code reason) c inbox a =
     let i = session (negotiation_reject id timestamp code reason) in
     own_rows (Leaves x.config.peer_flow c inbox i) x f 3 id _ (λ e. refused x.config.peer_flow c inbox i _ refl refl refl a) (all_within (Leaves x.config.peer_flow c inbox i) (is_negotiating f.connection.phase) _ (λ n. (
-      λ _. shaking x.config.peer_flow c inbox i x f refl a (not_negotiated f.connection.phase n),
+      λ _. shaking x.config.peer_flow c inbox i x f (λ e. e) refl a (not_negotiated f.connection.phase n),
       λ _. (λ _. refused x.config.peer_flow c inbox i _ refl refl refl a, λ _. tt),
     )))
 session_rows x f (establish id timestamp keepalive next expected credentials) c inbox a = establish_all x f id timestamp keepalive next expected credentials c inbox a
@@ -457,7 +464,7 @@ session_rows x f (establishment_ack id timestamp keepalive next expected) c inbo
 session_rows x f (establishment_reject id timestamp code reason) c inbox a =
     let i = session (establishment_reject id timestamp code reason) in
     own_rows (Leaves x.config.peer_flow c inbox i) x f 6 id _ (λ e. refused x.config.peer_flow c inbox i _ refl refl refl a) (all_within (Leaves x.config.peer_flow c inbox i) (is_establishing f.connection.phase) _ (λ n. (
-      λ _. unchanged x.config.peer_flow c inbox i x acts.Nothing (opening_negotiate x ∷ []) f (in_phase f phases.Negotiating) refl a
+      λ _. unchanged x.config.peer_flow c inbox i x (λ e. e) acts.Nothing (opening_negotiate x ∷ []) f (in_phase f phases.Negotiating) refl a
           (still_shaking x.config.peer_flow c f (in_phase f phases.Negotiating) inbox a (not_established f.connection.phase n) refl refl refl refl refl) refl refl refl,
       λ _. (λ _. refused x.config.peer_flow c inbox i _ refl refl refl a, λ _. tt),
     )))
@@ -467,9 +474,9 @@ session_rows x f (sequence next) c inbox a =
     all_within (Leaves x.config.peer_flow c inbox i) (is_established f.connection.phase) _ (λ done. (
       λ _. bad x.config.peer_flow c inbox i x f (request_is.sequence_fault f.connection.requester) a,
       λ _. announced_rows (Leaves x.config.peer_flow c inbox i) x ended 7 (Some next) (sequence_follows x ended next) (refusing x.config.peer_flow c inbox i x ended (ended_agrees x.config.peer_flow c f inbox a))
-          (λ none. sequence_all x.config.peer_flow x ended next c inbox (ended_agrees x.config.peer_flow c f inbox a) (is_done f.connection.phase done) none),
+          (λ none. sequence_all x.config.peer_flow x ended next c inbox (λ e. e) (ended_agrees x.config.peer_flow c f inbox a) (is_done f.connection.phase done) none),
     ))
-session_rows x f unsequenced_heartbeat c inbox a = (λ _. unchanged x.config.peer_flow c inbox (session unsequenced_heartbeat) x acts.Nothing [] f f refl a a refl refl refl, λ _. tt)
+session_rows x f unsequenced_heartbeat c inbox a = (λ _. unchanged x.config.peer_flow c inbox (session unsequenced_heartbeat) x (λ e. e) acts.Nothing [] f f refl a a refl refl refl, λ _. tt)
 session_rows x f (retransmit_request id timestamp first count) c inbox a =
     let i = session (retransmit_request id timestamp first count) in
     all_within (Leaves x.config.peer_flow c inbox i) (is_established f.connection.phase) _ (λ _. (
@@ -481,7 +488,7 @@ session_rows x f (retransmission id next timestamp count) c inbox a =
     own_rows (Leaves x.config.peer_flow c inbox i) x f 10 id _ (λ e. refused x.config.peer_flow c inbox i _ refl refl refl a) (all_within (Leaves x.config.peer_flow c inbox i) (is_established f.connection.phase) _ (λ done. (
       λ _. bad x.config.peer_flow c inbox i x f (request_is.start_fault (request_is.outstanding f.connection.requester) next count) a,
       λ asked. (
-        λ _. going x.config.peer_flow c inbox i x acts.Nothing [] (restarted f next count) (restarted_grows x.config.peer_flow c inbox f next count a (is_done f.connection.phase done) asked) refl,
+        λ _. going x.config.peer_flow c inbox i x (λ e. e) acts.Nothing [] (restarted f next count) (restarted_grows x.config.peer_flow c inbox f next count a (is_done f.connection.phase done) asked) refl,
         λ _. tt,
       ),
     )))
@@ -489,11 +496,11 @@ session_rows x f (retransmit_reject id timestamp code reason) c inbox a =
     let i = session (retransmit_reject id timestamp code reason) in
     own_rows (Leaves x.config.peer_flow c inbox i) x f 11 id _ (λ e. refused x.config.peer_flow c inbox i _ refl refl refl a) (all_within (Leaves x.config.peer_flow c inbox i) (is_established f.connection.phase) _ (λ _.
     (λ _. refused x.config.peer_flow c inbox i _ refl refl refl a, λ _. tt)))
-session_rows x f (applied_message first count) c inbox a = (λ _. unchanged x.config.peer_flow c inbox (session (applied_message first count)) x acts.Nothing [] f f refl a a refl refl refl, λ _. tt)
+session_rows x f (applied_message first count) c inbox a = (λ _. unchanged x.config.peer_flow c inbox (session (applied_message first count)) x (λ e. e) acts.Nothing [] f f refl a a refl refl refl, λ _. tt)
 session_rows x f (not_applied first count) c inbox a =
     let i = session (not_applied first count) in (
-      λ _. unchanged x.config.peer_flow c inbox i x (acts.Told first count) [] f f refl a a refl refl refl,
-      λ _. (λ _. unchanged x.config.peer_flow c inbox i x acts.Nothing [] f f refl a a refl refl refl, λ _. tt),
+      λ _. unchanged x.config.peer_flow c inbox i x (λ e. e) (acts.Told first count) [] f f refl a a refl refl refl,
+      λ _. (λ _. unchanged x.config.peer_flow c inbox i x (λ e. e) acts.Nothing [] f f refl a a refl refl refl, λ _. tt),
     )
 session_rows x f (finished_sending id last) c inbox a =
     let i = session (finished_sending id last) in
@@ -504,7 +511,7 @@ session_rows x f (finished_sending id last) c inbox a =
 session_rows x f (finished_receiving id) c inbox a =
     let i = session (finished_receiving id) in
     own_rows (Leaves x.config.peer_flow c inbox i) x f 15 id _ (λ e. refused x.config.peer_flow c inbox i _ refl refl refl a) (all_within (Leaves x.config.peer_flow c inbox i) (is_established f.connection.phase) _ (λ _. (
-      λ _. unchanged x.config.peer_flow c inbox i x acts.Nothing [] f (own_finishing f own.Exchanged) refl a
+      λ _. unchanged x.config.peer_flow c inbox i x (λ e. e) acts.Nothing [] f (own_finishing f own.Exchanged) refl a
           (record { recorded = a.recorded; waits = a.waits; quiet = λ r. let q = a.quiet r in record { no_request = q.no_request; no_gap = q.no_gap; no_finish = q.no_finish }; stands = a.stands }) refl refl refl,
       λ _. tt,
     )))

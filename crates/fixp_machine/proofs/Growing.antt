@@ -20,10 +20,10 @@ use Rattle.fixp_shake.specs.Flows.{is_recoverable, is_idempotent, is_sequenced, 
 use Rattle.fixp_shake.specs.Phases.{is_shaken}
 use Rattle.fixp_replies.specs.declared.facts.Facts.{Facts}
 use Rattle.fixp_replies.specs.Incoming.{Incoming}
-use Rattle.fixp_replies.specs.Facts.{receiving, firm, awaiting, awaits_gap, having_asked, gap_to_ask}
+use Rattle.fixp_replies.specs.Facts.{Around, receiving, firm, awaiting, awaits_gap, having_asked, gap_of, gap_to_ask}
 use Rattle.fixp_replies.specs.Outcomes.{skip_of}
 use Rattle.fixp_replies.specs.Announcing.{Announced, jumped_over}
-use Rattle.fixp_machine.proofs.Tests.{no_gap}
+use Rattle.fixp_machine.proofs.Tests.{other_gap}
 use Rattle.fixp_machine.specs.Accepting.{model_flow, records_of, next_message, AsksNothing, Agrees, GrowsBy}
 
 -- what the announcement makes of the facts, and the rule that it breaks, where the flow is this one
@@ -68,14 +68,11 @@ some_is : (next : Option ℕ) → is_none next ≡ false → next ≡ Some (unwr
 some_is None e = absurd (true≢false e)
 some_is (Some n) e = refl
 
-pub gap_none : (f : Facts) → AsksNothing f → receiver_is.gap f.connection.receiver ≡ None
-gap_none f q = no_gap f.connection.receiver.next f.connection.receiver.live q.no_gap
-
-none_to_ask : (f : Facts) → AsksNothing f → gap_to_ask f ≡ None
-none_to_ask f q = by_tests f.connection.soft (is_some _)
+none_to_ask : (x : Around) (f : Facts) → gap_of x f ≡ None → gap_to_ask x f ≡ None
+none_to_ask x f none = by_tests f.connection.soft (is_some _)
   where
-    by_tests : (a b : Bool) → (if a || b then None else receiver_is.gap f.connection.receiver) ≡ None
-    by_tests false false = gap_none f q
+    by_tests : (a b : Bool) → (if a || b then None else gap_of x f) ≡ None
+    by_tests false false = none
     by_tests false true = refl
     by_tests true b = refl
 
@@ -87,9 +84,14 @@ asked_agrees flow c f inbox (Some g) h a = record { recorded = a.recorded; waits
     some-not-none : Some g ≡ None → ⊥
     some-not-none e = true≢false (ap is_some e)
 
+-- where the flow is the peer's
+abbrev pub IsOf : Flow → Around → Type 0
+IsOf flow x = is_recoverable flow ≡ false → is_recoverable x.config.peer_flow ≡ false
+
 -- asking for a gap changes nothing that is agreed on
-pub agrees_asked : (flow : Flow) (c : Option ℕ) (f : Facts) (inbox : List InboxRecord) → Agrees flow c f inbox → Agrees flow c (having_asked f (gap_to_ask f)) inbox
-agrees_asked flow c f inbox a = asked_agrees flow c f inbox (gap_to_ask f) (λ e. none_to_ask f (a.quiet e)) a
+pub agrees_asked : (flow : Flow) (x : Around) (c : Option ℕ) (f : Facts) (inbox : List InboxRecord) → IsOf flow x → Agrees flow c f inbox
+    → Agrees flow c (having_asked f (gap_to_ask x f)) inbox
+agrees_asked flow x c f inbox of a = asked_agrees flow c f inbox (gap_to_ask x f) (λ e. none_to_ask x f (other_gap x f (of e))) a
 
 -- records that neither apply nor skip leave the number that the inbox waits for
 pub still : (inbox added : List InboxRecord) → settled added ≡ [] → next_number (inbox ++ added) ≡ next_number inbox

@@ -7,8 +7,8 @@ use Rattle.fixp_msgs.specs.declared.numbering.Range.{Range}
 use Rattle.fixp_msgs.specs.Flow.{flow_code}
 use Rattle.fixp_msgs.specs.declared.messages.Expected.{Expected}
 use Rattle.fixp_msgs.specs.Message.{Message, negotiate, negotiation_response, negotiation_reject, establish, establishment_ack, establishment_reject, sequence, unsequenced_heartbeat, retransmit_request, retransmission, retransmit_reject, applied, not_applied, finished_sending, finished_receiving, terminate}
-use Rattle.flow_recover.specs.declared.receiver.Seen.{Seen}
-use Rattle.flow_recover.specs.declared.receiver.Seen.TheVariants.{Deliver, Gap, Repeat}
+use Rattle.flow_recover.specs.declared.numbers.Seen.{Seen}
+use Rattle.flow_recover.specs.declared.numbers.Seen.TheVariants.{Deliver, Hold, Gap, Repeat}
 use Rattle.flow_recover.specs.Receiving as receiver_is
 use Rattle.flow_recover.proofs.Chains.{next_counted}
 use Rattle.flow_retrans.specs.declared.requester.BadStart.{BadStart}
@@ -33,7 +33,7 @@ use Rattle.fixp_replies.specs.declared.facts.Facts.{Facts}
 use Rattle.fixp_replies.specs.declared.facts.PeerFinish.TheVariants as peer
 use Rattle.fixp_replies.specs.declared.facts.OwnFinish.TheVariants as own
 use Rattle.fixp_replies.specs.Incoming.{Incoming, application, session, wrong_order, too_short, unknown}
-use Rattle.fixp_replies.specs.Facts.{Around, is_initiator, is_own, in_phase, receiving, requesting, firm, serves, negotiated as as_negotiated, awaiting, gap_to_ask, having_asked, announced_number, expected_number, message_number, peer_last, awaits_gap}
+use Rattle.fixp_replies.specs.Facts.{Around, is_initiator, is_own, in_phase, receiving, requesting, firm, serves, negotiated as as_negotiated, awaiting, gap_of, gap_to_ask, holding_too, having_asked, announced_number, expected_number, message_number, peer_last, awaits_gap}
 use Rattle.fixp_replies.specs.Outcomes.{Outcome, Row, row, goes_on, accepts, rejects, ignores, ends_with, ends, breaks, not_in_phase, request_for, skip_of, told_skip, opening_negotiate, opening_establish}
 use Rattle.fixp_replies.specs.Announcing.{Announced, jumped_over, announced, announcement_fault, refuses, announcement_rows}
 use Rattle.fixp_replies.specs.Handshake.{awaits_client, serves_client, rejects_negotiate, rejects_establish, established, acknowledges, establish_rows, established_again_rows, establish_rows_in, shaken, reached}
@@ -41,10 +41,10 @@ use Rattle.fixp_replies.specs.Expecting.{is_newer, is_present, number_in, told_n
 use Rattle.fixp_replies.specs.Flowing.{bad_retransmission, counted, taken_as, finish_act, peer_finished, answers_finish, is_filled, sequence_follows, restarted, finished_last, finish_fault, finished}
 use Rattle.fixp_replies.specs.Serving.{request_answered, own_finishing}
 use Rattle.fixp_replies.specs.Replies.{template_of, rows_of, answer_of, terminates}
-use Rattle.fixp_machine.specs.Sound.{IsOpening, IsSoft, Sound, Advances, is_opening, MayWrite, WithinMost, may_return, KeepsSent, KeepsSound, SoundGoesOn}
+use Rattle.fixp_machine.specs.Sound.{IsOpening, IsSoft, Sound, Advances, is_opening, MayWrite, WithinMost, may_return, KeepsSent, KeepsSound, HeldFits, SoundGoesOn}
 use Rattle.fixp_machine.proofs.Expecting.{Stays, returned_stays, kept, returned_keeps, told_writable, answer_writable}
 use Rattle.fixp_machine.proofs.Rows.{AllRows, by_row, all_rows, all_within, announced_rows, own_rows}
-use Rattle.fixp_machine.proofs.Tests.{not_true, not_false, none-some, delivers, passes, no_gap, is_done, not_negotiated, not_established, not_opened}
+use Rattle.fixp_machine.proofs.Tests.{not_true, not_false, none-some, delivers, passes, no_gap_of, other_gap, is_done, not_negotiated, not_established, not_opened}
 
 abbrev Writes : EndConfig → List Message → Type 0
 Writes cfg ms = AllByRecursion (MayWrite cfg) ms
@@ -100,19 +100,23 @@ writes_establish : (x : Around) (f : Facts) → is_initiator x.config.role ≡ t
     → (is_recoverable x.config.peer_flow ≡ true → f.recorded.inbox_next + 1 < 2 ^ 64) → Writes x.config (opening_establish x f ∷ [])
 writes_establish x f i h sent low = (record { opening = λ _. i; writable = record { numbers = (tt, (tt, (tt, (not_null x f sent, (told_writable x f low, tt))))); datum = h } }, tt)
 
+-- nothing is held before the handshake is done
+abbrev Opens : Around → Facts → Type 0
+Opens x f = is_shaken f.connection.phase ≡ false → x.held ≡ None
+
 -- a gap that is to be asked for is there, and the connection is not soft
-asks_gap : (f : Facts) (g : Range) → gap_to_ask f ≡ Some g → (f.connection.soft ≡ false) × (receiver_is.gap f.connection.receiver ≡ Some g)
-asks_gap f g = by_tests f.connection.soft (is_some (request_is.outstanding f.connection.requester))
+asks_gap : (x : Around) (f : Facts) (g : Range) → gap_to_ask x f ≡ Some g → (f.connection.soft ≡ false) × (gap_of x f ≡ Some g)
+asks_gap x f g = by_tests f.connection.soft (is_some (request_is.outstanding f.connection.requester))
   where
-    by_tests : (a b : Bool) → (if a || b then None else receiver_is.gap f.connection.receiver) ≡ Some g → (a ≡ false) × (receiver_is.gap f.connection.receiver ≡ Some g)
+    by_tests : (a b : Bool) → (if a || b then None else gap_of x f) ≡ Some g → (a ≡ false) × (gap_of x f ≡ Some g)
     by_tests false false e = (refl, e)
     by_tests false true e = absurd cc
     by_tests true b e = absurd cc
 
-asked_sound : (cfg : EndConfig) (f : Facts) (g : Option Range) → gap_to_ask f ≡ g → Sound cfg f → Sound cfg (having_asked f g)
-asked_sound cfg f None e s = s
-asked_sound cfg f (Some g) e s =
-    let a = asks_gap f g e in
+asked_sound : (x : Around) (f : Facts) (g : Option Range) → gap_to_ask x f ≡ g → Opens x f → Sound x.config f → Sound x.config (having_asked f g)
+asked_sound x f None e h s = s
+asked_sound x f (Some g) e h s =
+    let a = asks_gap x f g e in
     record {
       waits = s.waits;
       even = s.even;
@@ -120,7 +124,7 @@ asked_sound cfg f (Some g) e s =
       credentials = s.credentials;
       sent = s.sent;
       next = s.next;
-      opening = λ n. absurd (none-some (receiver_is.gap f.connection.receiver) (ap is_some a.1) (no_gap f.connection.receiver.next f.connection.receiver.live (s.opening n).no_gap));
+      opening = λ n. absurd (none-some (gap_of x f) (ap is_some a.1) (no_gap_of x f (h n) (s.opening n).no_gap));
       soft = λ t. absurd (true≢false (sym t ∙ a.0));
       role = s.role;
     }
@@ -134,20 +138,20 @@ asked_keeps cfg f next None k = k
 asked_keeps cfg f next (Some g) k = record { most = k.most; same = k.same }
 
 -- the connection goes on with facts that are sound
-going_by : (x : Around) (f next : Facts) (act : Act) (written : List Message) → Sound x.config next → KeepsSent x.config f next
+going_by : (x : Around) (f next : Facts) (act : Act) (written : List Message) → Opens x next → Sound x.config next → KeepsSent x.config f next
     → Advances act f.recorded.inbox_next next.recorded.inbox_next → WithinMost x.most act → Writes x.config written → KeepsSound x.config x.most f (goes_on x act written next)
-going_by x f next act written s same a w o = record {
-  next = asked_sound x.config next (gap_to_ask next) refl s;
-  sent = asked_keeps x.config f next (gap_to_ask next) same;
-  advances = subst (λ n. Advances act f.recorded.inbox_next n) (sym (asked_awaits next (gap_to_ask next))) a;
+going_by x f next act written h s same a w o = record {
+  next = asked_sound x next (gap_to_ask x next) refl h s;
+  sent = asked_keeps x.config f next (gap_to_ask x next) same;
+  advances = subst (λ n. Advances act f.recorded.inbox_next n) (sym (asked_awaits next (gap_to_ask x next))) a;
   within = w;
-  writes = writes_behind x.config written (request_for x (gap_to_ask next)) o (asks_not x (gap_to_ask next));
+  writes = writes_behind x.config written (request_for x (gap_to_ask x next)) o (asks_not x (gap_to_ask x next));
 }
 
 -- as many entries count as sent
-going : (x : Around) (f next : Facts) (act : Act) (written : List Message) → Sound x.config next → next.recorded.sent ≡ f.recorded.sent
+going : (x : Around) (f next : Facts) (act : Act) (written : List Message) → Opens x next → Sound x.config next → next.recorded.sent ≡ f.recorded.sent
     → Advances act f.recorded.inbox_next next.recorded.inbox_next → WithinMost x.most act → Writes x.config written → KeepsSound x.config x.most f (goes_on x act written next)
-going x f next act written s same a w o = going_by x f next act written s (kept x.config f next same) a w o
+going x f next act written h s same a w o = going_by x f next act written h s (kept x.config f next same) a w o
 
 -- nothing changes
 staying : (x : Around) (f : Facts) (m : Message) → Sound x.config f → is_opening m ≡ false → IsWritable m → KeepsSound x.config x.most f (rejects (m ∷ []) f)
@@ -390,7 +394,7 @@ taking : (x : Around) (f : Facts) → x.most < 2 ^ 40 → is_recoverable x.confi
 taking x f small rec shaken s top (Deliver n) is =
     let r = f.connection.receiver in
     let d = delivers r.next (receiver_is.number r) n is in
-    going x f (awaiting (counted f) (n + 1)) (acts.Apply n) []
+    going x f (awaiting (counted f) (n + 1)) (acts.Apply n) [] (λ n. absurd (true≢false (sym shaken ∙ n)))
     (record {
       waits = λ t. next_counted r.next r.live r.again ∙ (ap (λ b. if b then r.next + 1 else r.next) (eq-eqb (receiver_is.number r) r.next d.1) ∙ omega (arith, d.0, d.1));
       even = λ t. absurd (true≢false (sym rec ∙ t));
@@ -403,15 +407,22 @@ taking x f small rec shaken s top (Deliver n) is =
       role = s.role;
     })
     refl (d.0 ∙ (d.1 ∙ s.waits rec), refl) (omega (arith, d.0, top)) tt
+taking x f small rec shaken s top (Hold n) is =
+    let r = f.connection.receiver in
+    let k = going (holding_too x n) f (counted f) acts.Nothing [] (λ b. absurd (true≢false (sym shaken ∙ b)))
+    (left_out x.config f rec shaken s ((passes r.next (receiver_is.number r) n).hold is)) refl refl tt tt in
+    record { next = k.next; sent = k.sent; advances = k.advances; within = k.within; writes = k.writes }
 taking x f small rec shaken s top (Gap n) is =
     let r = f.connection.receiver in
-    going x f (counted f) acts.Nothing [] (left_out x.config f rec shaken s ((passes r.next (receiver_is.number r) n).0 is)) refl refl tt tt
+    going x f (counted f) acts.Nothing [] (λ b. absurd (true≢false (sym shaken ∙ b)))
+    (left_out x.config f rec shaken s ((passes r.next (receiver_is.number r) n).gap is)) refl refl tt tt
 taking x f small rec shaken s top (Repeat n) is =
     let r = f.connection.receiver in
-    going x f (counted f) acts.Nothing [] (left_out x.config f rec shaken s ((passes r.next (receiver_is.number r) n).1 is)) refl refl tt tt
+    going x f (counted f) acts.Nothing [] (λ b. absurd (true≢false (sym shaken ∙ b)))
+    (left_out x.config f rec shaken s ((passes r.next (receiver_is.number r) n).repeat is)) refl refl tt tt
 
 -- the number of a message that is not too large
-number_of : (x : Around) (f : Facts) → is_recoverable x.config.peer_flow ≡ true → nat_lt x.most (message_number x f) ≡ false → receiver_is.number f.connection.receiver ≤ x.most
+pub number_of : (x : Around) (f : Facts) → is_recoverable x.config.peer_flow ≡ true → nat_lt x.most (message_number x f) ≡ false → receiver_is.number f.connection.receiver ≤ x.most
 number_of x f rec e =
     subst (λ (b : Bool). (if b then receiver_is.number f.connection.receiver else f.recorded.inbox_next) ≤ x.most) rec (ltb-false x.most (message_number x f) e)
 
@@ -419,15 +430,15 @@ next_of : (x : Around) (f : Facts) → is_recoverable x.config.peer_flow ≡ fal
 next_of x f rec e =
     subst (λ (b : Bool). (if b then receiver_is.number f.connection.receiver else f.recorded.inbox_next) ≤ x.most) rec (ltb-false x.most (message_number x f) e)
 
-message_rows : (x : Around) (f : Facts) (p : List ℕ) → x.most < 2 ^ 40 → Sound x.config f → AllRows (KeepsSound x.config x.most f) (rows_of x f (application p))
-message_rows x f p low s = all_within (KeepsSound x.config x.most f) (is_established f.connection.phase) _ (λ est. (
+message_rows : (x : Around) (f : Facts) (p : List ℕ) → x.most < 2 ^ 40 → Sound x.config f → Opens x f → AllRows (KeepsSound x.config x.most f) (rows_of x f (application p))
+message_rows x f p low s h = all_within (KeepsSound x.config x.most f) (is_established f.connection.phase) _ (λ est. (
   λ _. ending x f 2 _ s,
   λ _. (
     λ _. ending x f 2 _ s,
     λ _. (
       λ _. ending x f 2 _ s,
       λ small. (
-        λ e. going x f (awaiting f (f.recorded.inbox_next + 1)) (acts.Apply f.recorded.inbox_next) []
+        λ e. going x f (awaiting f (f.recorded.inbox_next + 1)) (acts.Apply f.recorded.inbox_next) [] h
             (record { waits = λ t. absurd (true≢false (sym e ∙ ap not t)); even = s.even; unread = s.unread; credentials = s.credentials; sent = s.sent; next = λ t. absurd (true≢false (sym e ∙ ap not t)); opening = s.opening; soft = s.soft; role = s.role })
             refl (refl, refl) (next_of x f (not_false (is_recoverable x.config.peer_flow) e) small) tt,
         λ e. (
@@ -455,9 +466,9 @@ finish_within : (recorded : Option ℕ) (last most : ℕ) → WithinMost most (f
 finish_within None last most = tt
 finish_within (Some _) last most = tt
 
-answering : (x : Around) (f next : Facts) (last : ℕ) → Sound x.config next → next.recorded.sent ≡ f.recorded.sent → next.recorded.inbox_next ≡ f.recorded.inbox_next → KeepsSound x.config x.most f (answers_finish x next last)
-answering x f next last s kept same =
-    going x f (peer_finished next (peer.Exchanged last) (Some (unwrap_or next.recorded.peer_last last))) (finish_act next.recorded.peer_last last) (finished_receiving x.config.session ∷ [])
+answering : (x : Around) (f next : Facts) (last : ℕ) → Opens x next → Sound x.config next → next.recorded.sent ≡ f.recorded.sent → next.recorded.inbox_next ≡ f.recorded.inbox_next → KeepsSound x.config x.most f (answers_finish x next last)
+answering x f next last h s kept same =
+    going x f (peer_finished next (peer.Exchanged last) (Some (unwrap_or next.recorded.peer_last last))) (finish_act next.recorded.peer_last last) (finished_receiving x.config.session ∷ []) h
     (finish_answered x.config next last (Some (unwrap_or next.recorded.peer_last last)) s)
     kept
     (subst (λ n. Advances (finish_act next.recorded.peer_last last) n next.recorded.inbox_next) same (finish_still next.recorded.peer_last last next.recorded.inbox_next))
@@ -471,9 +482,9 @@ following x f ended next a e shaken count same still fits =
     all_rows (KeepsSound x.config x.most f) (ignores ended) rows (record { next = e; sent = kept x.config f ended count; advances = same; within = tt; writes = tt }) (
       λ _. record { next = e; sent = kept x.config f ended count; advances = same; within = tt; writes = writes_terminate x.config 2 },
       λ _. (
-        λ filled. by_flow (is_recoverable x.config.peer_flow) refl (and_left (is_some (awaits_gap a.facts.connection.peer_finish)) (is_none (receiver_is.gap a.facts.connection.receiver)) filled),
+        λ filled. by_flow (is_recoverable x.config.peer_flow) refl (and_left (is_some (awaits_gap a.facts.connection.peer_finish)) (is_none (gap_of x a.facts)) filled),
         λ _. (
-          λ _. going x f a.facts (skip_of a.skipped) (told_skip a.skipped) (firmly x.config a.facts shaken fits.steady) fits.sent fits.advances fits.within (tells_not x.config a.skipped),
+          λ _. going x f a.facts (skip_of a.skipped) (told_skip a.skipped) opened (firmly x.config a.facts shaken fits.steady) fits.sent fits.advances fits.within (tells_not x.config a.skipped),
           λ _. tt,
         ),
       ),
@@ -482,9 +493,12 @@ following x f ended next a e shaken count same still fits =
     rows : List Row
     rows =
         row (is_sequenced x.config.peer_flow && is_some (peer_last ended) && not (next == unwrap_or (peer_last ended) 0 + 1)) (breaks x ended (AfterFinish (unwrap_or (peer_last ended) 0) next))
-        ∷ row (is_filled a.facts) (answers_finish x a.facts (unwrap_or (awaits_gap a.facts.connection.peer_finish) 0))
+        ∷ row (is_filled x a.facts) (answers_finish x a.facts (unwrap_or (awaits_gap a.facts.connection.peer_finish) 0))
         ∷ row true (goes_on x (skip_of a.skipped) (told_skip a.skipped) a.facts)
         ∷ []
+
+    opened : Opens x a.facts
+    opened n = absurd (true≢false (sym shaken ∙ n))
 
     and_left : (p q : Bool) → (p && q) ≡ true → p ≡ true
     and_left true q t = refl
@@ -492,20 +506,20 @@ following x f ended next a e shaken count same still fits =
 
     by_flow : (b : Bool) → is_recoverable x.config.peer_flow ≡ b → is_some (awaits_gap a.facts.connection.peer_finish) ≡ true
         → KeepsSound x.config x.most f (answers_finish x a.facts (unwrap_or (awaits_gap a.facts.connection.peer_finish) 0))
-    by_flow true r t = answering x f a.facts (unwrap_or (awaits_gap a.facts.connection.peer_finish) 0) (firmly x.config a.facts shaken fits.steady) fits.sent (still r)
+    by_flow true r t = answering x f a.facts (unwrap_or (awaits_gap a.facts.connection.peer_finish) 0) opened (firmly x.config a.facts shaken fits.steady) fits.sent (still r)
     by_flow false r t = absurd (none-some (awaits_gap a.facts.connection.peer_finish) t (fits.steady.unread r))
 
 answered : (x : Around) (f : Facts) (id : List ℕ) (timestamp : ℕ) (r : Result Range RetransmitCode) → is_shaken f.connection.phase ≡ true → Sound x.config f → KeepsSound x.config x.most f (request_answered x f id timestamp r)
 answered x f id timestamp (Ok range) shaken s =
-    going x f (serves f (Some range)) acts.Nothing (retransmission x.config.session range.from timestamp range.count ∷ [])
+    going x f (serves f (Some range)) acts.Nothing (retransmission x.config.session range.from timestamp range.count ∷ []) (λ n. absurd (true≢false (sym shaken ∙ n)))
     (record { waits = s.waits; even = s.even; unread = s.unread; credentials = s.credentials; sent = s.sent; next = s.next; opening = λ n. absurd (true≢false (sym shaken ∙ n)); soft = s.soft; role = s.role }) refl refl tt
     (plain x.config (retransmission x.config.session range.from timestamp range.count) refl (record { numbers = (tt, (tt, (tt, (tt, tt)))); datum = tt }))
 answered x f id timestamp (Err code) shaken s = staying x f (retransmit_reject id timestamp (code_of code) []) s refl (record { numbers = (tt, (tt, (tt, tt))); datum = omega arith })
 
 -- an initiator goes on with the handshake
-shaking : (x : Around) (f : Facts) → is_initiator x.config.role ≡ true → is_shaken f.connection.phase ≡ false → Sound x.config f → KeepsSound x.config x.most f (shaken x f)
-shaking x f i before s =
-    going x f (in_phase (as_negotiated f) phases.Establishing) (if f.recorded.negotiated then acts.Nothing else acts.Negotiated) (opening_establish x f ∷ [])
+shaking : (x : Around) (f : Facts) → is_initiator x.config.role ≡ true → is_shaken f.connection.phase ≡ false → Opens x f → Sound x.config f → KeepsSound x.config x.most f (shaken x f)
+shaking x f i before h s =
+    going x f (in_phase (as_negotiated f) phases.Establishing) (if f.recorded.negotiated then acts.Nothing else acts.Negotiated) (opening_establish x f ∷ []) (λ _. h before)
     (record { waits = s.waits; even = s.even; unread = s.unread; credentials = s.credentials; sent = s.sent; next = s.next; opening = λ _. s.opening before; soft = s.soft; role = λ t. absurd (true≢false (sym i ∙ t)) })
     refl (still f.recorded.negotiated) (within f.recorded.negotiated) (writes_establish x f i s.credentials s.sent s.next)
   where
@@ -547,7 +561,7 @@ establish_all x f id timestamp keepalive next expected credentials s = by_place 
         let low : is_recoverable x.config.peer_flow ≡ true → g.recorded.inbox_next + 1 < 2 ^ 64 = λ t. omega (arith, steady.next t, r.inbox_next) in
         going_by x f (established (softened x expected g) keepalive) (skip_of a.skipped)
         (establishment_ack x.config.session timestamp x.config.keepalive (announced_number x g) (answers_next x expected g) ∷ told_skip a.skipped)
-        (done_softly x a.facts g expected keepalive steady r (requester ∙ (s.opening before).no_request) w.0)
+        (λ n. absurd (true≢false n)) (done_softly x a.facts g expected keepalive steady r (requester ∙ (s.opening before).no_request) w.0)
         (returned_keeps x f a.facts (established (softened x expected g) keepalive) expected before refl fits.sent refl)
         (subst (λ (n : ℕ). Advances (skip_of a.skipped) f.recorded.inbox_next n) (sym r.inbox_next) fits.advances) fits.within
         (writes_behind x.config (establishment_ack x.config.session timestamp x.config.keepalive (announced_number x g) (answers_next x expected g) ∷ []) (told_skip a.skipped)
@@ -582,12 +596,12 @@ reaching x f keepalive e a before fits =
     let r = returned_stays x a.facts e in
     let interval : ℕ = min 60000 (max 100 keepalive) in
     going_by x f (established g interval) (skip_of a.skipped) (told_skip a.skipped ++ told_return x a.facts e)
-    (done x.config a.facts g interval fits.steady r) (returned_keeps x f a.facts (established g interval) e before refl fits.sent refl)
+    (λ n. absurd (true≢false n)) (done x.config a.facts g interval fits.steady r) (returned_keeps x f a.facts (established g interval) e before refl fits.sent refl)
     (subst (λ (n : ℕ). Advances (skip_of a.skipped) f.recorded.inbox_next n) (sym r.inbox_next) fits.advances) fits.within
     (writes_behind x.config (told_skip a.skipped) (told_return x a.facts e) (tells_not x.config a.skipped) (writes_return x a.facts e))
 
-session_rows : (x : Around) (f : Facts) (m : Message) → Sound x.config f → AllRows (KeepsSound x.config x.most f) (rows_of x f (session m))
-session_rows x f (negotiate id timestamp flow credentials) s = all_within (KeepsSound x.config x.most f) (awaits_client x f) _ (λ _. (
+session_rows : (x : Around) (f : Facts) (m : Message) → Sound x.config f → Opens x f → AllRows (KeepsSound x.config x.most f) (rows_of x f (session m))
+session_rows x f (negotiate id timestamp flow credentials) s h = all_within (KeepsSound x.config x.most f) (awaits_client x f) _ (λ _. (
   λ _. rejecting_negotiate x f id timestamp 1 s,
   λ _. (
     λ _. rejecting_negotiate x f id timestamp 2 s,
@@ -596,7 +610,7 @@ session_rows x f (negotiate id timestamp flow credentials) s = all_within (Keeps
       λ _. (
         λ _. rejecting_negotiate x f id timestamp 4 s,
         λ _. (
-          λ _. going x f (as_negotiated f) acts.Negotiated (negotiation_response x.config.session timestamp (flow_code x.config.own_flow) [] ∷ [])
+          λ _. going x f (as_negotiated f) acts.Negotiated (negotiation_response x.config.session timestamp (flow_code x.config.own_flow) [] ∷ []) h
               (record { waits = s.waits; even = s.even; unread = s.unread; credentials = s.credentials; sent = s.sent; next = s.next; opening = s.opening; soft = s.soft; role = s.role }) refl refl tt
               (plain x.config (negotiation_response x.config.session timestamp (flow_code x.config.own_flow) []) refl (record { numbers = (tt, (tt, (tt, tt))); datum = omega arith })),
           λ _. tt,
@@ -605,30 +619,30 @@ session_rows x f (negotiate id timestamp flow credentials) s = all_within (Keeps
     ),
   ),
 ))
-session_rows x f (negotiation_response id timestamp flow credentials) s =
+session_rows x f (negotiation_response id timestamp flow credentials) s h =
     own_rows (KeepsSound x.config x.most f) x f 2 id _ (λ e. ending x f 2 e s) (all_within (KeepsSound x.config x.most f) (is_negotiating f.connection.phase) _ (λ n. (
       λ _. ending x f 2 _ s,
-      λ _. (λ _. shaking x f (awaits_as_initiator x.config f s (or_left (is_negotiating f.connection.phase) (is_establishing f.connection.phase) n)) (not_negotiated f.connection.phase n) s, λ _. tt),
+      λ _. (λ _. shaking x f (awaits_as_initiator x.config f s (or_left (is_negotiating f.connection.phase) (is_establishing f.connection.phase) n)) (not_negotiated f.connection.phase n) h s, λ _. tt),
     )))
-session_rows x f (negotiation_reject id timestamp code reason) s =
+session_rows x f (negotiation_reject id timestamp code reason) s h =
     own_rows (KeepsSound x.config x.most f) x f 3 id _ (λ e. ending x f 2 e s) (all_within (KeepsSound x.config x.most f) (is_negotiating f.connection.phase) _ (λ n. (
-      λ _. shaking x f (awaits_as_initiator x.config f s (or_left (is_negotiating f.connection.phase) (is_establishing f.connection.phase) n)) (not_negotiated f.connection.phase n) s,
+      λ _. shaking x f (awaits_as_initiator x.config f s (or_left (is_negotiating f.connection.phase) (is_establishing f.connection.phase) n)) (not_negotiated f.connection.phase n) h s,
       λ _. (λ _. rejecting x f (endings.Rejected 3 code) s, λ _. tt),
     )))
-session_rows x f (establish id timestamp keepalive next expected credentials) s = establish_all x f id timestamp keepalive next expected credentials s
-session_rows x f (establishment_ack id timestamp keepalive next expected) s =
+session_rows x f (establish id timestamp keepalive next expected credentials) s h = establish_all x f id timestamp keepalive next expected credentials s
+session_rows x f (establishment_ack id timestamp keepalive next expected) s h =
     own_rows (KeepsSound x.config x.most f) x f 5 id _ (λ e. ending x f 2 e s) (all_within (KeepsSound x.config x.most f) (is_establishing f.connection.phase) _ (λ n.
     announced_rows (KeepsSound x.config x.most f) x f 5 next (reached x keepalive expected) (refusing x f s)
     (λ e. reaching x f keepalive expected (announced x f next) (not_established f.connection.phase n) (announced_fits x f 5 next s e))))
-session_rows x f (establishment_reject id timestamp code reason) s =
+session_rows x f (establishment_reject id timestamp code reason) s h =
     own_rows (KeepsSound x.config x.most f) x f 6 id _ (λ e. ending x f 2 e s) (all_within (KeepsSound x.config x.most f) (is_establishing f.connection.phase) _ (λ n. (
       λ _.
           let i = awaits_as_initiator x.config f s (or_right (is_negotiating f.connection.phase) (is_establishing f.connection.phase) n) in
-          going x f (in_phase f phases.Negotiating) acts.Nothing (opening_negotiate x ∷ [])
+          going x f (in_phase f phases.Negotiating) acts.Nothing (opening_negotiate x ∷ []) (λ _. h (not_established f.connection.phase n))
           (record { waits = s.waits; even = s.even; unread = s.unread; credentials = s.credentials; sent = s.sent; next = s.next; opening = λ _. s.opening (not_established f.connection.phase n); soft = s.soft; role = λ t. absurd (true≢false (sym i ∙ t)) }) refl refl tt (writes_negotiate x i s.credentials),
       λ _. (λ _. rejecting x f (endings.Rejected 6 code) s, λ _. tt),
     )))
-session_rows x f (sequence next) s = all_within (KeepsSound x.config x.most f) (is_established f.connection.phase) _ (λ est. (
+session_rows x f (sequence next) s h = all_within (KeepsSound x.config x.most f) (is_established f.connection.phase) _ (λ est. (
   λ _. bad x f (request_is.sequence_fault f.connection.requester) s,
   λ _. after (requesting f (request_is.after_sequence f.connection.requester))
       (requests_on x.config f (request_is.after_sequence f.connection.requester) (is_done f.connection.phase est) (λ none. ap request_is.after_sequence none) s)
@@ -652,16 +666,16 @@ session_rows x f (sequence next) s = all_within (KeepsSound x.config x.most f) (
           advances = subst (λ k. Advances (skip_of (announced x ended (Some next)).skipped) k (announced x ended (Some next)).facts.recorded.inbox_next) same fits.advances;
           within = fits.within;
         }))
-session_rows x f unsequenced_heartbeat s = (λ _. going x f f acts.Nothing [] s refl refl tt tt, λ _. tt)
-session_rows x f (retransmit_request id timestamp first count) s = all_within (KeepsSound x.config x.most f) (is_established f.connection.phase) _ (λ est. (
+session_rows x f unsequenced_heartbeat s h = (λ _. going x f f acts.Nothing [] h s refl refl tt tt, λ _. tt)
+session_rows x f (retransmit_request id timestamp first count) s h = all_within (KeepsSound x.config x.most f) (is_established f.connection.phase) _ (λ est. (
   λ _. ending x f 4 _ s,
   λ _. (λ _. answered x f id timestamp (judged (is_own x id) (is_recoverable x.config.own_flow) first count f.recorded.sent) (is_done f.connection.phase est) s, λ _. tt),
 ))
-session_rows x f (retransmission id next timestamp count) s =
+session_rows x f (retransmission id next timestamp count) s h =
     own_rows (KeepsSound x.config x.most f) x f 10 id _ (λ e. ending x f 2 e s) (all_within (KeepsSound x.config x.most f) (is_established f.connection.phase) _ (λ est. (
       λ _. bad x f (request_is.start_fault (request_is.outstanding f.connection.requester) next count) s,
       λ _. (
-        λ _. going x f (restarted f next count) acts.Nothing [] (record {
+        λ _. going x f (restarted f next count) acts.Nothing [] h (record {
           waits = s.waits;
           even = s.even;
           unread = s.unread;
@@ -675,40 +689,40 @@ session_rows x f (retransmission id next timestamp count) s =
         λ _. tt,
       ),
     )))
-session_rows x f (retransmit_reject id timestamp code reason) s =
+session_rows x f (retransmit_reject id timestamp code reason) s h =
     own_rows (KeepsSound x.config x.most f) x f 11 id _ (λ e. ending x f 2 e s) (all_within (KeepsSound x.config x.most f) (is_established f.connection.phase) _ (λ _. (λ _. ending x f 2 _ s, λ _. tt)))
-session_rows x f (applied first count) s = (λ _. going x f f acts.Nothing [] s refl refl tt tt, λ _. tt)
-session_rows x f (not_applied first count) s = (λ _. going x f f (acts.Told first count) [] s refl refl tt tt, λ _. (λ _. going x f f acts.Nothing [] s refl refl tt tt, λ _. tt))
-session_rows x f (finished_sending id last) s =
+session_rows x f (applied first count) s h = (λ _. going x f f acts.Nothing [] h s refl refl tt tt, λ _. tt)
+session_rows x f (not_applied first count) s h = (λ _. going x f f (acts.Told first count) [] h s refl refl tt tt, λ _. (λ _. going x f f acts.Nothing [] h s refl refl tt tt, λ _. tt))
+session_rows x f (finished_sending id last) s h =
     own_rows (KeepsSound x.config x.most f) x f 14 id _ (λ e. ending x f 2 e s) (all_within (KeepsSound x.config x.most f) (is_established f.connection.phase) _ (λ _. (
       λ _. refusing x f s (finish_fault x f last),
       λ _. (λ _. finishing (finished_last x last), λ _. tt),
     )))
   where
     finishing : (n : ℕ) → KeepsSound x.config x.most f (finished x f n)
-    finishing n = by_row (KeepsSound x.config x.most f) (is_some (receiver_is.gap f.connection.receiver)) (accepts x [] (peer_finished f (peer.Read n) f.recorded.peer_last)) (answers_finish x f n)
-        (λ g. going x f (peer_finished f (peer.Read n) f.recorded.peer_last) acts.Nothing []
-        (record { waits = s.waits; even = s.even; unread = λ t. absurd (none-some (receiver_is.gap f.connection.receiver) g (no_gap f.connection.receiver.next f.connection.receiver.live (s.even t))); credentials = s.credentials; sent = s.sent; next = s.next; opening = s.opening; soft = s.soft; role = s.role }) refl refl tt tt)
-        (λ _. answering x f f n s refl refl)
-session_rows x f (finished_receiving id) s =
+    finishing n = by_row (KeepsSound x.config x.most f) (is_some (gap_of x f)) (accepts x [] (peer_finished f (peer.Read n) f.recorded.peer_last)) (answers_finish x f n)
+        (λ g. going x f (peer_finished f (peer.Read n) f.recorded.peer_last) acts.Nothing [] h
+        (record { waits = s.waits; even = s.even; unread = λ t. absurd (none-some (gap_of x f) g (other_gap x f t)); credentials = s.credentials; sent = s.sent; next = s.next; opening = s.opening; soft = s.soft; role = s.role }) refl refl tt tt)
+        (λ _. answering x f f n h s refl refl)
+session_rows x f (finished_receiving id) s h =
     own_rows (KeepsSound x.config x.most f) x f 15 id _ (λ e. ending x f 2 e s) (all_within (KeepsSound x.config x.most f) (is_established f.connection.phase) _ (λ _. (
-      λ _. going x f (own_finishing f own.Exchanged) acts.Nothing [] (record { waits = s.waits; even = s.even; unread = s.unread; credentials = s.credentials; sent = s.sent; next = s.next; opening = s.opening; soft = s.soft; role = s.role }) refl refl tt tt,
+      λ _. going x f (own_finishing f own.Exchanged) acts.Nothing [] h (record { waits = s.waits; even = s.even; unread = s.unread; credentials = s.credentials; sent = s.sent; next = s.next; opening = s.opening; soft = s.soft; role = s.role }) refl refl tt tt,
       λ _. tt,
     )))
-session_rows x f (terminate id code reason) s =
+session_rows x f (terminate id code reason) s h =
     let answer : Row = row true (ends x f 1 (endings.PeerTerminated code)) in
     let rest : AllRows (KeepsSound x.config x.most f) (answer ∷ []) = (λ _. ending x f 1 _ s, λ _. tt) in
     own_rows (KeepsSound x.config x.most f) x f 16 id (answer ∷ []) (λ e. ending x f 2 e s) rest
 
-each_row : (x : Around) (f : Facts) (i : Incoming) → x.most < 2 ^ 40 → Sound x.config f → AllRows (KeepsSound x.config x.most f) (rows_of x f i)
-each_row x f (application p) low s = message_rows x f p low s
-each_row x f (session m) low s = session_rows x f m s
-each_row x f wrong_order low s = (λ _. ending x f 2 _ s, λ _. tt)
-each_row x f too_short low s = (λ _. ending x f 2 _ s, λ _. tt)
-each_row x f (unknown template) low s = (λ _. ending x f 2 _ s, λ _. tt)
+each_row : (x : Around) (f : Facts) (i : Incoming) → x.most < 2 ^ 40 → Sound x.config f → Opens x f → AllRows (KeepsSound x.config x.most f) (rows_of x f i)
+each_row x f (application p) low s h = message_rows x f p low s h
+each_row x f (session m) low s h = session_rows x f m s h
+each_row x f wrong_order low s h = (λ _. ending x f 2 _ s, λ _. tt)
+each_row x f too_short low s h = (λ _. ending x f 2 _ s, λ _. tt)
+each_row x f (unknown template) low s h = (λ _. ending x f 2 _ s, λ _. tt)
 
 pub sound_goes_on : SoundGoesOn
-sound_goes_on x f i low s =
+sound_goes_on x f i low s h =
     by_row (KeepsSound x.config x.most f) (is_closing f.connection.phase && not (terminates x i)) (ignores f) (answer_of x f i)
     (λ _. ignoring x f s)
-    (λ _. all_rows (KeepsSound x.config x.most f) (not_in_phase x f (template_of i)) (rows_of x f i) (ending x f 2 _ s) (each_row x f i low s))
+    (λ _. all_rows (KeepsSound x.config x.most f) (not_in_phase x f (template_of i)) (rows_of x f i) (ending x f 2 _ s) (each_row x f i low s h.opening))

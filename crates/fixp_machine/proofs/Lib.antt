@@ -2,7 +2,12 @@ pub mod Tests
 pub mod Rows
 pub mod Expecting
 pub mod Keeping
+pub mod Holding
+pub mod Windowing
 pub mod Calls
+pub mod Lining
+pub mod LineCalls
 pub mod Moving
 pub mod Growing
 pub mod Accepted
+pub mod HeldGrowth

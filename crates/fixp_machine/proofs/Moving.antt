@@ -9,8 +9,8 @@ use Rattle.fixp_msgs.specs.declared.numbering.Range.{Range}
 use Rattle.fixp_msgs.specs.Flow.{flow_code}
 use Rattle.fixp_msgs.specs.declared.messages.Expected.{Expected}
 use Rattle.fixp_msgs.specs.Message.{Message, negotiate, negotiation_response, negotiation_reject, establish, establishment_ack, establishment_reject, sequence, unsequenced_heartbeat, retransmit_request, retransmission, retransmit_reject, applied, not_applied, finished_sending, finished_receiving, terminate}
-use Rattle.flow_recover.specs.declared.receiver.Seen.{Seen}
-use Rattle.flow_recover.specs.declared.receiver.Seen.TheVariants.{Deliver, Gap, Repeat}
+use Rattle.flow_recover.specs.declared.numbers.Seen.{Seen}
+use Rattle.flow_recover.specs.declared.numbers.Seen.TheVariants.{Deliver, Hold, Gap, Repeat}
 use Rattle.flow_recover.specs.Receiving as receiver_is
 use Rattle.flow_retrans.specs.declared.requester.BadStart.{BadStart}
 use Rattle.flow_retrans.specs.declared.judging.RetransmitCode.{RetransmitCode}
@@ -30,7 +30,7 @@ use Rattle.fixp_replies.specs.declared.facts.Facts.{Facts}
 use Rattle.fixp_replies.specs.declared.facts.PeerFinish.TheVariants as peer
 use Rattle.fixp_replies.specs.declared.facts.OwnFinish.TheVariants as own
 use Rattle.fixp_replies.specs.Incoming.{Incoming, application, session, wrong_order, too_short, unknown}
-use Rattle.fixp_replies.specs.Facts.{Around, is_initiator, is_own, in_phase, receiving, requesting, firm, serves, negotiated as as_negotiated, awaiting, gap_to_ask, having_asked, announced_number, peer_last, awaits_gap}
+use Rattle.fixp_replies.specs.Facts.{Around, is_initiator, is_own, in_phase, receiving, requesting, firm, serves, negotiated as as_negotiated, awaiting, gap_of, gap_to_ask, holding_too, having_asked, announced_number, peer_last, awaits_gap}
 use Rattle.fixp_replies.specs.Outcomes.{Outcome, Row, row, goes_on, accepts, rejects, ignores, ends_with, ends, not_in_phase, skip_of, told_skip, opening_negotiate, opening_establish, breaks}
 use Rattle.fixp_replies.specs.Announcing.{Announced, jumped_over, announced, announcement_fault, refuses, announcement_rows}
 use Rattle.fixp_replies.specs.Handshake.{awaits_client, serves_client, established, acknowledges, establish_rows, established_again_rows, establish_rows_in, shaken, reached}
@@ -38,9 +38,10 @@ use Rattle.fixp_replies.specs.Expecting.{answers_next, returned, told_return, so
 use Rattle.fixp_replies.specs.Flowing.{bad_retransmission, counted, taken_as, finish_act, peer_finished, answers_finish, is_filled, sequence_follows, restarted, finished_last, finish_fault, finished}
 use Rattle.fixp_replies.specs.Serving.{request_answered, own_finishing}
 use Rattle.fixp_replies.specs.Replies.{template_of, rows_of, answer_of, terminates, reply_of}
-use Rattle.fixp_machine.specs.Sound.{Sound, Advances, WithinMost}
+use Rattle.fixp_machine.specs.Sound.{Sound, HeldFits, Advances, WithinMost}
 use Rattle.fixp_machine.specs.Fitting.{IsMessage, CanTake, recorded_after, WasSent, Records, Fits, ActsFit}
 use Rattle.fixp_machine.proofs.Expecting.{returned_stays}
+use Rattle.fixp_machine.proofs.Holding.{held_messages}
 use Rattle.fixp_machine.proofs.Rows.{AllRows, by_row, all_rows, all_within, announced_rows, own_rows}
 use Rattle.fixp_machine.proofs.Keeping.{in_bounds, or_right, expected_as, sound_goes_on}
 use Rattle.fixp_machine.proofs.Tests.{none-some, not_opened, not_established}
@@ -99,8 +100,8 @@ going_by : (x : Around) (f next : Facts) (i : Incoming) (act : Act) (written : L
     → Records act f.recorded next.recorded → Served f next → Moves x f i (goes_on x act written next)
 going_by x f next i act written a r s = record {
   allows = a;
-  recorded = subst (Records act f.recorded) (sym (asked_recorded next (gap_to_ask next))) r;
-  served = asked_served f next (gap_to_ask next) s;
+  recorded = subst (Records act f.recorded) (sym (asked_recorded next (gap_to_ask x next))) r;
+  served = asked_served f next (gap_to_ask x next) s;
 }
 
 -- as many entries count as sent, and the range that was served is served still
@@ -227,7 +228,7 @@ following x f ended i next a s r serving finish is =
     all_rows (Moves x f i) (ignores ended) rows (refusing_of x f ended i r serving None) (
       λ _. ending_of x f ended i _ _ r serving,
       λ _. (
-        λ filled. by_flow (is_recoverable x.config.peer_flow) refl (and_left (is_some (awaits_gap a.facts.connection.peer_finish)) (is_none (receiver_is.gap a.facts.connection.receiver)) filled),
+        λ filled. by_flow (is_recoverable x.config.peer_flow) refl (and_left (is_some (awaits_gap a.facts.connection.peer_finish)) (is_none (gap_of x a.facts)) filled),
         λ _. (
           λ _. going x f a.facts i (skip_of a.skipped) (told_skip a.skipped) (subst (λ (e : EndState). Allows x.config.peer_flow e i (skip_of a.skipped)) r (is.allows i))
               (is.recorded ∙ ap (λ (e : EndState). recorded_after (skip_of a.skipped) e) r) (is.serving ∙ serving),
@@ -239,7 +240,7 @@ following x f ended i next a s r serving finish is =
     rows : List Row
     rows =
         row (is_sequenced x.config.peer_flow && is_some (peer_last ended) && not (next == unwrap_or (peer_last ended) 0 + 1)) (breaks x ended (AfterFinish (unwrap_or (peer_last ended) 0) next))
-        ∷ row (is_filled a.facts) (answers_finish x a.facts (unwrap_or (awaits_gap a.facts.connection.peer_finish) 0))
+        ∷ row (is_filled x a.facts) (answers_finish x a.facts (unwrap_or (awaits_gap a.facts.connection.peer_finish) 0))
         ∷ row true (goes_on x (skip_of a.skipped) (told_skip a.skipped) a.facts)
         ∷ []
 
@@ -328,6 +329,7 @@ message_rows x f p = all_within (Moves x f (application p)) (is_established f.co
   where
     taking : (s : Seen) → Moves x f (application p) (taken_as x (counted f) s)
     taking (Deliver n) = going x f (awaiting (counted f) (n + 1)) (application p) (acts.Apply n) [] tt refl refl
+    taking (Hold n) = let k = accepting (holding_too x n) f (counted f) (application p) [] refl refl in record { allows = k.allows; recorded = k.recorded; served = k.served }
     taking (Gap n) = accepting x f (counted f) (application p) [] refl refl
     taking (Repeat n) = accepting x f (counted f) (application p) [] refl refl
 
@@ -449,7 +451,7 @@ session_rows x f (finished_sending id last) s =
     refused i (Some v) some = ending x f i _ _
 
     finishing : (i : Incoming) (n : ℕ) → Moves x f i (finished x f n)
-    finishing i n = by_row (Moves x f i) (is_some (receiver_is.gap f.connection.receiver)) (accepts x [] (peer_finished f (peer.Read n) f.recorded.peer_last)) (answers_finish x f n)
+    finishing i n = by_row (Moves x f i) (is_some (gap_of x f)) (accepts x [] (peer_finished f (peer.Read n) f.recorded.peer_last)) (answers_finish x f n)
         (λ _. accepting x f (peer_finished f (peer.Read n) f.recorded.peer_last) i [] refl refl)
         (λ _. answering x f f i n refl refl)
 session_rows x f (finished_receiving id) s =
@@ -488,19 +490,20 @@ can_take flow most r i (acts.PeerFinished last) after a n w = a
 can_take flow most r i (acts.Told from count) after a n w = tt
 can_take flow most r i acts.Ended after a n w = tt
 
-frame_fits : (x : Around) (f : Facts) (i : Incoming) → x.most < 2 ^ 40 → Sound x.config f → Fits x.config x.most f i (reply_of x f i)
-frame_fits x f i low s =
+frame_fits : (x : Around) (f : Facts) (i : Incoming) → x.most < 2 ^ 40 → Sound x.config f → HeldFits x.held f → Fits x.config x.most f i (reply_of x f i)
+frame_fits x f i low s h =
     let o : Outcome = reply_of x f i in
-    let k = sound_goes_on x f i low s in
+    let k = sound_goes_on x f i low s h in
     let m = moves x f i s in
     record {
       takes = can_take x.config.peer_flow x.most f.recorded i o.act o.next.recorded.inbox_next m.allows k.advances k.within;
       recorded = m.recorded;
       served = m.served;
+      holds = held_messages x f i;
     }
 
 pub acts_fit : ActsFit
 acts_fit = record {
   frames = frame_fits;
-  bad_frames = λ x f i. record { takes = tt; recorded = refl; served = still f f refl refl };
+  bad_frames = λ x f i. record { takes = tt; recorded = refl; served = still f f refl refl; holds = λ some. absurd (true≢false (sym some)) };
 }

@@ -1,10 +1,10 @@
 -- What an end accepts over the frames of one connection: the events of the peer's flow, and the records that it adds to the inbox.
-use Rattle.std.specs.Prelude.{◌≡◌, ℕ, true, false, IsTrue, if◌then◌else◌, List, [], ◌∷◌, ◌++◌, Option, Some, None, option_to_list}
+use Rattle.std.specs.Prelude.{◌≡◌, ℕ, true, false, IsTrue, Contains, if◌then◌else◌, List, [], ◌∷◌, ◌++◌, Option, Some, None, option_to_list}
 use Rattle.std.specs.List.{flat_map}
-use Rattle.session_model.specs.Inbox.{Range, InboxRecord, skips, next_number}
-use Rattle.session_model.specs.Events.{Event, standing}
+use Rattle.session_model.specs.Inbox.{Range, InboxRecord, Numbered, skips, next_number}
+use Rattle.session_model.specs.Events.{Event, numbered, standing}
 use Rattle.session_model.specs.Growth as model
-use Rattle.session_model.specs.Growth.{Grown}
+use Rattle.session_model.specs.Growth.{Grown, GrownLater, recoverable}
 use Rattle.flow_recover.specs.Receiving.{number}
 use Rattle.flow_retrans.specs.declared.request.Request.TheVariants as requests
 use Rattle.fixp_msgs.specs.declared.numbering.Range as ranges
@@ -18,11 +18,11 @@ use Rattle.fixp_replies.specs.declared.act.Act.{Act}
 use Rattle.fixp_replies.specs.declared.act.Act.TheVariants as acts
 use Rattle.fixp_replies.specs.declared.facts.EndState.{EndState}
 use Rattle.fixp_replies.specs.declared.facts.Facts.{Facts}
-use Rattle.fixp_replies.specs.Incoming.{Incoming, application, session, wrong_order, too_short, unknown}
+use Rattle.fixp_replies.specs.Incoming.{Incoming, application, session, wrong_order, too_short, unknown, payload_in}
 use Rattle.fixp_replies.specs.Facts.{Around, awaits_gap, serves}
 use Rattle.fixp_replies.specs.Events.{begun, turn_ended, finish_told}
 use Rattle.fixp_replies.specs.Replies.{reply_of}
-use Rattle.fixp_machine.specs.Machine.{counted_sent}
+use Rattle.fixp_machine.specs.Machine.{counted_sent, past_held}
 
 -- the kind of a flow, in the words of the session model
 abbrev pub model_flow : Flow → model.Flow
@@ -38,14 +38,6 @@ event_of (session m) = announcement_of m
 event_of wrong_order = None
 event_of too_short = None
 event_of (unknown template) = None
-
--- the payload of an application message
-abbrev pub payload_in : Incoming → List ℕ
-payload_in (application payload) = payload
-payload_in (session m) = []
-payload_in wrong_order = []
-payload_in too_short = []
-payload_in (unknown template) = []
 
 -- the records that an act adds to the inbox
 abbrev pub records_of : Act → Incoming → List InboxRecord
@@ -87,6 +79,23 @@ abbrev pub AcceptedFrameGrows : Type 0
 AcceptedFrameGrows = (x : Around) (f : Facts) (i : Incoming) (c : Option ℕ) (inbox : List InboxRecord)
     → Agrees x.config.peer_flow c f inbox → IsTrue (reply_of x f i).accepted
     → GrowsBy x.config.peer_flow c inbox (option_to_list (event_of i)) (records_of (reply_of x f i).act i) (reply_of x f i).next
+
+-- a message that is held came in this frame, under this number
+abbrev pub HoldsWhatCame : Type 0
+HoldsWhatCame = (x : Around) (f : Facts) (i : Incoming) (c : Option ℕ) (inbox : List InboxRecord) (n : ℕ)
+    → Agrees x.config.peer_flow c f inbox → (reply_of x f i).holds ≡ Some n
+    → IsTrue (reply_of x f i).accepted × (numbered c (option_to_list (event_of i)) ≡ record { number = n; payload = payload_in i } ∷ [])
+
+-- A held message is applied, which came earlier on the connection and is the one that the inbox awaits: the inbox is grown by it as the
+-- session model has it of a recoverable flow, without a further event, and the facts agree with it
+pub record GrowsHeld (flow : Flow) (earlier : List Event) (inbox : List InboxRecord) (f : Facts) (m : Numbered) : Type 0 where
+  pub grown : GrownLater recoverable None earlier [] inbox (inbox ++ InboxRecord.apply m ∷ [])
+  pub agrees : Agrees flow (standing None earlier) (past_held f m) (inbox ++ InboxRecord.apply m ∷ [])
+
+abbrev pub HeldGrows : Type 0
+HeldGrows = (flow : Flow) (earlier : List Event) (inbox : List InboxRecord) (f : Facts) (m : Numbered)
+    → is_recoverable flow ≡ true → Agrees flow (standing None earlier) f inbox → Contains (numbered None earlier) m → m.number ≡ next_number inbox
+    → GrowsHeld flow earlier inbox f m
 
 -- a frame that is not accepted adds nothing to the inbox, and leaves facts that agree with it
 abbrev pub RefusedFrameSpares : Type 0

@@ -1,6 +1,6 @@
 -- What the act of a reply is to an inbox: the inbox can take it, and what is recorded moves with it. And which ranges are
 -- served (FIXP 1.1, RetransmitRequest; the limit of one request is this project's profile).
-use Rattle.std.specs.Prelude.{◌≡◌, ⊤, ◌⊎◌, ℕ, ◌+◌, ◌<◌, ◌≤◌, ◌^◌, true, false, Some, None}
+use Rattle.std.specs.Prelude.{◌≡◌, ⊤, ◌⊎◌, ℕ, ◌+◌, ◌<◌, ◌≤◌, ◌^◌, true, false, Some, None, IsSome}
 use Rattle.fixp_msgs.specs.declared.flow.Flow.{Flow}
 use Rattle.fixp_msgs.specs.declared.flow.Flow.TheVariants as flows
 use Rattle.fixp_msgs.specs.declared.numbering.Range.{Range}
@@ -14,7 +14,7 @@ use Rattle.fixp_replies.specs.Incoming.{Incoming, application, session, wrong_or
 use Rattle.fixp_replies.specs.Facts.{Around}
 use Rattle.fixp_replies.specs.Outcomes.{Outcome}
 use Rattle.fixp_replies.specs.Replies.{reply_of, reply_to_bad_frame}
-use Rattle.fixp_machine.specs.Sound.{Sound}
+use Rattle.fixp_machine.specs.Sound.{Sound, HeldFits}
 
 -- a frame's message is an application message
 abbrev pub IsMessage : Incoming → Type 0
@@ -57,13 +57,15 @@ pub record WasSent (sent : ℕ) (range : Range) : Type 0 where
 abbrev pub Records : Act → (before after : EndState) → Type 0
 Records act before after = after ≡ record (recorded_after act before) { sent = after.sent }
 
--- what an outcome keeps to, at a frame with this message
+-- what an outcome keeps to, at a frame with this message: only an application message is held
 pub record Fits (cfg : EndConfig) (most : ℕ) (f : Facts) (i : Incoming) (o : Outcome) : Type 0 where
   pub takes : CanTake cfg.peer_flow most f.recorded (IsMessage i) o.act
   pub recorded : Records o.act f.recorded o.next.recorded
   pub served : (range : Range) → o.next.connection.serving ≡ Some range
       → ((f.connection.serving ≡ Some range) × (o.next.recorded.sent ≡ f.recorded.sent)) ⊎ WasSent o.next.recorded.sent range
+  pub holds : IsSome o.holds → IsMessage i
 
 pub record ActsFit : Type 0 where
-  pub frames : (x : Around) (f : Facts) (i : Incoming) → x.most < 2 ^ 40 → Sound x.config f → Fits x.config x.most f i (reply_of x f i)
+  pub frames : (x : Around) (f : Facts) (i : Incoming) → x.most < 2 ^ 40 → Sound x.config f → HeldFits x.held f
+      → Fits x.config x.most f i (reply_of x f i)
   pub bad_frames : (x : Around) (f : Facts) (i : Incoming) → Fits x.config x.most f i (reply_to_bad_frame x f)

@@ -10,7 +10,8 @@ mod sound;
 
 pub use fitting::acts_fit;
 pub use growth::{
-    accepted_frame_grows, begins_agreeing, frame_tells, own_keeps_agreeing, refused_frame_spares,
+    accepted_frame_grows, begins_agreeing, frame_tells, held_grows, holds_what_came,
+    own_keeps_agreeing, refused_frame_spares,
 };
-pub use machine::calls_keep_sound;
-pub use sound::sound_goes_on;
+pub use machine::{calls_keep_line, calls_keep_sound, line_goes_on, window_goes_on};
+pub use sound::{holding_goes_on, sound_goes_on};

@@ -1,5 +1,5 @@
 -- What a reply depends on: what stands around it, what is recorded, and what is known of the connection.
-use Rattle.std.specs.Prelude.{ℕ, ◌+◌, ◌&&◌, ◌||◌, Bool, true, false, List, Option, Some, None, is_some, if◌then◌else◌}
+use Rattle.std.specs.Prelude.{ℕ, ◌+◌, ◌&&◌, ◌||◌, min, Bool, true, false, List, Option, Some, None, is_some, unwrap_or, if◌then◌else◌}
 use Rattle.std.specs.Str.{bytes_eq}
 use Rattle.fixp_msgs.specs.declared.numbering.Range.{Range}
 use Rattle.flow_recover.specs.Receiving as receiver_is
@@ -23,16 +23,17 @@ use Rattle.fixp_replies.specs.declared.facts.PeerFinish.{PeerFinish}
 use Rattle.fixp_replies.specs.declared.facts.PeerFinish.TheVariants as peer
 
 -- what stands around a reply: the configuration, the greatest number of an application message, the place of the frame in
--- the connection's bytes, and the moment in milliseconds
+-- the connection's bytes, the moment in milliseconds, and the least number of a message that is held past a gap
 pub record Around : Type 0 where
   pub config : EndConfig
   pub most : ℕ
   pub at : ℕ
   pub moment : ℕ
+  pub held : Option ℕ
 
 -- the same in the code, which borrows the configuration
 abbrev pub around_of : declared.Around → Around
-around_of x = record { config = x.config.now; most = x.most; at = x.at; moment = x.moment }
+around_of x = record { config = x.config.now; most = x.most; at = x.at; moment = x.moment; held = x.held }
 
 abbrev pub is_initiator : Role → Bool
 is_initiator Initiator = true
@@ -108,9 +109,17 @@ message_number x f = if is_recoverable x.config.peer_flow then receiver_is.numbe
 abbrev pub announced_number : Around → Facts → Option ℕ
 announced_number x f = if is_sequenced x.config.own_flow then Some (f.recorded.sent + 1) else None
 
+-- the gap, which a recoverable flow alone has: it ends before the least number held, or before the live number where none is
+abbrev pub gap_of : Around → Facts → Option Range
+gap_of x f = if is_recoverable x.config.peer_flow then receiver_is.gap x.held f.connection.receiver else None
+
 -- the gap that is to be asked for: there is one, nothing is asked for, and the peer has started
-abbrev pub gap_to_ask : Facts → Option Range
-gap_to_ask f = if f.connection.soft || is_some (outstanding f.connection.requester) then None else receiver_is.gap f.connection.receiver
+abbrev pub gap_to_ask : Around → Facts → Option Range
+gap_to_ask x f = if f.connection.soft || is_some (outstanding f.connection.requester) then None else gap_of x f
+
+-- the message with this number is held too
+abbrev pub holding_too : Around → ℕ → Around
+holding_too x n = record x { held = Some (min n (unwrap_or x.held n)) }
 
 -- the facts once it is asked for
 abbrev pub having_asked : Facts → Option Range → Facts

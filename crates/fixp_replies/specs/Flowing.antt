@@ -3,8 +3,8 @@
 use Rattle.std.specs.Prelude.{ℕ, ◌+◌, ◌==◌, ◌&&◌, Bool, true, not, nat_lt, if◌then◌else◌, List, [], ◌∷◌, Option, Some, None, is_some, is_none, unwrap_or}
 use Rattle.fixp_msgs.specs.declared.numbering.Range.{Range}
 use Rattle.fixp_msgs.specs.Message.{finished_receiving}
-use Rattle.flow_recover.specs.declared.receiver.Seen.{Seen}
-use Rattle.flow_recover.specs.declared.receiver.Seen.TheVariants as seen_variants
+use Rattle.flow_recover.specs.declared.numbers.Seen.{Seen}
+use Rattle.flow_recover.specs.declared.numbers.Seen.TheVariants as seen_variants
 use Rattle.flow_recover.specs.Receiving as receiver_is
 use Rattle.flow_retrans.specs.declared.requester.BadStart.{BadStart}
 use Rattle.flow_retrans.specs.Requests as request_is
@@ -16,7 +16,7 @@ use Rattle.fixp_replies.specs.declared.act.Act.TheVariants.{Nothing, Apply, Peer
 use Rattle.fixp_replies.specs.declared.facts.Facts.{Facts}
 use Rattle.fixp_replies.specs.declared.facts.PeerFinish.{PeerFinish}
 use Rattle.fixp_replies.specs.declared.facts.PeerFinish.TheVariants as peer
-use Rattle.fixp_replies.specs.Facts.{Around, receiving, requesting, firm, awaiting, live_number, message_number, peer_last, awaits_gap}
+use Rattle.fixp_replies.specs.Facts.{Around, receiving, requesting, firm, awaiting, live_number, message_number, peer_last, awaits_gap, gap_of, holding_too}
 use Rattle.fixp_replies.specs.Outcomes.{Outcome, Row, row, goes_on, accepts, breaks, ignores, skip_of, told_skip}
 use Rattle.fixp_replies.specs.Announcing.{Announced, announcement_rows, refuses}
 
@@ -29,9 +29,14 @@ bad_retransmission x f (Some bad) = breaks x f (BadRetransmission bad.expected b
 abbrev pub counted : Facts → Facts
 counted f = firm (requesting (receiving f (receiver_is.after_message f.connection.receiver)) (request_is.after_message f.connection.requester))
 
--- a message of a recoverable flow: it is applied where it is the next one
+-- the message is held under this number, and the gap is asked for up to the least number held
+abbrev pub holds : Around → Facts → ℕ → Outcome
+holds x f n = record (accepts (holding_too x n) [] f) { holds = Some n }
+
+-- a message of a recoverable flow: it is applied where it is the next one, and held where it is past that and within reach
 abbrev pub taken_as : Around → Facts → Seen → Outcome
 taken_as x f (seen_variants.Deliver n) = goes_on x (Apply n) [] (awaiting f (n + 1))
+taken_as x f (seen_variants.Hold n) = holds x f n
 taken_as x f (seen_variants.Gap n) = accepts x [] f
 taken_as x f (seen_variants.Repeat n) = accepts x [] f
 
@@ -68,8 +73,8 @@ answers_finish x f last =
     (peer_finished f (peer.Exchanged last) (Some (unwrap_or f.recorded.peer_last last)))
 
 -- the finish that waits for a gap is answered once the gap is filled
-abbrev pub is_filled : Facts → Bool
-is_filled f = is_some (awaits_gap f.connection.peer_finish) && is_none (receiver_is.gap f.connection.receiver)
+abbrev pub is_filled : Around → Facts → Bool
+is_filled x f = is_some (awaits_gap f.connection.peer_finish) && is_none (gap_of x f)
 
 -- behind the peer's finish no number but the one after its last is announced
 abbrev pub is_past_finish : Around → Facts → (next : ℕ) → Bool
@@ -78,7 +83,7 @@ is_past_finish x f next = is_sequenced x.config.peer_flow && is_some (peer_last 
 -- the announcement of a Sequence was taken
 abbrev pub sequence_taken : Around → Announced → Outcome
 sequence_taken x a =
-    if is_filled a.facts then answers_finish x a.facts (unwrap_or (awaits_gap a.facts.connection.peer_finish) 0)
+    if is_filled x a.facts then answers_finish x a.facts (unwrap_or (awaits_gap a.facts.connection.peer_finish) 0)
     else goes_on x (skip_of a.skipped) (told_skip a.skipped) a.facts
 
 -- Sequence, where its announcement stands: behind the peer's finish it announces nothing new
@@ -131,7 +136,7 @@ finish_fault x f last =
 -- it is answered where no gap is left
 abbrev pub finished : Around → Facts → (last : ℕ) → Outcome
 finished x f last =
-    if is_some (receiver_is.gap f.connection.receiver)
+    if is_some (gap_of x f)
     then accepts x [] (peer_finished f (peer.Read last) f.recorded.peer_last)
     else answers_finish x f last
 

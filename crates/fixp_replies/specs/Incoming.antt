@@ -1,5 +1,5 @@
 -- What a frame is to an end: its message, classified (FIXP 1.1; the schema id of session messages is this project's profile).
-use Rattle.std.specs.Prelude.{◌≡◌, ℕ, false, List, IsTrue}
+use Rattle.std.specs.Prelude.{◌≡◌, ℕ, false, List, [], IsTrue}
 use Rattle.sbe_prim.specs.declared.Order.{Order}
 use Rattle.fixp_msgs.specs.declared.frames.FrameKind.TheVariants.{App, Session, Wrong}
 use Rattle.fixp_msgs.specs.Header.{kind_of, template_in}
@@ -18,6 +18,14 @@ pub data Incoming : Type 0 where
   wrong_order : Incoming
   too_short : Incoming
   unknown : (template : ℕ) → Incoming
+
+-- the payload of an application message
+abbrev pub payload_in : Incoming → List ℕ
+payload_in (application payload) = payload
+payload_in (session m) = []
+payload_in wrong_order = []
+payload_in too_short = []
+payload_in (unknown template) = []
 
 -- the message of a frame is this
 abbrev pub IsIncoming : Order → List ℕ → Incoming → Type 0

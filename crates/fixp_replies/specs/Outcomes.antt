@@ -15,14 +15,15 @@ use Rattle.fixp_replies.specs.Facts.{Around, gap_to_ask, having_asked, finishes_
 use Rattle.fixp_replies.specs.Expecting.{told_next}
 
 -- what an end does at an event: the act of its caller, the messages written once it is done, the facts from then on, the
--- connection's ending, if this is it, and whether the frame is accepted as one of its flow: it neither ends the connection
--- nor is rejected nor ignored
+-- connection's ending, if this is it, whether the frame is accepted as one of its flow: it neither ends the connection nor is
+-- rejected nor ignored; and the number under which its message is held, if it is
 pub record Outcome : Type 0 where
   pub act : Act
   pub written : List Message
   pub next : Facts
   pub ending : Option Ending
   pub accepted : Bool
+  pub holds : Option ℕ
 
 -- a row of the table: where it applies, and the outcome there
 pub record Row : Type 0 where
@@ -55,10 +56,11 @@ request_for x (Some g) = retransmit_request x.config.session (timestamp x) (firs
 abbrev pub goes_on : Around → Act → List Message → Facts → Outcome
 goes_on x act written f = record {
   act = act;
-  written = written ++ request_for x (gap_to_ask f);
-  next = having_asked f (gap_to_ask f);
+  written = written ++ request_for x (gap_to_ask x f);
+  next = having_asked f (gap_to_ask x f);
   ending = None;
   accepted = true;
+  holds = None;
 }
 
 -- the caller has nothing to do
@@ -67,7 +69,7 @@ accepts x written f = goes_on x Nothing written f
 
 -- the frame is rejected: the connection goes on as it was
 abbrev pub rejects : List Message → Facts → Outcome
-rejects written f = record { act = Nothing; written = written; next = f; ending = None; accepted = false }
+rejects written f = record { act = Nothing; written = written; next = f; ending = None; accepted = false; holds = None }
 
 -- nothing is done about the frame
 abbrev pub ignores : Facts → Outcome
@@ -79,7 +81,7 @@ ends_as x f ending = if finishes_exchanged x f then endings.Finished else ending
 
 -- the connection ends, and this is written
 abbrev pub ends_with : Around → Facts → List Message → Ending → Outcome
-ends_with x f written ending = record { act = Ended; written = written; next = f; ending = Some (ends_as x f ending); accepted = false }
+ends_with x f written ending = record { act = Ended; written = written; next = f; ending = Some (ends_as x f ending); accepted = false; holds = None }
 
 -- the connection ends, and a Terminate with this code is written
 abbrev pub ends : Around → Facts → ℕ → Ending → Outcome

@@ -36,7 +36,14 @@ messages_of cfg (Some message ∷ later) = outgoing_message cfg message ∷ mess
 
 -- a reply with the facts that it leaves
 abbrev pub outcome_of : EndConfig → Reply → Facts → Outcome
-outcome_of cfg reply next = record { act = reply.act; written = messages_of cfg reply.written; next = next; ending = reply.ending; accepted = reply.accepted }
+outcome_of cfg reply next = record {
+  act = reply.act;
+  written = messages_of cfg reply.written;
+  next = next;
+  ending = reply.ending;
+  accepted = reply.accepted;
+  holds = reply.holds;
+}
 
 -- the messages that carry the credentials
 abbrev pub carries_credentials : Outgoing → Bool

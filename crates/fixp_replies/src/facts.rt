@@ -5,7 +5,7 @@ ghost use Rattle.fixp_replies.specs.Facts.{new_connection};
 
 use fixp_msgs::Range;
 use fixp_shake::{EndConfig, Phase};
-use flow_recover::Receiver;
+use flow_recover::Numbers;
 use flow_retrans::Requester;
 
 /// What the journals of an end record: the facts that outlive a connection.
@@ -50,7 +50,7 @@ pub enum PeerFinish {
 pub struct Connection {
     pub phase: Phase,
     /// What is expected of the peer's flow, where it is recoverable.
-    pub receiver: Receiver,
+    pub receiver: Numbers,
     /// What was asked for of the peer's flow.
     pub requester: Requester,
     /// What is still to be sent again of the range that the peer asked for.
@@ -70,7 +70,7 @@ impl Connection {
     {
         Connection {
             phase,
-            receiver: Receiver::new(recorded.inbox_next),
+            receiver: Numbers::new(recorded.inbox_next),
             requester: Requester::new(),
             serving: None,
             own_finish: OwnFinish::Open,
@@ -89,11 +89,12 @@ pub struct Facts {
 }
 
 /// What stands around a reply: the configuration, the greatest number of an application message, the place of the frame
-/// in the connection's bytes, and the moment in milliseconds.
+/// in the connection's bytes, the moment in milliseconds, and the least number of a message that is held past a gap.
 #[derive(Clone, Copy, Debug)]
 pub struct Around<'a> {
     pub config: &'a EndConfig,
     pub most: u64,
     pub at: u64,
     pub moment: u64,
+    pub held: Option<u64>,
 }

@@ -6,7 +6,7 @@ ghost use Rattle.fixp_shake.specs.Flows.{is_recoverable};
 ghost use Rattle.fixp_replies.specs.Facts.{around_of, message_number, awaits_gap};
 ghost use Rattle.fixp_replies.specs.Outcomes.{first_row, not_in_phase};
 ghost use Rattle.fixp_replies.specs.Announcing.{announcement_answered};
-ghost use Rattle.fixp_replies.specs.Flowing.{bad_retransmission, numbered_rows, application_rows, is_after_finish, answers_finish, is_filled, is_past_finish, sequence_taken, sequence_follows, is_last, finish_fault, finished, finished_last};
+ghost use Rattle.fixp_replies.specs.Flowing.{bad_retransmission, holds, numbered_rows, application_rows, is_after_finish, answers_finish, is_filled, is_past_finish, sequence_taken, sequence_follows, is_last, finish_fault, finished, finished_last};
 ghost use Rattle.fixp_replies.specs.Incoming.{application, session};
 ghost use Rattle.fixp_replies.specs.Replies.{answer_of};
 ghost use Rattle.fixp_replies.specs.Outgoing.{outcome_of, written_limit, reply_limit};
@@ -16,7 +16,7 @@ use crate::announcing::{announce, announcement_fault};
 use crate::facts::{Around, Facts, PeerFinish};
 use crate::guards::out_of_place;
 use crate::reply::{Outgoing, Reply};
-use crate::standing::{live_number, message_number, peer_last};
+use crate::standing::{gap, live_number, message_number, peer_last};
 use fixp_msgs::{FinishedSending, Range, Retransmission, RetransmitReject};
 use fixp_shake::{Violation, is_absent, is_established, is_recoverable, is_sequenced};
 use flow_recover::Seen;
@@ -30,6 +30,25 @@ fn break_retransmission(around: &Around<'_>, facts: &Facts, bad: BadStart) -> Re
     let BadStart { expected, found } = bad;
     let violation = Violation::BadRetransmission { expected, found };
     Reply::breaks(around, facts, violation)
+}
+
+/// A message is held under this number, and the gap is asked for up to the least number held.
+fn hold(around: &Around<'_>, facts: &mut Facts, number: u64) -> Reply
+    requires { around.now.moment < 2 ^ 44 }
+    ensures reply { outcome_of around.now.config.now result facts.new ≡ holds (around_of around.now) facts.old number }
+    ensures sent { facts.new.recorded.sent ≡ facts.old.recorded.sent }
+    ensures small { written_limit around.now.config.now result.written ≤ 64 }
+{
+    let behind = Around {
+        config: around.config,
+        most: around.most,
+        at: around.at,
+        moment: around.moment,
+        held: Some(number.min(around.held.unwrap_or(number))),
+    };
+    let mut reply = Reply::accepts(&behind, facts, None);
+    reply.holds = Some(number);
+    reply
 }
 
 /// A message of a recoverable flow.
@@ -50,6 +69,7 @@ fn take_numbered(around: &Around<'_>, facts: &mut Facts) -> Reply
             facts.recorded.inbox_next = number + 1;
             Reply::goes_on(around, facts, Act::Apply { number }, None)
         }
+        Seen::Hold(number) => hold(around, facts, number),
         Seen::Gap(_) | Seen::Repeat(_) => Reply::accepts(around, facts, None),
     }
 }
@@ -117,10 +137,10 @@ fn awaits_gap(finish: PeerFinish) -> Option<u64>
 }
 
 /// Whether a finish came that waited for a gap, and the gap is filled.
-fn is_filled(facts: &Facts) -> bool
-    ensures { result ≡ is_filled facts.now }
+fn is_filled(around: &Around<'_>, facts: &Facts) -> bool
+    ensures { result ≡ is_filled (around_of around.now) facts.now }
 {
-    awaits_gap(facts.connection.peer_finish).is_some() && facts.connection.receiver.gap().is_none()
+    awaits_gap(facts.connection.peer_finish).is_some() && gap(around, facts).is_none()
 }
 
 /// The peer's finish is recorded, if it was not, and answered.
@@ -158,7 +178,7 @@ fn follow_sequence(around: &Around<'_>, facts: &mut Facts, skipped: Option<Range
     ensures sent { facts.new.recorded.sent ≡ facts.old.recorded.sent }
     ensures small { written_limit around.now.config.now result.written ≤ reply_limit around.now.config.now }
 {
-    if is_filled(facts) {
+    if is_filled(around, facts) {
         let last = awaits_gap(facts.connection.peer_finish).unwrap_or(0);
         answer_finish(around, facts, last)
     } else {
@@ -278,7 +298,7 @@ fn finish(around: &Around<'_>, facts: &mut Facts, last: u64) -> Reply
     ensures sent { facts.new.recorded.sent ≡ facts.old.recorded.sent }
     ensures small { written_limit around.now.config.now result.written ≤ reply_limit around.now.config.now }
 {
-    if facts.connection.receiver.gap().is_some() {
+    if gap(around, facts).is_some() {
         facts.connection.peer_finish = PeerFinish::Read(last);
         Reply::accepts(around, facts, None)
     } else {

@@ -8,7 +8,7 @@ ghost use Rattle.fixp_replies.specs.Outgoing.{messages_of, outgoing_message, fra
 
 use crate::act::{Act, Ending};
 use crate::facts::{Around, Facts};
-use crate::standing::ends_as;
+use crate::standing::{ends_as, gap};
 use fixp_msgs::{Expected, Range};
 use fixp_shake::Violation;
 
@@ -95,20 +95,22 @@ pub struct Reply {
     pub ending: Option<Ending>,
     /// Whether the frame is accepted: it neither ends the connection nor is rejected nor ignored.
     pub accepted: bool,
+    /// The number under which the frame's message is held until the gap before it is filled, if it is.
+    pub holds: Option<u64>,
 }
 
 /// A gap is asked for where there is one, no request is open, and the peer has started: the request.
 fn ask(around: &Around<'_>, facts: &mut Facts) -> Option<Outgoing>
     requires { around.now.moment < 2 ^ 44 }
-    ensures request { messages_of around.now.config.now (result ∷ []) ≡ request_for (around_of around.now) (gap_to_ask facts.old) }
-    ensures asked { facts.new ≡ having_asked facts.old (gap_to_ask facts.old) }
+    ensures request { messages_of around.now.config.now (result ∷ []) ≡ request_for (around_of around.now) (gap_to_ask (around_of around.now) facts.old) }
+    ensures asked { facts.new ≡ having_asked facts.old (gap_to_ask (around_of around.now) facts.old) }
     ensures recorded { facts.new.recorded ≡ facts.old.recorded }
     ensures small { place_limit around.now.config.now result ≤ 64 }
 {
     if facts.connection.soft {
         return None;
     }
-    let Some(gap) = facts.connection.receiver.gap() else {
+    let Some(gap) = gap(around, facts) else {
         return None;
     };
     let Some(range) = facts.connection.requester.want(gap) else {
@@ -160,6 +162,7 @@ impl Reply {
             written: [message, request, None],
             ending: None,
             accepted: true,
+            holds: None,
         }
     }
 
@@ -200,6 +203,7 @@ impl Reply {
             written: [message, Some(told), request],
             ending: None,
             accepted: true,
+            holds: None,
         }
     }
 
@@ -230,6 +234,7 @@ impl Reply {
             written: [Some(told), message, request],
             ending: None,
             accepted: true,
+            holds: None,
         }
     }
 
@@ -244,6 +249,7 @@ impl Reply {
             written: [Some(message), None, None],
             ending: None,
             accepted: false,
+            holds: None,
         }
     }
 
@@ -258,6 +264,7 @@ impl Reply {
             written: [None, None, None],
             ending: None,
             accepted: false,
+            holds: None,
         }
     }
 
@@ -276,6 +283,7 @@ impl Reply {
             written: [message, None, None],
             ending: Some(ends_as(around, facts, ending)),
             accepted: false,
+            holds: None,
         }
     }
 

@@ -1,11 +1,12 @@
 //! What the facts tell: the numbers of the next messages, and how far the finishes have come.
 
-ghost use Rattle.std.specs.Prelude.{◌≡◌, ◌<◌, ◌^◌};
-ghost use Rattle.fixp_replies.specs.Facts.{around_of, is_initiator, is_own, live_number, expected_number, message_number, announced_number, peer_last, is_told, is_open, own_is_exchanged, peer_is_exchanged, finishes_exchanged};
+ghost use Rattle.std.specs.Prelude.{◌≡◌, ◌+◌, ◌<◌, ◌≤◌, ◌^◌, IfSome};
+ghost use Rattle.fixp_replies.specs.Facts.{around_of, is_initiator, is_own, live_number, gap_of, expected_number, message_number, announced_number, peer_last, is_told, is_open, own_is_exchanged, peer_is_exchanged, finishes_exchanged};
 ghost use Rattle.fixp_replies.specs.Outcomes.{ends_as};
 
 use crate::act::Ending;
 use crate::facts::{Around, Facts, OwnFinish, PeerFinish};
+use fixp_msgs::Range;
 use fixp_shake::{Role, is_absent, is_recoverable, is_sequenced, is_shaken};
 
 /// Whether it is the side that opens each connection.
@@ -30,6 +31,18 @@ pub fn live_number(around: &Around<'_>, facts: &Facts) -> u64
         facts.connection.receiver.live()
     } else {
         facts.recorded.inbox_next
+    }
+}
+
+/// The numbers that are missing, up to the least one held, or up to the live number where none is held.
+pub fn gap(around: &Around<'_>, facts: &Facts) -> Option<Range>
+    ensures exact { result ≡ gap_of (around_of around.now) facts.now }
+    ensures within { IfSome result (λ g. (1 ≤ g.count) × (g.from + g.count < 2 ^ 64)) }
+{
+    if is_recoverable(around.config.peer_flow) {
+        facts.connection.receiver.gap(around.held)
+    } else {
+        None
     }
 }
 

@@ -1,5 +1,5 @@
 -- What a receiver delivers is the chain of the numbered messages, and an inbox that applies it grows as a recoverable one.
-use Rattle.std.proofs.Common.{◌≡◌, ℕ, ◌+◌, ◌≤◌, ◌==◌, nat_lt, Bool, true, false, if◌then◌else◌, List, [], ◌∷◌, ◌++◌, map, length, Contains, Option, Some, None, refl, sym, ap, subst, ◌∙◌, arith, eqb-true}
+use Rattle.std.proofs.Common.{◌≡◌, ℕ, ◌+◌, ◌≤◌, ◌==◌, nat_lt, nat_le, Bool, true, false, if◌then◌else◌, List, [], ◌∷◌, ◌++◌, map, length, Contains, Option, Some, None, refl, sym, ap, subst, ◌∙◌, arith, eqb-true}
 use Rattle.std.proofs.lemmas.List.Elements.{Contains-append_right}
 use Rattle.std.specs.List.{AllByRecursion}
 use Rattle.session_model.specs.Journal.{counts_from}
@@ -7,22 +7,23 @@ use Rattle.session_model.specs.Inbox.{Numbered, apply, applied, skips, numbers_o
 use Rattle.session_model.specs.Events.{numbered}
 use Rattle.session_model.specs.Growth.{chain}
 use Rattle.session_model.proofs.Lists.{all_weaker}
-use Rattle.flow_recover.specs.declared.receiver.Seen.TheVariants.{Deliver, Gap, Repeat}
-use Rattle.flow_recover.specs.Receiving.{announced, retransmitted, number, seen_as, after_message}
+use Rattle.flow_recover.specs.declared.numbers.Seen.TheVariants.{Deliver, Hold, Gap, Repeat}
+use Rattle.flow_recover.specs.Receiving.{reach, announced, retransmitted, number, seen_as, after_message}
 use Rattle.flow_recover.specs.Laws.{announcement, retransmission, message, event_of, given, delivered, DeliversChain, GrowsRecoverable}
 
 -- one message more: it is delivered exactly where the chain goes on with it
 delivers_one : (next n : ℕ) (payload : List ℕ) (later rest : List Numbered)
     → rest ≡ chain (if n == next then next + 1 else next) later
     → given (seen_as next n) payload ++ rest ≡ chain next (record { number = n; payload = payload } ∷ later)
-delivers_one next n payload later rest e = by_tests (n == next) (nat_lt next n) e
+delivers_one next n payload later rest e = by_tests (n == next) (nat_lt n next) (nat_le n (next + reach)) e
   where
-    by_tests : (same past : Bool) → rest ≡ chain (if same then next + 1 else next) later
-        → given (if same then Deliver n else if past then Gap n else Repeat n) payload ++ rest
+    by_tests : (same below near : Bool) → rest ≡ chain (if same then next + 1 else next) later
+        → given (if same then Deliver n else if below then Repeat n else if near then Hold n else Gap n) payload ++ rest
         ≡ (if same then record { number = n; payload = payload } ∷ chain (next + 1) later else chain next later)
-    by_tests true past e = ap (λ ms. record { number = n; payload = payload } ∷ ms) e
-    by_tests false true e = e
-    by_tests false false e = e
+    by_tests true below near e = ap (λ ms. record { number = n; payload = payload } ∷ ms) e
+    by_tests false true near e = e
+    by_tests false false true e = e
+    by_tests false false false e = e
 
 -- a message takes one number
 pub number_counted : (next live : ℕ) (again : Option ℕ)

@@ -1,11 +1,12 @@
--- The laws of the receiver, in the words of the session model.
+-- The laws of a receiver that holds nothing, in the words of the session model. What one that holds messages delivers is said in
+-- `flow_window`.
 use Rattle.std.specs.Prelude.{◌≡◌, ℕ, List, [], ◌∷◌, ◌++◌, map, Some}
 use Rattle.session_model.specs.Inbox.{Numbered, InboxRecord, next_number}
 use Rattle.session_model.specs.Inbox.InboxRecord.{apply}
 use Rattle.session_model.specs.Events.{Announcer, Event, in_flow, numbered}
 use Rattle.session_model.specs.Growth.{chain, GrownRecoverable}
-use Rattle.flow_recover.specs.declared.receiver.Seen.{Seen}
-use Rattle.flow_recover.specs.declared.receiver.Seen.TheVariants.{Deliver, Gap, Repeat}
+use Rattle.flow_recover.specs.declared.numbers.Seen.{Seen}
+use Rattle.flow_recover.specs.declared.numbers.Seen.TheVariants.{Deliver, Hold, Gap, Repeat}
 use Rattle.flow_recover.specs.Receiving.{Receiving, announced, retransmitted, number, seen, after_message}
 
 -- what comes on a recoverable flow: an announcement, a retransmission with the number of its first message, or an
@@ -21,13 +22,14 @@ event_of (announcement who n) = Event.announce who (Some n)
 event_of (retransmission n) = Event.announce in_flow (Some n)
 event_of (message payload) = Event.message payload
 
--- the message delivered with this payload, if it is
+-- the message that is delivered as it comes with this payload, if it is
 abbrev pub given : Seen → List ℕ → List Numbered
 given (Deliver n) payload = record { number = n; payload = payload } ∷ []
+given (Hold n) payload = []
 given (Gap n) payload = []
 given (Repeat n) payload = []
 
--- what a receiver delivers, in order
+-- what a receiver delivers as it comes, in order
 abbrev pub delivered : Receiving → List Arrival → List Numbered
 delivered r [] = []
 delivered r (announcement who n ∷ later) = delivered (announced r n) later

@@ -1,9 +1,9 @@
 -- The receiver of a recoverable flow (FIXP 1.1, recoverable flow type and retransmission): what is expected, and what each
 -- announcement and each message makes of it.
-use Rattle.std.specs.Prelude.{ℕ, ◌+◌, ◌-◌, ◌==◌, max, nat_lt, if◌then◌else◌, Option, Some, None, unwrap_or}
+use Rattle.std.specs.Prelude.{ℕ, ◌+◌, ◌-◌, ◌==◌, max, nat_lt, nat_le, if◌then◌else◌, Option, Some, None, unwrap_or}
 use Rattle.fixp_msgs.specs.declared.numbering.Range.{Range}
-use Rattle.flow_recover.specs.declared.receiver.Seen.{Seen}
-use Rattle.flow_recover.specs.declared.receiver.Seen.TheVariants.{Deliver, Gap, Repeat}
+use Rattle.flow_recover.specs.declared.numbers.Seen.{Seen}
+use Rattle.flow_recover.specs.declared.numbers.Seen.TheVariants.{Deliver, Hold, Gap, Repeat}
 
 -- the number that the inbox waits for, the live number, which the next live message has, and inside a retransmission the
 -- number of its next message
@@ -32,10 +32,14 @@ retransmitted r n = record r { again = Some n }
 abbrev pub number : Receiving → ℕ
 number r = unwrap_or r.again r.live
 
--- a message with this number, where the inbox waits for `next`: it is delivered where it is the next one, stands behind a
--- gap where it is past that, and is there already where it is below
+-- how far past the number waited for a message may lie, to be held
+abbrev pub reach : ℕ
+reach = 256
+
+-- a message with the number n, where the inbox waits for `next`: it is delivered where it is that one, there already where it
+-- is below, held where it is past it and within reach, and else lost behind the gap
 abbrev pub seen_as : ℕ → ℕ → Seen
-seen_as next n = if n == next then Deliver n else if nat_lt next n then Gap n else Repeat n
+seen_as next n = if n == next then Deliver n else if nat_lt n next then Repeat n else if nat_le n (next + reach) then Hold n else Gap n
 
 abbrev pub seen : Receiving → Seen
 seen r = seen_as r.next (number r)
@@ -49,6 +53,15 @@ counted r (Some n) = record r { again = Some (n + 1) }
 abbrev pub after_message : Receiving → Receiving
 after_message r = record (counted r r.again) { next = if number r == r.next then r.next + 1 else r.next }
 
--- the numbers that are missing: from the one that the inbox waits for up to the live number
-abbrev pub gap : Receiving → Option Range
-gap r = if nat_lt r.next r.live then Some (record { from = r.next; count = r.live - r.next }) else None
+-- the message that the inbox waits for was applied, and came earlier
+abbrev pub past : Receiving → Receiving
+past r = record r { next = r.next + 1 }
+
+-- where a gap ends: before the least number held, or before the live number where none is held
+abbrev pub gap_end : Option ℕ → ℕ → ℕ
+gap_end least live = unwrap_or least live
+
+-- the numbers that are missing: from the one that the inbox waits for up to that end
+abbrev pub gap : Option ℕ → Receiving → Option Range
+gap least r =
+    if nat_lt r.next (gap_end least r.live) then Some (record { from = r.next; count = gap_end least r.live - r.next }) else None

@@ -5,12 +5,11 @@ use Rattle.std.specs.List.{AllByRecursion}
 use Rattle.session_model.specs.Inbox.{Numbered, apply}
 use Rattle.session_model.specs.Events.{numbered, standing}
 use Rattle.session_model.specs.Growth.{GrownInOrder}
-use Rattle.flow_recover.specs.Receiving.{announced, retransmitted, number}
-use Rattle.flow_recover.specs.Laws.{Arrival, announcement, retransmission, message, event_of}
+use Rattle.flow_recover.specs.Receiving.{announced, retransmitted, number, seen}
+use Rattle.flow_recover.specs.Laws.{Arrival, announcement, retransmission, message, event_of, given}
 use Rattle.flow_recover.proofs.Chains.{number_counted}
-use Rattle.flow_window.specs.Receiving.{seen}
 use Rattle.flow_window.specs.Gathering.{Gathering, after_held, ready, all_dropped}
-use Rattle.flow_window.specs.Laws.{given, taken, kept, window_of, delivered, behind, DeliversWhatIsTaken, GrowsRecoverable, GrowsLater}
+use Rattle.flow_window.specs.Laws.{taken, kept, window_of, delivered, behind, DeliversWhatIsTaken, GrowsRecoverable, GrowsLater}
 use Rattle.flow_window.proofs.Taken.{holds_what_came, grows_with_window}
 
 -- a message takes one number

@@ -6,9 +6,9 @@ use Rattle.std.specs.List.{AllByRecursion}
 use Rattle.session_model.specs.Inbox.{Numbered, numbers_of, Ascending}
 use Rattle.session_model.proofs.Lists.{all_weaker}
 use Rattle.fixp_msgs.specs.declared.numbering.Range.{Range}
-use Rattle.flow_window.specs.declared.numbers.Seen.TheVariants.{Deliver, Hold, Gap, Repeat}
-use Rattle.flow_window.specs.Window.{reach, holding, front, InReach}
-use Rattle.flow_window.specs.Receiving.{seen_as, gap}
+use Rattle.flow_recover.specs.declared.numbers.Seen.TheVariants.{Deliver, Hold, Gap, Repeat}
+use Rattle.flow_window.specs.Window.{holding, front, InReach}
+use Rattle.flow_recover.specs.Receiving.{reach, seen_as, gap}
 use Rattle.flow_window.specs.Gathering.{held_as, ready, waiting}
 use Rattle.flow_window.specs.Laws.{met, StaysInReach, GapIsMissing}
 use Rattle.flow_window.proofs.Reach.{all_holding}

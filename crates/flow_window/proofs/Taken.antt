@@ -9,11 +9,12 @@ use Rattle.session_model.specs.Journal.{counts_from}
 use Rattle.session_model.specs.Inbox.{Numbered, apply, applied, skips, numbers_of, next_number}
 use Rattle.session_model.specs.Growth.{chain}
 use Rattle.session_model.proofs.Lists.{all_weaker, all_append, counts_from-add}
-use Rattle.flow_window.specs.declared.numbers.Seen.TheVariants.{Deliver, Hold, Gap, Repeat}
-use Rattle.flow_window.specs.Window.{Holding, reach, holding, front}
-use Rattle.flow_window.specs.Receiving.{seen_as}
+use Rattle.flow_recover.specs.declared.numbers.Seen.TheVariants.{Deliver, Hold, Gap, Repeat}
+use Rattle.flow_window.specs.Window.{Holding, holding, front}
+use Rattle.flow_recover.specs.Receiving.{reach, seen_as}
+use Rattle.flow_recover.specs.Laws.{given}
 use Rattle.flow_window.specs.Gathering.{held_as, ready, waiting, drained}
-use Rattle.flow_window.specs.Laws.{given, met, taken, kept, TakesInOrder, TakesChain, HoldsWhatCame, GrowsWithWindow, FrontByFront}
+use Rattle.flow_window.specs.Laws.{met, taken, kept, TakesInOrder, TakesChain, HoldsWhatCame, GrowsWithWindow, FrontByFront}
 
 -- messages whose numbers count on from n, and others that count on behind them, count on together
 counts_joined : (n : ℕ) (xs ys : List Numbered) → numbers_of xs ≡ counts_from n (length xs)

@@ -1,11 +1,10 @@
 -- A receiver with its window: its numbers, and the messages that it holds.
 use Rattle.std.specs.Prelude.{ℕ, ◌+◌, ◌==◌, if◌then◌else◌, List, [], ◌∷◌, drop, length}
 use Rattle.session_model.specs.Inbox.{Numbered}
-use Rattle.flow_recover.specs.Receiving.{Receiving, fresh, after_message}
+use Rattle.flow_recover.specs.Receiving.{Receiving, fresh, after_message, seen, past}
 use Rattle.flow_window.specs.Window.{Holding, holding}
-use Rattle.flow_window.specs.declared.numbers.Seen.{Seen}
-use Rattle.flow_window.specs.declared.numbers.Seen.TheVariants.{Deliver, Hold, Gap, Repeat}
-use Rattle.flow_window.specs.Receiving.{seen, past}
+use Rattle.flow_recover.specs.declared.numbers.Seen.{Seen}
+use Rattle.flow_recover.specs.declared.numbers.Seen.TheVariants.{Deliver, Hold, Gap, Repeat}
 
 pub record Gathering : Type 0 where
   pub numbers : Receiving

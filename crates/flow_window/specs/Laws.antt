@@ -6,20 +6,10 @@ use Rattle.session_model.specs.Inbox.{Numbered, InboxRecord, next_number, number
 use Rattle.session_model.specs.Inbox.InboxRecord.{apply}
 use Rattle.session_model.specs.Events.{numbered}
 use Rattle.session_model.specs.Growth.{chain, recoverable, GrownInOrder, GrownLater}
-use Rattle.flow_recover.specs.Receiving.{Receiving, announced, retransmitted, number}
-use Rattle.flow_recover.specs.Laws.{Arrival, announcement, retransmission, message, event_of}
-use Rattle.flow_window.specs.declared.numbers.Seen.{Seen}
-use Rattle.flow_window.specs.declared.numbers.Seen.TheVariants.{Deliver, Hold, Gap, Repeat}
+use Rattle.flow_recover.specs.Receiving.{Receiving, announced, retransmitted, number, seen_as, seen, gap}
+use Rattle.flow_recover.specs.Laws.{Arrival, announcement, retransmission, message, event_of, given}
 use Rattle.flow_window.specs.Window.{Holding, least, front, InReach}
-use Rattle.flow_window.specs.Receiving.{seen_as, seen, gap}
 use Rattle.flow_window.specs.Gathering.{Gathering, held_as, after_held, ready, waiting, drained, all_dropped}
-
--- the message that is delivered as it comes with this payload, if it is
-abbrev pub given : Seen → List ℕ → List Numbered
-given (Deliver n) payload = record { number = n; payload = payload } ∷ []
-given (Hold n) payload = []
-given (Gap n) payload = []
-given (Repeat n) payload = []
 
 -- what a numbered message makes of a window
 abbrev pub met : Holding → Numbered → Holding

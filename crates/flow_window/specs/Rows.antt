@@ -4,9 +4,9 @@ use Rattle.session_model.specs.Inbox.{Numbered}
 use Rattle.session_model.specs.Events.{handshake, in_flow}
 use Rattle.fixp_msgs.specs.declared.numbering.Range.{Range}
 use Rattle.flow_recover.specs.Laws.{Arrival, announcement, retransmission, message}
-use Rattle.flow_window.specs.declared.numbers.Seen.TheVariants.{Deliver, Hold, Gap, Repeat}
+use Rattle.flow_recover.specs.declared.numbers.Seen.TheVariants.{Deliver, Hold, Gap, Repeat}
 use Rattle.flow_window.specs.Window.{holding, least, front}
-use Rattle.flow_window.specs.Receiving.{seen_as, gap}
+use Rattle.flow_recover.specs.Receiving.{seen_as, gap}
 use Rattle.flow_window.specs.Gathering.{Gathering, beginning, dropped}
 use Rattle.flow_window.specs.Laws.{delivered, behind}
 

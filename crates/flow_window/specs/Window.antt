@@ -3,15 +3,12 @@
 use Rattle.std.specs.Prelude.{ℕ, ◌+◌, ◌≤◌, ◌==◌, nat_lt, if◌then◌else◌, List, [], ◌∷◌, Option, Some, None}
 use Rattle.std.specs.List.{AllByRecursion}
 use Rattle.session_model.specs.Inbox.{Numbered, numbers_of, Ascending}
+use Rattle.flow_recover.specs.Receiving.{reach}
 
 -- the number that the inbox waits for, and the messages that are held, by rising numbers
 pub record Holding : Type 0 where
   pub next : ℕ
   pub held : List Numbered
-
--- how far past the number waited for a message may lie, to be held
-abbrev pub reach : ℕ
-reach = 256
 
 -- what is held with one message more; of two messages under one number the first stays
 abbrev pub holding : ℕ → List ℕ → List Numbered → List Numbered

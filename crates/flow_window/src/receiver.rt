@@ -3,21 +3,19 @@
 
 ghost use Rattle.std.specs.Prelude.{◌≡◌, ◌+◌, ◌^◌, ◌<◌, ◌≤◌, ◌↔◌, IsOk, IfOk, IfErr, IfSome, IsSome, OnOk, OnErr, None, option_map, length};
 ghost use Rattle.fixp_msgs.specs.Numbering.{payload_of};
-ghost use Rattle.flow_recover.specs.Receiving.{expected, announced, retransmitted, number, after_message};
+ghost use Rattle.flow_recover.specs.Receiving.{expected, announced, retransmitted, number, seen, after_message, gap};
 ghost use Rattle.flow_window.specs.Window.{holding, least, front};
-ghost use Rattle.flow_window.specs.Receiving.{seen, gap};
 ghost use Rattle.flow_window.specs.Gathering.{after_held, beginning, dropped};
 
-use crate::numbers::{Numbers, Seen};
 use crate::window::Window;
 use fixp_msgs::Range;
-use flow_recover::Back;
+use flow_recover::{Back, Numbers, Seen};
 use sbe_prim::Order;
 use std::alloc::{AllocError, Global};
 use std::marker::Model;
 
 /// The receiving end of a recoverable flow on one connection, with its window (FIXP 1.1, recoverable flow type).
-#[derive(Drop)]
+#[derive(Debug, Drop)]
 pub struct Receiver {
     numbers: Numbers,
     window: Window,

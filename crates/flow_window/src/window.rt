@@ -14,15 +14,12 @@ use std::alloc::{AllocError, Global};
 use std::collections::VecDeque;
 use std::marker::Model;
 
-/// How far past the number that the inbox waits for a message may lie, to be held.
-pub const REACH: u64 = 256;
-
 /// One place for the number that the inbox waits for, and one for each number within reach.
 const PLACES: usize = 257;
 
 /// Messages that are held, and the number that the inbox waits for. It has room for every number from that one to 256 past
 /// it: 257 places of 16,386 bytes. Only `new` takes memory.
-#[derive(Drop)]
+#[derive(Debug, Drop)]
 pub struct Window {
     next: u64,
     count: u64,

@@ -1,12 +1,21 @@
-use Rattle.std.proofs.Common.{sym, ap, subst, ◌∙◌}
-use Rattle.fixp_replies.specs.Incoming.{incoming_of}
+use Rattle.std.proofs.Common.{◌≡◌, ℕ, ◌<◌, ◌≤◌, List, Option, None, IsSome, arith, refl, sym, ap, subst, ◌∙◌}
+use Rattle.std.specs.Prelude.{IfSome}
+use Rattle.std.specs.List.{AllByRecursion}
+use Rattle.std.proofs.lemmas.Bool.{false≢true}
+use Rattle.session_model.specs.Inbox.{Numbered}
+use Rattle.fixp_msgs.specs.Payload.{IsApplication}
+use Rattle.fixp_msgs.specs.Numbering.{payload_of}
+use Rattle.fixp_replies.specs.Incoming.{Incoming, incoming_of, payload_in}
+use Rattle.fixp_replies.specs.Replies.{reply_of}
 use Rattle.fixp_machine.specs.Fitting.{CanTake, IsMessage}
-use Rattle.fixp_machine.specs.Machine.{State}
-use Rattle.fixp_end.proofs.Doing.{takes_payload}
+use Rattle.fixp_machine.specs.Machine.{State, around, held_with, held_until, front_of, Windowed}
+use Rattle.fixp_end.specs.Keeping.{held_in, pending_in, Steps}
+use Rattle.fixp_end.proofs.Doing.{takes_payload, is_payload}
 use Rattle.fixp_end.proofs.machine.End.on_frame.Goals as goal
 use Rattle.fixp_replies.specs.Outcomes.{Outcome}
 use Rattle.fixp_end.specs.contracts.machine.End.{the_view}
 use Rattle.fixp_end.proofs.Outcomes.{after-record, after-plain}
+use Rattle.fixp_end.proofs.Held.{payload_is, held_alike, all_with}
 
 pub returns-then-is_record-clause-takes : goal.returns-then-is_record-clause-takes
 returns-then-is_record-clause-takes c =
@@ -19,22 +28,112 @@ returns-then-is_record-clause-takes c =
 
 pub returns-then-is_record-clause-reply : goal.returns-then-is_record-clause-reply
 returns-then-is_record-clause-reply c =
-    let same = c.reply_to_frame-reply.ensures.reply in
+    let s : State = the_view c.self.inside in
+    let i : Incoming = incoming_of c.classify.result in
+    let around_is = ap (λ (h : Option ℕ). reply_of (record (around s c.args.at c.args.now) { held = h }) s.facts i) c.least.ensures in
+    let same = c.reply_to_frame-reply.ensures.reply ∙ around_is in
     let is = sym c.is_record.ensures ∙ c.if-is_record.true in
     rw (← c.self.view_is) (record {
-      incoming = incoming_of c.classify.result;
+      incoming = i;
       is = c.classify.ensures;
       replies = ap (λ (o : Outcome). o.act) same;
-      after = after-record (the_view c.self.inside) _ _ c.args.now same is;
+      after = after-record s i _ _ c.args.now same is;
     })
 
 pub returns-else-is_record-clause-reply : goal.returns-else-is_record-clause-reply
 returns-else-is_record-clause-reply c =
-    let same = c.reply_to_frame-reply.ensures.reply in
+    let s : State = the_view c.self.inside in
+    let i : Incoming = incoming_of c.classify.result in
+    let reply = c.reply_to_frame-reply.ensures in
+    let around_is = ap (λ (h : Option ℕ). reply_of (record (around s c.args.at c.args.now) { held = h }) s.facts i) c.least.ensures in
+    let same = reply.reply ∙ around_is in
     let is = sym c.is_record.ensures ∙ c.if-is_record.false in
+    let holds = c.reply_to_frame-reply.result.holds in
+    let payload = payload_of (record { order = c.args.order; message = c.args.message.now }) in
     rw (← c.self.view_is) (record {
-      incoming = incoming_of c.classify.result;
+      incoming = i;
       is = c.classify.ensures;
       replies = ap (λ (o : Outcome). o.act) same;
-      after = c.apply_reply.ensures.applied ∙ after-plain (the_view c.self.inside) _ _ c.args.now same is;
+      after = ap (λ (ms : List Numbered). record (the_view c.self-else-is_record.inside) { held = ms }) c.hold_message.ensures.held
+          ∙ (ap (λ (t : State). record t { held = held_with holds payload t.held }) (c.self-else-is_record.view_is ∙ c.apply_reply.ensures.applied)
+          ∙ after-plain s i _ _ c.args.now payload same is
+          (λ some. (reply.goes_on some, payload_is c.args.order c.args.message.now i c.classify.ensures (reply.message some))));
     })
+
+pub apply_reply-requires-clause-window : goal.apply_reply-requires-clause-window
+apply_reply-requires-clause-window c =
+    let e = c.self.inside in
+    let drained = subst (λ (s : State). front_of s ≡ None) (sym c.self.view_is) c.requires.drained in
+    (c.reply_to_frame-reply.ensures.window e.ending (held_in e.window) c.least.ensures c.self.invariant.0.windowed drained).before
+
+pub invariant_of-self-else-is_record-2 : goal.invariant_of-self-else-is_record-2
+invariant_of-self-else-is_record-2 c =
+    let e = c.self.inside in
+    let f = c.self-else-is_record.inside in
+    let k = c.self-else-is_record.invariant.0 in
+    let reply = c.reply_to_frame-reply.ensures in
+    let holds = c.reply_to_frame-reply.result.holds in
+    let ending = c.reply_to_frame-reply.result.ending in
+    let i : Incoming = incoming_of c.classify.result in
+    let payload = payload_of (record { order = c.args.order; message = c.args.message.now }) in
+    let view = c.self-else-is_record.view_is ∙ c.apply_reply.ensures.applied in
+    let none : pending_in f ≡ None = subst (λ (t : State). t.pending ≡ None) (sym view) refl in
+    let drained = subst (λ (s : State). front_of s ≡ None) (sym c.self.view_is) c.requires.drained in
+    let behind = (reply.window e.ending (held_in e.window) c.least.ensures c.self.invariant.0.windowed drained).behind in
+    let alike = held_alike ending holds payload (payload_in i) (held_in e.window)
+    (λ some. (reply.goes_on some, payload_is c.args.order c.args.message.now i c.classify.ensures (reply.message some))) in
+    let fits = subst (λ (ms : List Numbered). Windowed e.config e.most c.reply_to_frame-reply.new.facts ending ms) (sym alike) behind in
+    let windowed = subst (λ (t : State). Windowed t.config t.most t.facts t.ending (held_with holds payload t.held)) (sym view) fits in (
+      record {
+        most = k.most;
+        facts = k.facts;
+        pending = k.pending;
+        serves = k.serves;
+        serves_then = k.serves_then;
+        applied = k.applied;
+        room = k.room;
+        start = k.start;
+        sent = k.sent;
+        received = k.received;
+        made = c.hold_message.ensures.made ∙ k.made;
+        awaits = c.hold_message.ensures.awaits;
+        windowed = subst (λ (ms : List Numbered). Windowed f.config f.most f.facts f.ending ms) (sym c.hold_message.ensures.held) windowed;
+        windowed_then = subst (λ (p : Option Outcome). IfSome p (λ o. Windowed f.config f.most o.next o.ending (held_until o.ending (held_in c.hold_message.new.window)))) (sym none) tt;
+        steps = λ _. subst (λ (p : Option Outcome). Steps f.facts.recorded.inbox_next p) (sym none) tt;
+        free = λ some. absurd (false≢true (subst (λ (p : Option Outcome). IsSome p) none some));
+        messages = subst (AllByRecursion (λ (m : Numbered). IsApplication m.payload)) (sym c.hold_message.ensures.held)
+            (all_with (λ (m : Numbered). IsApplication m.payload) holds payload (held_in f.window)
+            (λ n some. is_payload c.args.order c.args.message.now i c.classify.ensures c.requires.header c.requires.most (reply.message some)) k.messages);
+      },
+      c.self-else-is_record.invariant.1,
+    )
+
+pub invariant_of-self : goal.invariant_of-self
+invariant_of-self c =
+    let e = c.self.inside in
+    let k = c.self.invariant.0 in
+    let reply = c.reply_to_frame-reply.ensures in
+    let none : pending_in e ≡ None = subst (λ (s : State). s.pending ≡ None) (sym c.self.view_is) c.requires.done in
+    let first = subst (λ (s : State). 0 < s.room) (sym c.self.view_is) c.requires.room in
+    let drained = subst (λ (s : State). front_of s ≡ None) (sym c.self.view_is) c.requires.drained in (
+      record {
+        most = k.most;
+        facts = k.facts;
+        pending = reply.keeps;
+        serves = k.serves;
+        serves_then = reply.serves;
+        applied = k.applied;
+        room = omega (arith, k.room, first);
+        start = (let b = k.start in omega (arith, b, subst (λ (s : State). s.moment ≤ c.args.now) (sym c.self.view_is) c.requires.time.0));
+        sent = (let b = k.sent in omega (arith, b, subst (λ (s : State). s.moment ≤ c.args.now) (sym c.self.view_is) c.requires.time.0));
+        received = omega arith;
+        made = k.made;
+        awaits = k.awaits;
+        windowed = k.windowed;
+        windowed_then = (reply.window e.ending (held_in e.window) c.least.ensures k.windowed drained).before;
+        steps = λ some. reply.steps (sym k.made ∙ some);
+        free = λ some. drained;
+        messages = k.messages;
+      },
+      reply.small,
+    )

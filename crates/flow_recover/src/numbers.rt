@@ -2,13 +2,24 @@
 //! the one inside a retransmission. They hold no message, and are copied freely.
 
 ghost use Rattle.std.specs.Prelude.{◌≡◌, ◌+◌, ◌^◌, ◌<◌, ◌≤◌, ◌↔◌, IsOk, IfErr, IfSome, OnOk, OnErr};
-ghost use Rattle.flow_recover.specs.Receiving.{fresh, expected, announced, retransmitted, number, after_message, counted};
-ghost use Rattle.flow_window.specs.Receiving.{seen, gap, past};
+ghost use Rattle.flow_recover.specs.Receiving.{fresh, expected, announced, retransmitted, number, seen, after_message, past, gap, counted};
 
-use crate::window::REACH;
 use fixp_msgs::Range;
-use flow_recover::Back;
 use std::marker::Model;
+use thiserror::Error;
+
+/// How far past the number that the inbox waits for a message may lie, to be held.
+pub const REACH: u64 = 256;
+
+/// An announcement goes back: its number is below the one expected.
+#[derive(Clone, Copy, Debug, PartialEq, Eq, Error)]
+#[error("announced number {announced} is below {expected}")]
+pub struct Back {
+    /// The number announced.
+    pub announced: u64,
+    /// The least number that may be announced.
+    pub expected: u64,
+}
 
 /// What becomes of an application message, with its number.
 #[derive(Clone, Copy, Debug, PartialEq, Eq)]
