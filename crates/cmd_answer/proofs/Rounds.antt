@@ -305,8 +305,8 @@ broke-off cfg read wire out a b stands broken going end held lines place =
     let s = stage_after cfg stands.received in
     let reply = reply_to_bad_frame (around_place cfg s.place) s.facts in
     let same : reply_to_bad_frame (around a.end a.place 0) a.end.facts ≡ reply =
-    ap (λ (c : EndConfig). reply_to_bad_frame (record { config = c; most = a.end.most; at = a.place; moment = 0 }) a.end.facts) stands.config
-    ∙ ap (λ (m : ℕ). reply_to_bad_frame (record { config = cfg; most = m; at = a.place; moment = 0 }) a.end.facts) stands.most
+    ap (λ (c : EndConfig). reply_to_bad_frame (record { config = c; most = a.end.most; at = a.place; moment = 0; held = None }) a.end.facts) stands.config
+    ∙ ap (λ (m : ℕ). reply_to_bad_frame (record { config = cfg; most = m; at = a.place; moment = 0; held = None }) a.end.facts) stands.most
     ∙ ap (λ (t : Stage). reply_to_bad_frame (around_place cfg t.place) t.facts) (sym stands.stage) in
     let P : List ℕ → Type 0 = λ l. IsBroken (first_of l) in
     record {

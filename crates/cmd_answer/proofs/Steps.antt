@@ -1,6 +1,6 @@
 -- One more frame is answered.
-use Rattle.std.proofs.Common.{◌≡◌, ℕ, List, [], ◌∷◌, ◌++◌, map, drop, Vec, Global, Option, None, refl, sym, ap, subst, ◌∙◌, append_assoc}
-use Rattle.std.specs.Prelude.{is_some, if◌then◌else◌}
+use Rattle.std.proofs.Common.{◌≡◌, ℕ, List, [], ◌∷◌, ◌++◌, map, drop, Vec, Global, Option, Some, None, false, refl, sym, ap, subst, ◌∙◌, append_assoc, true≢false}
+use Rattle.std.specs.Prelude.{is_some, IfSome, if◌then◌else◌}
 use Rattle.std.specs.List.{AllByRecursion}
 use Rattle.std.proofs.lemmas.List.{map-append}
 use Rattle.std.proofs.lemmas.List.Sums.{fold-append}
@@ -9,13 +9,27 @@ use Rattle.sofh_frame.specs.Splits.{spelled_all}
 use Rattle.sofh_frame.specs.Buffered.{Buffered}
 use Rattle.sofh_frame.proofs.SplitLemmas.{spelled_all-push, AllByRecursion-push}
 use Rattle.fixp_shake.specs.declared.config.EndConfig.{EndConfig}
+use Rattle.fixp_shake.specs.Flows.{is_recoverable}
+use Rattle.fixp_replies.specs.declared.facts.Facts.{Facts}
+use Rattle.fixp_replies.specs.Facts.{Around}
+use Rattle.fixp_replies.specs.Incoming.{Incoming}
 use Rattle.fixp_replies.specs.Outcomes.{Outcome}
 use Rattle.fixp_replies.specs.Replies.{reply_of}
 use Rattle.fixp_machine.specs.Machine.{State, around, bytes_of}
+use Rattle.fixp_machine.specs.Sound.{MayHold}
+use Rattle.fixp_machine.proofs.Holding.{holding_goes_on}
 use Rattle.cmd_answer.specs.declared.acceptor.Acceptor.{Acceptor}
 use Rattle.cmd_answer.specs.Lines.{line_of}
 use Rattle.cmd_answer.specs.Answer.{Received, IsClassified, Stage, next_place, answered, next_stage, first_stage, stage_after, around_place}
 use Rattle.cmd_answer.specs.Progress.{AnswersOne, Stands}
+
+-- no message is held of a flow that is not recoverable
+pub plain_holds : (x : Around) (f : Facts) (i : Incoming) → is_recoverable x.config.peer_flow ≡ false → (reply_of x f i).holds ≡ None
+plain_holds x f i other = by_number (reply_of x f i).holds (holding_goes_on x f i (λ t. absurd (true≢false (sym t ∙ other)))).holds
+  where
+    by_number : (h : Option ℕ) → IfSome h (λ n. MayHold x.config x.most f (reply_of x f i) n) → h ≡ None
+    by_number None m = refl
+    by_number (Some n) m = absurd (true≢false (sym m.flow ∙ other))
 
 -- one more frame at the end
 pub stage_after-push : (cfg : EndConfig) (received : List Received) (h : Received) → stage_after cfg (received ++ h ∷ []) ≡ next_stage cfg (stage_after cfg received) h
@@ -51,7 +65,7 @@ stands-frame cfg read wire out old end framer lines place f size one begins held
     let P : List Frame → Type 0 = AllByRecursion IsFrame in
     let ended : end.ending ≡ o.ending = ap (λ (s : State). s.ending) one.state in
     let going_on : stage_after cfg stands.received ≡ stage_of wire out old = stands.stage in
-    let reply : reply_of (around_place cfg old.place) old.end.facts one.incoming ≡ o = rw (stands.config, stands.most) refl in
+    let reply : reply_of (around_place cfg old.place) old.end.facts one.incoming ≡ o = rw (stands.config, stands.most, one.unheld) refl in
     record {
       received = stands.received ++ h ∷ [];
       joins =

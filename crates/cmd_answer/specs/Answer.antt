@@ -42,9 +42,9 @@ acceptor_of s = record {
 abbrev pub first_facts : Facts
 first_facts = connecting (record { negotiated = false; inbox_next = 1; peer_last = None; sent = 0; finish = None }) Idle
 
--- what stands around the reply to what is found at this place; every moment is 0
+-- what stands around the reply to what is found at this place; every moment is 0, and nothing is held
 abbrev pub around_place : EndConfig → ℕ → Around
-around_place cfg place = record { config = cfg; most = greatest_number; at = place; moment = 0 }
+around_place cfg place = record { config = cfg; most = greatest_number; at = place; moment = 0; held = None }
 
 -- a frame of the input, and its message, classified
 pub record Received : Type 0 where

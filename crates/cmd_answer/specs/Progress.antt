@@ -1,9 +1,10 @@
 -- How far `answer` has come in the middle of its input.
-use Rattle.std.specs.Prelude.{◌≡◌, ℕ, ◌-◌, ◌*◌, ◌≤◌, true, List, [], ◌++◌, length, map, None, IsSome}
+use Rattle.std.specs.Prelude.{◌≡◌, ℕ, ◌-◌, ◌*◌, ◌≤◌, true, false, List, [], ◌++◌, length, map, None, IsSome}
 use Rattle.std.specs.List.{AllByRecursion}
 use Rattle.sofh_frame.specs.Framing.{Frame, IsFrame, First, frame, rest, bad_length, bad_encoding, first_of}
 use Rattle.sofh_frame.specs.Splits.{spelled_all}
 use Rattle.fixp_shake.specs.declared.config.EndConfig.{EndConfig}
+use Rattle.fixp_shake.specs.Flows.{is_recoverable}
 use Rattle.fixp_replies.specs.Incoming.{Incoming, IsIncoming}
 use Rattle.fixp_replies.specs.Replies.{reply_of, reply_to_bad_frame}
 use Rattle.fixp_machine.specs.Machine.{State, fresh, connected, around, reply_applied, bytes_of}
@@ -20,13 +21,14 @@ pub record IsNew (cfg : EndConfig) (a : Acceptor) : Type 0 where
   pub lines : a.lines.items ≡ []
   pub place : a.place ≡ 0
 
--- an end that may be given a frame: its connection is open, and no act is still to be done
+-- an end that may be given a frame: its connection is open, no act is still to be done, and its peer's flow has no gaps
 pub record IsReady (end : State) : Type 0 where
   pub begun : end.begun ≡ true
   pub going : end.ending ≡ None
   pub done : end.pending ≡ None
   pub moment : end.moment ≡ 0
   pub credentials : length end.config.credentials ≤ 2048
+  pub flow : is_recoverable end.config.peer_flow ≡ false
 
 -- an acceptor whose end is so
 abbrev pub IsOpen : Acceptor → Type 0
@@ -36,10 +38,11 @@ IsOpen a = IsReady a.end
 abbrev pub replies_limit : ℕ → ℕ
 replies_limit frames = 2304 * frames
 
--- One frame was answered by the reply table, and its line added.
+-- One frame was answered by the reply table, where nothing was held, and its line added.
 pub record AnswersOne (old new : State) (lines added : List ℕ) (f : Frame) (place : ℕ) : Type 0 where
   pub incoming : Incoming
   pub is : IsIncoming f.order f.message incoming
+  pub unheld : old.held ≡ []
   pub state : new ≡ reply_applied (record old { moment = 0; last_received = 0; room = old.room - 1 }) (reply_of (around old place 0) old.facts incoming) 0
   pub line : added ≡ lines ++ line_of (reply_of (around old place 0) old.facts incoming).act f
 

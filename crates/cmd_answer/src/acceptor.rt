@@ -112,6 +112,7 @@ fn answer_frame(
     ensures answered { OnOk result (AnswersOne end.old end.new lines.old.items lines.new.items (record { order = order; message = message.now }) place) }
     ensures small { OnOk result (length end.new.unsent ≤ length end.old.unsent + replies_limit 1) }
 {
+    end.windowed();
     let act = end.on_frame(order, message, place, 0);
     push_line(lines, act, order, message)?;
     if act.is_record() {
@@ -220,6 +221,7 @@ impl Acceptor {
         let step = self.take_frames()?;
         match step {
             Step::Broken => {
+                self.end.windowed();
                 self.end.on_bad_frame(self.place, 0);
                 Ok(Step::Broken)
             }

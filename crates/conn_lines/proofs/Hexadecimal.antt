@@ -7,7 +7,7 @@ use Rattle.sofh_frame.specs.Framing.{encoding_of}
 use Rattle.fixp_msgs.specs.Numbering.{payload_of}
 use Rattle.hex.specs.Hex.{encode_with, encode_lower, lower_digits}
 
-encode_with-append : (t xs ys : List ℕ) → encode_with t (xs ++ ys) ≡ encode_with t xs ++ encode_with t ys
+pub encode_with-append : (t xs ys : List ℕ) → encode_with t (xs ++ ys) ≡ encode_with t xs ++ encode_with t ys
 unfolding encode_with
 encode_with-append t [] ys = refl
 encode_with-append t (x ∷ xs) ys = ap (λ (rest : List ℕ). slice_index t (x / 16) ∷ slice_index t (x % 16) ∷ rest) (encode_with-append t xs ys)

@@ -21,17 +21,29 @@ fn encoding_digits(order: Order) -> &'static [u8]
     }
 }
 
+/// The most bytes that are made text at once.
+const PART: usize = 1 << 20;
+
+/// Adds bytes of any length in lower-case hexadecimal.
+fn push_parts(lines: &mut Vec<u8>, bytes: &[u8]) -> Result<(), AllocError>
+    ensures added { OnOk result (lines.new.items ≡ lines.old.items ++ encode_lower bytes.now) }
+{
+    for part in bytes.chunks(PART) {
+        push_hex(lines, part)?;
+    }
+    Ok(())
+}
+
 /// Adds the line of a message that is applied under a number.
 ///
 /// # Errors
 /// Want of memory.
 pub fn push_deliver_line(lines: &mut Vec<u8>, number: u64, payload: &[u8]) -> Result<(), AllocError>
-    requires short { length payload.now ≤ 2 ^ 20 }
     ensures added { OnOk result (lines.new.items ≡ lines.old.items ++ deliver_line number payload.now) }
 {
     push_number(lines, b"deliver ", number)?;
     lines.extend_from_slice(b" ")?;
-    push_hex(lines, payload)?;
+    push_parts(lines, payload)?;
     lines.extend_from_slice(b"\n")
 }
 

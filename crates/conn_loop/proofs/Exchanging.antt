@@ -4,7 +4,7 @@ use Rattle.std.specs.Prelude.{IsSome, ◌⊎◌, ◌≢◌, OnOk, IfOk, IfErr}
 use Rattle.gw_links.specs.Links.{LinkTold, Carried, Moved}
 use Rattle.gw_links.specs.declared.link.Got.{Got}
 use Rattle.gw_links.proofs.Moving.{moved_more}
-use Rattle.fixp_machine.specs.Machine.{State}
+use Rattle.fixp_machine.specs.Machine.{State, front_of}
 use Rattle.jr_dated.specs.declared.journal.Journal.{Ghosts}
 use Rattle.jr_kept.specs.declared.inbox.Inbox.{Inbox}
 use Rattle.fixp_replies.specs.declared.act.Ending.{Ending}
@@ -60,12 +60,12 @@ pub loss_goes : (old new : State) (r : Result TurnEnd TurnFault) → IsLossOf ol
 loss_goes old new r h e = goes_on new.ending (subst (λ (x : Result TurnEnd TurnFault). IsLossOf old new x) e h).0
 
 pub goes_after : (now : ℕ) (mid new : State) (p : Part) → MayServe mid now 5000000 p → now < 17592186044416 → KeepsAll mid new mid.moment → new.facts ≡ mid.facts → length new.unsent ≤ length mid.unsent
-    → (new.ending ≡ None → mid.ending ≡ None) → (mid.ending ≡ None → mid.facts.connection.serving ≡ None) → (mid.ending ≡ None → mid.untold ≡ []) → new.ending ≡ None → GoesOn new
-goes_after now mid new p s limit k facts little goes unserved untold none = record {
+    → (new.ending ≡ None → mid.ending ≡ None) → (mid.ending ≡ None → mid.untold ≡ []) → new.ending ≡ None → GoesOn new
+goes_after now mid new p s limit k facts little goes untold none = record {
   begun = k.begun ∙ s.begun;
   unended = none;
   done = k.done s.done;
-  free = ap (λ (f : Facts). f.connection.serving) facts ∙ unserved (goes none);
+  drained = k.drained s.drained;
   untold = k.untold ∙ untold (goes none);
   unsent = omega (arith, little, s.little);
   time = omega (arith, k.time (omega arith), s.time, limit);
@@ -74,13 +74,13 @@ goes_after now mid new p s limit k facts little goes unserved untold none = reco
 }
 
 -- the same of a turn that only sent
-pub goes_still : (now : ℕ) (old l new : State) → GoesOn old → now < 17592186044416 → l.begun ≡ true → l.pending ≡ None → l.untold ≡ [] → l.moment ≡ now → l.config ≡ old.config → l.facts ≡ old.facts
+pub goes_still : (now : ℕ) (old l new : State) → GoesOn old → now < 17592186044416 → l.begun ≡ true → l.pending ≡ None → front_of l ≡ None → l.untold ≡ [] → l.moment ≡ now → l.config ≡ old.config → l.facts ≡ old.facts
     → (l.ending ≡ None → length l.unsent ≤ length old.unsent) → KeepsAll l new l.moment → new.facts ≡ l.facts → length new.unsent ≤ length l.unsent → (new.ending ≡ None → l.ending ≡ None) → new.ending ≡ None → GoesOn new
-goes_still now old l new g limit begun done untold moment config facts small k same little goes none = record {
+goes_still now old l new g limit begun done drained untold moment config facts small k same little goes none = record {
   begun = k.begun ∙ begun;
   unended = none;
   done = k.done done;
-  free = ap (λ (f : Facts). f.connection.serving) (same ∙ facts) ∙ g.free;
+  drained = k.drained drained;
   untold = k.untold ∙ untold;
   unsent = omega (arith, little, small (goes none), g.unsent);
   time = omega (arith, k.time (omega arith), moment, limit);

@@ -1,5 +1,5 @@
 -- What stays of a live end, over calls one after another.
-use Rattle.std.proofs.Common.{◌≡◌, ◌≤◌, refl, ◌∙◌, arith}
+use Rattle.std.proofs.Common.{refl, ◌∙◌, arith}
 use Rattle.gw_links.specs.declared.clock.Clock.{Ghosts as ClockGhosts}
 use Rattle.jr_dated.specs.declared.journal.Journal.{Ghosts}
 use Rattle.conn_steps.proofs.Inboxes.{kind_self, kind_on}

@@ -1,21 +1,23 @@
 -- Calls of the machine in a turn.
-use Rattle.std.proofs.Common.{◌≡◌, ◌≤◌, ◌+◌, ◌-◌, ◌&&◌, not, eq-eqb, ℕ, Bool, true, false, if◌then◌else◌, List, [], length, Option, Some, None, refl, sym, ap, subst, ◌∙◌, true≢false}
+use Rattle.std.proofs.Common.{◌≡◌, ◌≤◌, ◌&&◌, not, ℕ, Bool, true, false, if◌then◌else◌, List, [], length, drop, Option, Some, None, refl, sym, ap, subst, ◌∙◌, true≢false}
 use Rattle.std.specs.Prelude.{◌≢◌, is_some, is_none, IfSome, IfNone}
 use Rattle.fixp_msgs.specs.declared.numbering.Range.{Range}
 use Rattle.fixp_replies.specs.declared.act.Ending.{Ending}
+use Rattle.fixp_replies.specs.declared.facts.EndState.{EndState}
 use Rattle.fixp_replies.specs.declared.act.Ending.TheVariants as endings
 use Rattle.fixp_replies.specs.Facts.{finishes_exchanged}
 use Rattle.fixp_replies.specs.Events.{link_ending, turn_ended, outbox_finished, finish_told}
 use Rattle.flow_idem.specs.Runs.{runs_of}
+use Rattle.session_model.specs.Inbox.{Numbered}
 use Rattle.session_model.specs.Journal.{History, BeginsHistory}
+use Rattle.flow_window.specs.Window.{front}
 use Rattle.fixp_shake.specs.declared.config.EndConfig.{EndConfig}
 use Rattle.fixp_shake.specs.Flows.{is_absent}
 use Rattle.fixp_shake.specs.Phases.{is_established}
 use Rattle.gate_turn.specs.Views.{Part}
 use Rattle.conn_turns.specs.Turns.{served_now, sends_live, finish_of}
-use Rattle.fixp_end.proofs.Begun.{begun_free}
 use Rattle.conn_loop.specs.Conn.{HasSeen}
-use Rattle.fixp_machine.specs.Machine.{State, around, made, connected, sent_again, served_again, link_ended, after_turn, after_closed, rest_of}
+use Rattle.fixp_machine.specs.Machine.{State, around, made, connected, front_of, sent_again, served_again, link_ended, after_bad_frame, after_turn, after_closed}
 
 -- a range that is served was sent again
 pub again_is : (old new : State) (p : Option Range) (r : Range) (payloads others : List (List ℕ)) (now : ℕ) → p ≡ Some r → payloads ≡ others → IfSome p (λ x. new ≡ sent_again old x payloads now)
@@ -24,7 +26,7 @@ again_is old new None r payloads others now some same h = absurd (true≢false (
 again_is old new (Some x) r payloads others now some same h = h ∙ ap (λ (ps : List (List ℕ)). sent_again old x ps now) same
 
 abbrev link_as : State → Option Ending → State
-link_as s o = if is_some o then s else record s { ending = Some (link_ending (around s 0 s.moment) s.facts); pending = None }
+link_as s o = if is_some o then s else record s { ending = Some (link_ending (around s 0 s.moment) s.facts); pending = None; held = [] }
 
 -- the end of a link leaves what is unsent, and what is still to be told
 pub link_keeps : (s : State) → ((link_ended s).unsent ≡ s.unsent) × ((link_ended s).untold ≡ s.untold) × (s.pending ≡ None → (link_ended s).pending ≡ None)
@@ -73,9 +75,41 @@ closed_keeps s last now = by_case (is_some s.ending)
     by_case true = refl
     by_case false = refl
 
--- nothing is left of a range that was sent again whole
-pub rest_none : (r : Range) (n : ℕ) → n ≡ r.count → rest_of r n ≡ None
-rest_none r n e = ap (λ (b : Bool). if b then None else Some (record { from = r.from + n; count = r.count - n })) (eq-eqb r.count n (sym e))
+-- no held message comes to be awaited as bytes come that are no frame, a link ends, a turn ends, or the outbox's finish is told
+pub bad_drained : (s : State) (at now : ℕ) → front_of (after_bad_frame s at now) ≡ None
+bad_drained s at now = refl
+
+pub link_drained : (s : State) → front_of s ≡ None → front_of (link_ended s) ≡ None
+link_drained s none = by_case s.ending
+  where
+    by_case : (o : Option Ending) → front_of (link_as s o) ≡ None
+    by_case None = refl
+    by_case (Some e) = none
+
+pub turn_drained : (s n : State) (now : ℕ) → n ≡ after_turn s now → n.facts.recorded ≡ s.facts.recorded → front_of s ≡ None → front_of n ≡ None
+turn_drained s n now is recorded none =
+    ap (λ (r : EndState). front r.inbox_next n.held) recorded
+    ∙ (ap (λ (ms : List Numbered). front s.facts.recorded.inbox_next ms) (ap (λ (t : State). t.held) is ∙ by_case (is_some s.ending)) ∙ none)
+  where
+    by_case : (b : Bool) → (turn_as s now b).held ≡ s.held
+    by_case true = refl
+    by_case false = refl
+
+pub closed_drained : (s n : State) (last now : ℕ) → n ≡ after_closed s last now → n.facts.recorded ≡ record s.facts.recorded { finish = Some last } → front_of s ≡ None → front_of n ≡ None
+closed_drained s n last now is recorded none =
+    ap (λ (r : EndState). front r.inbox_next n.held) recorded
+    ∙ (ap (λ (ms : List Numbered). front s.facts.recorded.inbox_next ms) (ap (λ (t : State). t.held) is ∙ by_case (is_some s.ending)) ∙ none)
+  where
+    by_case : (b : Bool) → (closed_as s last now b).held ≡ s.held
+    by_case true = refl
+    by_case false = refl
+
+-- nor as bytes are taken by the link, or a connection begins
+pub taken_drained : (s n : State) (count : ℕ) → n ≡ record s { unsent = drop count s.unsent } → front_of s ≡ None → front_of n ≡ None
+taken_drained s n count is none = ap front_of is ∙ none
+
+pub begun_drained : (s : State) (now : ℕ) → front_of (connected s now) ≡ None
+begun_drained s now = refl
 
 -- the finish that is told depends on the own flow alone
 pub finish_same : (m n : State) (h : History) → n.config ≡ m.config → finish_of n h ≡ finish_of m h
@@ -128,7 +162,3 @@ link_ends s unended unfinished = by_case s.ending unended unfinished
     by_case : (o : Option Ending) → o ≡ None → (link_as s o).ending ≢ Some endings.Finished → (link_as s o).ending ≡ Some endings.LinkEnded
     by_case None e unfinished = by_finishes (finishes_exchanged (around s 0 s.moment) s.facts) unfinished
     by_case (Some x) e unfinished = absurd (cc)
-
--- nothing is served as a connection begins
-pub begun_serves : (s : State) (now : ℕ) → (connected s now).facts.connection.serving ≡ None
-begun_serves s now = begun_free (around s 0 now) s.facts

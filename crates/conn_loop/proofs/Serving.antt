@@ -1,9 +1,11 @@
 -- The outbox is served: what it was sent again, what live, and its finish.
-use Rattle.std.proofs.Common.{◌≡◌, ℕ, ◌<◌, length, List, ◌++◌, Option, None, refl, sym, ap, subst, ◌∙◌}
+use Rattle.std.proofs.Common.{◌≡◌, ℕ, ◌<◌, if◌then◌else◌, length, List, ◌++◌, Option, Some, None, refl, sym, ap, subst, ◌∙◌}
+use Rattle.std.specs.Prelude.{is_some}
 use Rattle.session_model.specs.Journal.{History, BeginsHistory}
+use Rattle.fixp_msgs.specs.declared.numbering.Range.{Range}
 use Rattle.fixp_machine.specs.Machine.{State, Call, run}
 use Rattle.conn_turns.specs.Lines.{Line}
-use Rattle.conn_turns.specs.Turns.{again_calls, live_calls, finish_calls, served_of, served_now, live_of, finish_of}
+use Rattle.conn_turns.specs.Turns.{again_calls, live_calls, finish_calls, served_of, served_now, live_of, live_beside, finish_of}
 use Rattle.conn_turns.specs.Exact.{IsAsDue}
 use Rattle.conn_turns.proofs.Taking.{run_append}
 use Rattle.conn_steps.proofs.Following.{line_is}
@@ -14,9 +16,16 @@ use Rattle.conn_turns.specs.declared.answer.TurnFault.{TurnFault}
 use Rattle.conn_loop.specs.Serving.{SentDue, ServedOutbox, BlamesPass, fault_of}
 use Rattle.conn_loop.proofs.Machine.{finish_same}
 
+-- live entries are due unless a range is served
+beside_is : (serving : Option Range) (h : History) (sent due : Option (List (List ℕ))) → IsAsDue (served_of serving h) sent → (if is_some serving then None else due) ≡ live_beside sent due
+beside_is None h None due fits = refl
+beside_is None h (Some ps) due fits = absurd fits
+beside_is (Some r) h None due fits = absurd fits
+beside_is (Some r) h (Some ps) due fits = refl
+
 pub served_outbox : (tells : Type 0) (now : ℕ) (h first last : History) (old one two new : Line) → BeginsHistory h first → BeginsHistory first last
     → SentDue tells (served_of (served_now old.machine) first) (again_calls now) old one
-    → SentDue tells (live_of one.machine last) (live_calls now) one two
+    → SentDue tells (if is_some (served_now old.machine) then None else live_of one.machine last) (live_calls now) one two
     → new ≡ record two { machine = run two.machine (finish_calls now (finish_of one.machine last)) }
     → one.machine.config ≡ old.machine.config → ServedOutbox tells now h last old new
 served_outbox tells now h first last old one two new begins goes_on again live finish config =
@@ -25,11 +34,12 @@ served_outbox tells now h first last old one two new begins goes_on again live f
     let more = live.sent in
     let told = finish_of old.machine last in
     let here : one.machine ≡ m = ap (λ (l : Line). l.machine) again.line in
-    let due : live_of one.machine last ≡ live_of m last = ap (λ (s : State). live_of s last) here in
+    let due : (if is_some (served_now old.machine) then None else live_of one.machine last) ≡ live_beside sent (live_of m last)
+    = beside_is (served_now old.machine) first sent (live_of one.machine last) again.as_due ∙ ap (λ (s : State). live_beside sent (live_of s last)) here in
     let there : two.machine ≡ run m (live_calls now more) = ap (λ (l : Line). l.machine) live.line ∙ ap (λ (s : State). run s (live_calls now more)) here in
     record {
       due_again = served_of (served_now old.machine) first;
-      due_live = live_of m last;
+      due_live = live_beside sent (live_of m last);
       again = sent;
       live = more;
       finish = told;

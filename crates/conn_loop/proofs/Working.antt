@@ -1,6 +1,7 @@
 -- The work of a turn, put together from its steps.
-use Rattle.std.proofs.Common.{◌≡◌, ◌≤◌, ℕ, true, false, List, [], ◌∷◌, ◌++◌, length, Option, Some, None, refl, sym, ap, subst, ◌∙◌, arith}
+use Rattle.std.proofs.Common.{◌≡◌, ◌≤◌, ℕ, true, false, List, [], ◌∷◌, ◌++◌, length, Option, Some, None, refl, sym, ap, subst, ◌∙◌, arith, append-nil}
 use Rattle.std.specs.Prelude.{IfSome}
+use Rattle.session_model.specs.Inbox.{InboxRecord}
 use Rattle.session_model.specs.Journal.{History}
 use Rattle.fixp_machine.specs.Machine.{State, Call, turn_done, run}
 use Rattle.jr_dated.specs.declared.journal.Journal.{Ghosts}
@@ -13,9 +14,11 @@ use Rattle.conn_turns.specs.declared.news.NewsItem.{NewsItem}
 use Rattle.conn_turns.specs.declared.answer.TurnFault.{TurnFault}
 use Rattle.conn_turns.specs.declared.answer.TurnFault.TheVariants as faults
 use Rattle.conn_turns.specs.Lines.{Line, lines_after}
-use Rattle.conn_turns.specs.Frames.{IsDone, adds, added, unframed_at, is_link_over}
-use Rattle.conn_turns.specs.Turns.{bad_calls, end_calls, again_calls, live_calls, finish_calls, served_of, served_now, live_of, finish_of, calls_of_frames}
+use Rattle.conn_turns.specs.Frames.{IsDone, added, told, unframed_at, is_link_over}
+use Rattle.conn_turns.specs.Turns.{bad_calls, end_calls, again_calls, live_calls, finish_calls, served_of, served_now, live_of, live_beside, finish_of, calls_of_frames}
+use Rattle.conn_turns.specs.Refusals.{stood, refused}
 use Rattle.conn_turns.proofs.Taking.{run_append, frames_make_calls}
+use Rattle.conn_steps.specs.Settling.{Gains}
 use Rattle.conn_steps.specs.Agreeing.{Agrees}
 use Rattle.conn_steps.specs.Taking.{TookFrames, CutFrames, OfInbox, refused_by}
 use Rattle.conn_steps.proofs.Rooms.{refuses_none, gains_at, refuses_at}
@@ -58,7 +61,7 @@ module _ {J : Type 0} {G : Ghosts J} where
       let l : Line = lines_after now old t.frames in
       let many : ℕ = length t.frames in
       let same : mid ≡ l = t.line in
-      let told : closed.machine ≡ run l.machine (ends_at now many l)
+      let closing : closed.machine ≡ run l.machine (ends_at now many l)
       = ap (λ (x : Line). x.machine) closes ∙ (ap (λ (x : Line). run x.machine (ends_at now count x)) same ∙ ap (λ (k : ℕ). run l.machine (ends_at now k l)) (sym t.many)) in
       let outbox : List Call = again_calls now s.again ++ (live_calls now s.live ++ finish_calls now s.finish) in
       record {
@@ -88,16 +91,16 @@ module _ {J : Type 0} {G : Ghosts J} where
           last = subst (λ (k : ℕ). IsDone k l) (sym t.many) (subst (λ (x : Line). IsDone count x) same last.0);
           broken = refl;
           link_over = refl;
-          due_again = s.due_again_is ∙ ap (λ (m : State). served_of (served_now m) s.at_again) told;
-          due_live = s.due_live_is ∙ ap (λ (m : State). live_of (run m (again_calls now s.again)) seen) told;
+          due_again = s.due_again_is ∙ ap (λ (m : State). served_of (served_now m) s.at_again) closing;
+          due_live = s.due_live_is ∙ ap (λ (m : State). live_beside s.again (live_of (run m (again_calls now s.again)) seen)) closing;
           again = s.again_is;
           live = s.live_is;
-          finish = s.finish_is ∙ ap (λ (m : State). finish_of m seen) told;
+          finish = s.finish_is ∙ ap (λ (m : State). finish_of m seen) closing;
           seen_again = s.seen_again;
           seen_live = s.seen_live;
           seen_finish = begins_self seen;
           seen = refl;
-          machine = ap (λ (x : Line). x.machine) s.line ∙ (ap (λ (m : State). run m outbox) told
+          machine = ap (λ (x : Line). x.machine) s.line ∙ (ap (λ (m : State). run m outbox) closing
               ∙ (ap (λ (m : State). run (run m (ends_at now many l)) outbox) (frames_make_calls now old t.frames)
               ∙ (sym (run_append (run old.machine (calls_of_frames now t.frames)) (ends_at now many l) outbox)
               ∙ sym (run_append old.machine (calls_of_frames now t.frames) (ends_at now many l ++ outbox)))));
@@ -127,10 +130,11 @@ module _ {J : Type 0} {G : Ghosts J} where
     frames = c.frames;
     few = c.few;
     taken = c.taken;
-    refused = c.refused;
-    next = c.next;
+    refusal = c.refusal;
+    is = c.is;
     line = c.line;
-    refuses = refuses_at box raised after (added now old c.frames) (refused_by fault (adds now (lines_after now old c.frames) c.refused)) same c.refuses;
+    refuses = refuses_at box raised after (added now old c.frames ++ stood now (lines_after now old c.frames) c.refusal)
+        (refused_by fault (refused now (lines_after now old c.frames) c.refusal)) same c.refuses;
     past = c.past;
     recorded = c.recorded;
     news_are = c.news_are;
@@ -146,15 +150,15 @@ module _ {J : Type 0} {G : Ghosts J} where
     peer_last = same.peer_last ∙ a.peer_last;
   }
 
-  -- cut at a frame whose act was refused
+  -- cut at a frame of which something was refused
   pub cut_at_frame : (now : ℕ) (old new : Line) (box after : Inbox J G) (news later : List NewsItem) (fault : TurnFault) → OfInbox fault → CutFrames now (taking_end old box news) (taking_end new after later) fault
       → CutShort now old box after news later fault
   cut_at_frame now old new box after news later fault of_inbox c = record {
     frames = c.frames;
     few = omega (arith, c.few);
     taken = c.taken;
-    refused = Some c.refused;
-    next = c.next;
+    refusal = Some c.refusal;
+    is = c.is;
     refuses = c.refuses;
     past = c.past;
     recorded = c.recorded;
@@ -169,11 +173,11 @@ module _ {J : Type 0} {G : Ghosts J} where
     frames = t.frames;
     few = omega (arith, t.many, few);
     taken = t.taken;
-    refused = None;
-    next = tt;
-    refuses = refuses_none box after (added now old t.frames) t.gains;
+    refusal = None;
+    is = tt;
+    refuses = refuses_none box after (added now old t.frames ++ []) (subst (λ (rs : List InboxRecord). Gains box after rs) (sym (append-nil (added now old t.frames))) t.gains);
     past = λ entries bytes e. absurd (never_full entries bytes e);
     recorded = tt;
     of_inbox = tt;
-    news_are = t.news_are;
+    news_are = t.news_are ∙ ap (λ (ns : List NewsItem). news ++ ns) (sym (append-nil (told now old t.frames)));
   }

@@ -1,7 +1,7 @@
 -- A connection in the code, as a line; its beginning, and its end by a cut (this project's profile).
 use Rattle.std.specs.Prelude.{◌≡◌, ℕ, ◌+◌, ◌^◌, ◌<◌, ◌≤◌, true, false, [], ◌∷◌, length, Option, Some, None, IfSome, Result, Ok}
 use Rattle.fixp_replies.specs.declared.act.Ending.{Ending}
-use Rattle.fixp_machine.specs.Machine.{State, begin, link_end, taken, run}
+use Rattle.fixp_machine.specs.Machine.{State, front_of, begin, link_end, taken, run}
 use Rattle.session_model.specs.Journal.{BeginsHistory}
 use Rattle.fixp_replies.specs.Outgoing.{reply_limit}
 use Rattle.fixp_shake.specs.Flows.{is_absent}
@@ -28,13 +28,13 @@ line_begun l now = record { machine = run l.machine (begin now ∷ []); held = [
 abbrev pub line_cut : Line → Line
 line_cut l = record l { machine = run l.machine (taken (length l.machine.unsent) ∷ link_end ∷ []); held = [] }
 
--- Between two turns a connection goes on: it was begun and has not ended, no act is still to be done, no range is served, nothing
--- is still to be told, what is unsent is what a machine can hold, and a moment may follow
+-- Between two turns a connection goes on: it was begun and has not ended, no act is still to be done, no held message is to be applied
+-- first, nothing is still to be told, what is unsent is what a machine can hold, and a moment may follow
 pub record GoesOn (m : State) : Type 0 where
   pub begun : m.begun ≡ true
   pub unended : m.ending ≡ None
   pub done : m.pending ≡ None
-  pub free : m.facts.connection.serving ≡ None
+  pub drained : front_of m ≡ None
   pub untold : m.untold ≡ []
   pub unsent : length m.unsent ≤ 5100000
   pub time : m.moment < 2 ^ 44
@@ -46,11 +46,12 @@ pub record HasSeen (m : State) (p : Part) : Type 0 where
   pub entries : m.facts.recorded.sent ≤ length p.seen.made
   pub finish : IfSome m.facts.recorded.finish (λ n. (p.seen.finished ≡ true) × (length p.seen.made ≡ n))
 
--- between two calls of a turn nothing else changed: no act is pending that was not, the same is recorded and still to be told, no
--- moment lies ahead, and little more is unsent
+-- between two calls of a turn nothing else changed: no act is pending that was not, and no held message to be applied, the same is
+-- recorded and still to be told, no moment lies ahead, and little more is unsent
 pub record KeepsAll (old new : State) (now : ℕ) : Type 0 where
   pub begun : new.begun ≡ old.begun
   pub done : old.pending ≡ None → new.pending ≡ None
+  pub drained : front_of old ≡ None → front_of new ≡ None
   pub config : new.config ≡ old.config
   pub most : new.most ≡ old.most
   pub recorded : new.facts.recorded ≡ old.facts.recorded
@@ -58,11 +59,12 @@ pub record KeepsAll (old new : State) (now : ℕ) : Type 0 where
   pub unsent : length new.unsent ≤ length old.unsent + reply_limit old.config
   pub untold : new.untold ≡ old.untold
 
--- the machine may serve the outbox: it was begun, nothing is pending, no moment lies ahead, so much is unsent, and the pass has
--- seen what was sent
+-- the machine may serve the outbox: it was begun, nothing is pending, no held message is to be applied first, no moment lies ahead, so
+-- much is unsent, and the pass has seen what was sent
 pub record MayServe (m : State) (now unsent : ℕ) (p : Part) : Type 0 where
   pub begun : m.begun ≡ true
   pub done : m.pending ≡ None
+  pub drained : front_of m ≡ None
   pub time : m.moment ≤ now
   pub credentials : length m.config.credentials ≤ 2048
   pub little : length m.unsent ≤ unsent

@@ -6,7 +6,6 @@ use Rattle.gw_links.specs.declared.link.Got.{Got}
 use Rattle.gw_links.specs.Links.{Moved}
 use Rattle.session_model.specs.Inbox.{InboxRecord}
 use Rattle.session_model.specs.Journal.{History}
-use Rattle.fixp_replies.specs.Acts.{is_record}
 use Rattle.fixp_machine.specs.Machine.{State, link_end, run}
 use Rattle.jr_dated.specs.declared.journal.Journal.{Ghosts}
 use Rattle.jr_kept.specs.declared.inbox.Inbox.{Inbox}
@@ -15,9 +14,10 @@ use Rattle.conn_turns.specs.declared.news.NewsItem.{NewsItem}
 use Rattle.conn_turns.specs.declared.answer.TurnEnd.{TurnEnd}
 use Rattle.conn_turns.specs.declared.answer.TurnFault.{TurnFault}
 use Rattle.conn_turns.specs.declared.answer.TurnFault.TheVariants as faults
-use Rattle.conn_turns.specs.Lines.{Line, TakenFrame, IsNext, AreTaken, reply_at, lines_after}
-use Rattle.conn_turns.specs.Frames.{adds, added, told}
-use Rattle.conn_turns.specs.Turns.{Work, works, IsFaithful, first_calls, sending_calls, is_end}
+use Rattle.conn_turns.specs.Lines.{Line, TakenFrame, AreTaken, lines_after}
+use Rattle.conn_turns.specs.Frames.{added, told}
+use Rattle.conn_turns.specs.Turns.{Work, Refusal, works, IsFaithful, first_calls, sending_calls, is_end}
+use Rattle.conn_turns.specs.Refusals.{IsRefused, IsOfRecord, stood, told_before, refused}
 use Rattle.conn_turns.specs.Exact.{Served, Received, line_ticked, most_held}
 use Rattle.conn_steps.specs.Ends.{TakingEnd}
 use Rattle.conn_steps.specs.Settling.{IsPast, Gains, Refuses}
@@ -28,15 +28,23 @@ use Rattle.conn_loop.specs.Conn.{HasSeen, answer_of}
 use Rattle.conn_loop.specs.Live.{EndAt}
 use Rattle.conn_loop.specs.Moving.{ReceivedOnce, SentOnce, IsLossOf}
 
--- what a stop may leave of what the act of a frame would have added that was refused, if one was
-abbrev pub refused_of : TurnFault → ℕ → Line → Option TakenFrame → List InboxRecord
-refused_of fault now l None = []
-refused_of fault now l (Some t) = refused_by fault (adds now l t)
+-- the records that stood before what was refused, if something was, and what was told of them
+abbrev pub stood_of : ℕ → Line → Option Refusal → List InboxRecord
+stood_of now l None = []
+stood_of now l (Some r) = stood now l r
 
--- all that the act of that frame would have added, if one was refused
-abbrev pub wanted_of : ℕ → Line → Option TakenFrame → List InboxRecord
+abbrev pub told_of : ℕ → Line → Option Refusal → List NewsItem
+told_of now l None = []
+told_of now l (Some r) = told_before now l r
+
+-- all records that were refused; and what a stop may leave of them
+abbrev pub wanted_of : ℕ → Line → Option Refusal → List InboxRecord
 wanted_of now l None = []
-wanted_of now l (Some t) = adds now l t
+wanted_of now l (Some r) = refused now l r
+
+abbrev pub refused_of : TurnFault → ℕ → Line → Option Refusal → List InboxRecord
+refused_of fault now l None = []
+refused_of fault now l (Some r) = refused_by fault (refused now l r)
 
 -- the line with these bytes received behind those held, and whether its link has given its end
 abbrev pub received_on : Line → List ℕ → (over : Bool) → Line
@@ -57,21 +65,23 @@ module _ {J : Type 0} {G : Ghosts J} where
     pub gains : Gains old.box new.box (added now old.line work.frames)
     pub news_are : new.news ≡ old.news ++ told now old.line work.frames
 
-  -- a turn was cut short behind frames: by the act of the one behind them, which was refused, or by the outbox. The inbox gained
-  -- what is theirs, and a stop may leave of the refused one what its fault may. At Full there is one, whose record the journal has no
-  -- room for; its act is a record, unless memory ran out; and where there is one the fault is not the link's nor the outbox's
+  -- A turn was cut short behind frames: by what was refused of the one behind them, its act or a held message, or by the outbox. The inbox
+  -- gained what is theirs and what stood before the refusal, and a stop may leave of what was refused what its fault may. At Full that is a
+  -- record which the journal has no room for; it is one anyhow, unless memory ran out; and where something was refused the fault is not the
+  -- link's nor the outbox's
   pub record CutShort (now : ℕ) (l : Line) (box box' : Inbox J G) (news news' : List NewsItem) (fault : TurnFault) : Type 0 where
     pub frames : List TakenFrame
     pub few : length frames ≤ 16
     pub taken : AreTaken now l frames
-    pub refused : Option TakenFrame
-    pub next : IfSome refused (IsNext (lines_after now l frames))
-    pub refuses : Refuses box box' (added now l frames) (refused_of fault now (lines_after now l frames) refused)
+    pub refusal : Option Refusal
+    pub is : IfSome refusal (IsRefused now (lines_after now l frames))
+    pub refuses : Refuses box box' (added now l frames ++ stood_of now (lines_after now l frames) refusal)
+        (refused_of fault now (lines_after now l frames) refusal)
     pub past : (entries bytes : ℕ) → fault ≡ faults.Full entries bytes
-        → IsPast (limits_of box').bytes bytes (wanted_of now (lines_after now l frames) refused)
-    pub recorded : IfSome refused (λ t. (fault ≡ faults.Memory → ⊥) → is_record (reply_at now (lines_after now l frames) t).act ≡ true)
-    pub of_inbox : IfSome refused (λ t. OfInbox fault)
-    pub news_are : news' ≡ news ++ told now l frames
+        → IsPast (limits_of box').bytes bytes (wanted_of now (lines_after now l frames) refusal)
+    pub recorded : IfSome refusal (λ r. (fault ≡ faults.Memory → ⊥) → IsOfRecord now (lines_after now l frames) r)
+    pub of_inbox : IfSome refusal (λ r. OfInbox fault)
+    pub news_are : news' ≡ news ++ (told now l frames ++ told_of now (lines_after now l frames) refusal)
 
   -- behind its tick a turn received, its frames were served, and what was to be sent was sent; what was sent of an outbox whose disk tells
   -- its content is what was seen of it. Where its link failed as it sent, it answers as that says: the fault, where nothing had ended the

@@ -2,7 +2,7 @@
 
 ghost use Rattle.std.specs.Prelude.{◌≡◌, ◌++◌, ◌∷◌, [], ◌^◌, ◌<◌, ◌≤◌, length, true, None};
 ghost use Rattle.sofh_frame.specs.Framing.{first_of};
-ghost use Rattle.fixp_machine.specs.Machine.{run, turn_done};
+ghost use Rattle.fixp_machine.specs.Machine.{front_of, run, turn_done};
 ghost use Rattle.conn_turns.specs.Frames.{is_whole, is_bad, is_unframed, unframed_at, is_link_over};
 ghost use Rattle.conn_turns.specs.Turns.{bad_calls, end_calls};
 ghost use Rattle.conn_steps.specs.Agreeing.{IsInTurn};
@@ -36,6 +36,7 @@ impl Conn {
     }
 
     /// Tells the machine of bytes that no frame begins with, where they stand behind so many frames.
+    #[tactic(auto, using(crate::proofs::Machine::bad_drained))]
     fn tell_bad(&mut self, taken: u64, now: u64)
         requires in_turn { IsInTurn (line_of self.old).machine now 0 }
         requires time { now < 2 ^ 44 }
@@ -48,7 +49,7 @@ impl Conn {
     }
 
     /// Tells the machine that the link has ended, where it has and no whole frame is left.
-    #[tactic(auto, using(crate::proofs::Machine::link_keeps))]
+    #[tactic(auto, using(crate::proofs::Machine::link_keeps, crate::proofs::Machine::link_drained))]
     fn tell_end(&mut self)
         requires { (line_of self.old).machine.begun ≡ true }
         ensures told { line_of self.new ≡ record (line_of self.old) { machine = run (line_of self.old).machine (end_calls (is_link_over (line_of self.old))) } }
@@ -71,6 +72,7 @@ impl Conn {
         ensures most { (line_of self.new).machine.most ≡ (line_of self.old).machine.most }
         ensures recorded { (line_of self.new).machine.facts.recorded ≡ (line_of self.old).machine.facts.recorded }
         ensures moment { (line_of self.new).machine.moment ≡ now }
+        ensures drained { front_of (line_of self.new).machine ≡ None }
         ensures small { length (line_of self.new).machine.unsent ≤ 300000 }
         ensures told { (line_of self.new).machine.ending ≡ None → (line_of self.new).machine.untold ≡ [] }
     {

@@ -40,7 +40,7 @@ impl Conn {
     }
 
     /// A connection begins: what was held and unsent of the one before is dropped, and an initiator writes its first message.
-    #[tactic(auto, using(crate::proofs::Machine::begun_serves))]
+    #[tactic(auto, using(crate::proofs::Machine::begun_drained))]
     pub fn begin<C: Clock>(&mut self, clock: &mut C)
         requires over { (line_of self.old).machine.begun ≡ true → IsSome (line_of self.old).machine.ending }
         requires time { (line_of self.old).machine.moment < 2 ^ 44 }

@@ -1,8 +1,8 @@
 //! What a turn sends of the outbox.
 
-ghost use Rattle.std.specs.Prelude.{◌≡◌, ◌≢◌, ℕ, ◌+◌, ◌*◌, ◌^◌, ◌<◌, ◌≤◌, not, length, true, false, None, Ok, Err, IfOk, IfErr, IfSome, OnOk};
+ghost use Rattle.std.specs.Prelude.{◌≡◌, ◌≢◌, ℕ, ◌+◌, ◌*◌, ◌^◌, ◌<◌, ◌≤◌, not, length, true, false, None, Ok, Err, IfOk, IfErr, IfSome, OnOk, is_some, if◌then◌else◌, min};
 ghost use Rattle.fixp_shake.specs.Flows.{is_absent};
-ghost use Rattle.fixp_machine.specs.Machine.{run};
+ghost use Rattle.fixp_machine.specs.Machine.{front_of, run};
 ghost use Rattle.jr_dated.specs.declared.faults.FetchFault.TheVariants as fetching;
 ghost use Rattle.gate_turn.specs.Views.{HasFailed, Part};
 ghost use Rattle.gate_turn.specs.Places.{known};
@@ -20,8 +20,8 @@ use gate_turn::Pass;
 use jr_dated::{FetchFault, Journal};
 use std::sync::Wait;
 
-/// How many entries a turn sends live at most.
-const LIVE: u16 = 16;
+/// How many entries a turn sends at most, again or live.
+const ENTRIES: u16 = 16;
 
 /// A refusal of the outbox, as a turn answers it.
 fn refusal(fault: FetchFault) -> TurnFault
@@ -33,6 +33,13 @@ fn refusal(fault: FetchFault) -> TurnFault
         FetchFault::Fault => TurnFault::Outbox,
         FetchFault::Changed { at } => TurnFault::Changed { at },
     }
+}
+
+/// How many entries of a range of so many a turn sends again.
+fn entries_of(count: u64) -> u16
+    ensures { result ≡ min 16 count }
+{
+    u64::from(ENTRIES).min(count) as u16
 }
 
 impl Conn {
@@ -62,14 +69,14 @@ impl Conn {
         established && self.end.serving().is_none() && self.has_flow()
     }
 
-    /// Sends the range again that is served, whole, if one is.
+    /// Sends entries of the range again that is served, from its front and 16 at most, if one is. Answers whether one is.
     pub(crate) fn send_again<J: Journal, R: Wait>(
         &mut self,
         gate: &Gate<J>,
         pass: &mut Pass<Kept<J>>,
         now: u64,
         rt: &R,
-    ) -> Result<(), FetchFault>
+    ) -> Result<bool, FetchFault>
         requires own { IsPassAt gate.now pass.old }
         requires free { IsFree pass.old }
         requires serve { MayServe (line_of self.old).machine now 300000 (known pass.old) }
@@ -81,21 +88,22 @@ impl Conn {
         ensures again { OnOk result (SentDue J.tells (served_of (served_now (line_of self.old).machine) (known pass.new).seen) (again_calls now) (line_of self.old) (line_of self.new)) }
         ensures serve { OnOk result (MayServe (line_of self.new).machine now 4600000 (known pass.new)) }
         ensures same { OnOk result (SameInbox (line_of self.old).machine (line_of self.new).machine) }
-        ensures unserved { OnOk result ((line_of self.new).machine.ending ≡ None → (line_of self.new).machine.facts.connection.serving ≡ None) }
+        ensures some { IfOk result (λ again. again ≡ is_some (served_now (line_of self.old).machine)) }
         ensures fault { result ≡ Err fetching.Fault → HasFailed (known pass.old).faults (known pass.new).faults }
         ensures broken { result ≡ Err fetching.Broken → HasFailed (known pass.new).opening.faults (known pass.new).faults }
         ensures changed { (at : ℕ) → result ≡ Err (fetching.Changed at) → (at < length (known pass.new).seen.made) × (J.tells → ⊥) }
     {
         if self.end.ending().is_some() {
-            return Ok(());
+            return Ok(false);
         }
         let Some(range) = self.end.serving() else {
-            return Ok(());
+            return Ok(false);
         };
-        match gate.fetch(pass, range.from, range.count as u16, rt) {
+        let most = entries_of(range.count);
+        match gate.fetch(pass, range.from, most, rt) {
             Ok(entries) => {
                 self.end.send_again(entries.as_slice(), now);
-                Ok(())
+                Ok(true)
             }
             Err(fault) => Err(fault),
         }
@@ -128,7 +136,7 @@ impl Conn {
 
     /// Sends entries live, where that may be: those behind the last one sent. Answers the outbox's mark, as it was seen with them,
     /// where this end has a flow of its own and it stands.
-    pub(crate) fn send_live<J: Journal, R: Wait>(
+    fn send_live<J: Journal, R: Wait>(
         &mut self,
         gate: &Gate<J>,
         pass: &mut Pass<Kept<J>>,
@@ -156,7 +164,7 @@ impl Conn {
         if !self.sends_live() {
             return Ok(self.mark(gate, pass, now, rt));
         }
-        match gate.look(pass, self.end.sent() + 1, LIVE, now, rt) {
+        match gate.look(pass, self.end.sent() + 1, ENTRIES, now, rt) {
             Ok(Look { entries, mark }) => {
                 self.end.send_live(entries.as_slice(), now);
                 Ok(mark)
@@ -165,10 +173,44 @@ impl Conn {
         }
     }
 
+    /// Sends entries live, as `send_live` does, unless entries were sent again in this turn. Answers the outbox's mark as that does.
+    fn send_beside<J: Journal, R: Wait>(
+        &mut self,
+        gate: &Gate<J>,
+        pass: &mut Pass<Kept<J>>,
+        again: bool,
+        now: u64,
+        rt: &R,
+    ) -> Result<Option<u64>, FetchFault>
+        requires own { IsPassAt gate.now pass.old }
+        requires free { IsFree pass.old }
+        requires serve { MayServe (line_of self.old).machine now 4600000 (known pass.old) }
+        requires time { now < 2 ^ 44 }
+        ensures own { IsPassAt gate.now pass.new }
+        ensures free { IsFree pass.new }
+        ensures looks { Looks (known pass.old) (known pass.new) }
+        ensures most { (known pass.new).turns ≤ (known pass.old).turns + 1 }
+        ensures least { is_absent (line_of self.old).machine.config.own_flow ≡ false → (known pass.old).turns < (known pass.new).turns }
+        ensures live { OnOk result (SentDue J.tells (if again then None else live_of (line_of self.old).machine (known pass.new).seen) (live_calls now) (line_of self.old) (line_of self.new)) }
+        ensures mark { IfOk result (λ mark. mark ≡ finish_of (line_of self.old).machine (known pass.new).seen) }
+        ensures serve { OnOk result (MayServe (line_of self.new).machine now 4900000 (known pass.new)) }
+        ensures same { OnOk result (SameInbox (line_of self.old).machine (line_of self.new).machine) }
+        ensures serving { OnOk result ((line_of self.new).machine.facts.connection.serving ≡ (line_of self.old).machine.facts.connection.serving) }
+        ensures fault { result ≡ Err fetching.Fault → HasFailed (known pass.old).faults (known pass.new).faults }
+        ensures broken { result ≡ Err fetching.Broken → HasFailed (known pass.new).opening.faults (known pass.new).faults }
+        ensures changed { (at : ℕ) → result ≡ Err (fetching.Changed at) → (at < length (known pass.new).seen.made) × (J.tells → ⊥) }
+    {
+        if again {
+            return Ok(self.mark(gate, pass, now, rt));
+        }
+        self.send_live(gate, pass, now, rt)
+    }
+
     /// Tells the machine of the outbox's finish, if it is there.
-    #[tactic(auto, using(crate::proofs::Machine::closed_keeps))]
+    #[tactic(auto, using(crate::proofs::Machine::closed_keeps, crate::proofs::Machine::closed_drained))]
     fn tell_finish(&mut self, mark: Option<u64>, now: u64)
         requires done { (line_of self.old).machine.pending ≡ None }
+        requires drained { front_of (line_of self.old).machine ≡ None }
         requires little { length (line_of self.old).machine.unsent ≤ 4900000 }
         requires time { ((line_of self.old).machine.moment ≤ now) × (now < 2 ^ 44) }
         ensures finish { line_of self.new ≡ record (line_of self.old) { machine = run (line_of self.old).machine (finish_calls now mark) } }
@@ -205,13 +247,13 @@ impl Conn {
         ensures served { OnOk result (ServedOutbox J.tells now (known pass.old).seen (known pass.new).seen (line_of self.old) (line_of self.new)) }
         ensures serve { OnOk result (MayServe (line_of self.new).machine now 5000000 (known pass.new)) }
         ensures same { OnOk result (SameInbox (line_of self.old).machine (line_of self.new).machine) }
-        ensures unserved { OnOk result ((line_of self.new).machine.ending ≡ None → (line_of self.new).machine.facts.connection.serving ≡ None) }
         ensures blames { IfErr result (BlamesPass J.tells (known pass.old) (known pass.new)) }
     {
-        if let Err(fault) = self.send_again(gate, pass, now, rt) {
-            return Err(refusal(fault));
-        }
-        match self.send_live(gate, pass, now, rt) {
+        let again = match self.send_again(gate, pass, now, rt) {
+            Ok(again) => again,
+            Err(fault) => return Err(refusal(fault)),
+        };
+        match self.send_beside(gate, pass, again, now, rt) {
             Ok(mark) => {
                 self.tell_finish(mark, now);
                 Ok(())

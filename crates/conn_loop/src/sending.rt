@@ -24,7 +24,7 @@ impl Conn {
     }
 
     /// The link failed: the connection ends, unless it has ended before, and where both finishes were exchanged that is no fault.
-    #[tactic(auto, using(crate::proofs::Machine::link_keeps, crate::proofs::Machine::link_ends))]
+    #[tactic(auto, using(crate::proofs::Machine::link_keeps, crate::proofs::Machine::link_drained, crate::proofs::Machine::link_ends))]
     pub(crate) fn lose_link(&mut self) -> Result<TurnEnd, TurnFault>
         requires { (line_of self.old).machine.begun ≡ true }
         ensures line { line_of self.new ≡ record (line_of self.old) { machine = run (line_of self.old).machine (link_end ∷ []) } }
@@ -43,6 +43,7 @@ impl Conn {
     }
 
     /// Sends what is unsent, until the link takes nothing.
+    #[tactic(auto, using(crate::proofs::Machine::taken_drained))]
     pub(crate) fn send<L: Link>(&mut self, link: &mut L) -> Result<TurnEnd, TurnFault>
         requires { (line_of self.old).machine.begun ≡ true }
         ensures sent { SentOnce (L.told link.old) (L.told link.new) (L.carried link.old) (L.carried link.new) (line_of self.old) (line_of self.new) result }

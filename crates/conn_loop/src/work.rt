@@ -3,6 +3,7 @@
 ghost use Rattle.std.specs.Prelude.{◌≡◌, ◌≢◌, ◌⊎◌, ℕ, ◌+◌, ◌^◌, ◌<◌, ◌≤◌, [], true, false, length, Ok, Err, None, IsSome, IsTrue, IsFalse, IfOk, IfErr, OnOk, OnErr};
 ghost use Rattle.fixp_shake.specs.Flows.{is_absent};
 ghost use Rattle.gw_outside.specs.Faults.{HasRisen};
+ghost use Rattle.fixp_machine.specs.Machine.{front_of};
 ghost use Rattle.jr_kept.specs.Inbox.{faults_of, is_broken, size_of, count_of};
 ghost use Rattle.gate_turn.specs.Views.{HasFailed};
 ghost use Rattle.gate_turn.specs.Places.{known};
@@ -33,7 +34,7 @@ impl Conn {
     ///
     /// # Errors
     /// Want of memory: nothing has changed.
-    #[tactic(auto, using(crate::proofs::Ticking::tick_len))]
+    #[tactic(auto, using(crate::proofs::Ticking::tick_len, crate::proofs::Ticking::tick_drained))]
     pub(crate) fn start(&mut self, now: u64) -> Result<bool, AllocError>
         requires goes { GoesOn (line_of self.old).machine }
         requires time { ((line_of self.old).machine.moment ≤ now) × (now < 2 ^ 44) }
@@ -47,6 +48,7 @@ impl Conn {
         ensures done { OnOk result ((line_of self.new).machine.pending ≡ None) }
         ensures untold { OnOk result ((line_of self.new).machine.untold ≡ []) }
         ensures moment { OnOk result ((line_of self.new).machine.moment ≡ now) }
+        ensures drained { OnOk result (front_of (line_of self.new).machine ≡ None) }
         ensures little { result ≡ Ok false → (line_of self.new).machine.ending ≡ None → length (line_of self.new).machine.unsent ≤ length (line_of self.old).machine.unsent }
         ensures config { OnOk result ((line_of self.new).machine.config ≡ (line_of self.old).machine.config) }
         ensures most { OnOk result ((line_of self.new).machine.most ≡ (line_of self.old).machine.most) }
@@ -95,7 +97,6 @@ impl Conn {
         ensures cut { IfErr result (CutShort now (line_of self.old) inbox.old inbox.new (items_of news.old) (items_of news.new)) }
         ensures serve { OnOk result (MayServe (line_of self.new).machine now 5000000 (known pass.new)) }
         ensures agrees { OnOk result (Agrees (line_of self.new).machine inbox.new) }
-        ensures unserved { OnOk result ((line_of self.new).machine.ending ≡ None → (line_of self.new).machine.facts.connection.serving ≡ None) }
         ensures untold { OnOk result ((line_of self.new).machine.ending ≡ None → (line_of self.new).machine.untold ≡ []) }
         ensures config { OnOk result ((line_of self.new).machine.config ≡ (line_of self.old).machine.config) }
         ensures no_link { IfErr result (λ fault. fault ≡ faults.Link → ⊥) }

@@ -7,10 +7,10 @@ use Rattle.fixp_machine.specs.Machine.{State}
 use Rattle.conn_turns.specs.declared.news.NewsItem.{NewsItem}
 use Rattle.conn_turns.specs.declared.answer.TurnFault.{TurnFault}
 use Rattle.conn_turns.specs.Lines.{Line, TakenFrame, lines_after}
-use Rattle.conn_turns.specs.Frames.{added, told}
-use Rattle.conn_turns.specs.Turns.{Turn, cut_short}
-use Rattle.conn_loop.specs.Turned.{refused_of, wanted_of}
-use Rattle.turn_laws.specs.Turns.{line_received, IsTurn, IsCutShort, adds_in, tells_in}
+use Rattle.conn_turns.specs.Frames.{told}
+use Rattle.conn_turns.specs.Turns.{Turn, Refusal, cut_short}
+use Rattle.conn_loop.specs.Turned.{refused_of, wanted_of, told_of}
+use Rattle.turn_laws.specs.Turns.{line_received, IsTurn, IsCutShort, adds_in, adds_cut, tells_in}
 use Rattle.turn_laws.specs.Legs.{AreTurns, first_line}
 use Rattle.turn_laws.specs.Made.{TurnAt}
 use Rattle.conn_serve.specs.Connections.{Connection, WereTurns, CutAt, IsConnection}
@@ -41,14 +41,14 @@ pub record PlainCutAt (last : Line) (t : Turn) (news : List NewsItem) (adds refu
   pub now : ℕ
   pub received : List ℕ
   pub frames : List TakenFrame
-  pub next : Option TakenFrame
+  pub refusal : Option Refusal
   pub fault : TurnFault
-  pub is : t ≡ cut_short now received frames next
-  pub cut : IsCutShort now received frames next last
-  pub news_are : news ≡ told now (line_received last now received cut.got) frames
-  pub adds_are : adds ≡ added now (line_received last now received cut.got) frames
-  pub refused_are : refused ≡ refused_of fault now (lines_after now (line_received last now received cut.got) frames) next
-  pub wanted_are : wanted ≡ wanted_of now (lines_after now (line_received last now received cut.got) frames) next
+  pub is : t ≡ cut_short now received frames refusal
+  pub cut : IsCutShort now received frames refusal last
+  pub news_are : news ≡ told now (line_received last now received cut.got) frames ++ told_of now (lines_after now (line_received last now received cut.got) frames) refusal
+  pub adds_are : adds ≡ adds_cut now (line_received last now received cut.got) frames refusal
+  pub refused_are : refused ≡ refused_of fault now (lines_after now (line_received last now received cut.got) frames) refusal
+  pub wanted_are : wanted ≡ wanted_of now (lines_after now (line_received last now received cut.got) frames) refusal
 
 abbrev pub PlainCut : Line → Option Turn → List NewsItem → (adds refused wanted : List InboxRecord) → Type 0
 PlainCut last None news adds refused wanted = (news ≡ []) × (adds ≡ []) × (refused ≡ []) × (wanted ≡ [])
@@ -78,7 +78,7 @@ plain_cut eager old new (Some t) news adds refused wanted k = record {
   now = k.now;
   received = k.received;
   frames = k.frames;
-  next = k.next;
+  refusal = k.refusal;
   fault = k.fault;
   is = k.is;
   cut = k.made.cut;

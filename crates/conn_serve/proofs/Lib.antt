@@ -1,4 +1,4 @@
-pub mod Shortness
+pub mod Fewness
 pub mod Making
 pub mod Turning
 pub mod Cutting

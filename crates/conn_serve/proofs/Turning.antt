@@ -1,12 +1,11 @@
 -- Turns of a connection one behind another, and where it is given up.
 use Rattle.std.proofs.Common.{◌≡◌, ◌⊎◌, inl, inr, ℕ, ◌+◌, ◌*◌, ◌≤◌, Bool, true, false, List, [], ◌∷◌, ◌++◌, length, Option, Some, None, Result, Ok, Err, refl, sym, ap, subst, ◌∙◌, arith, append-nil, append_assoc, length-append}
-use Rattle.std.specs.Prelude.{All, OnOk, IfErr, option_to_list}
+use Rattle.std.specs.Prelude.{OnOk, IfErr, option_to_list}
 use Rattle.std.specs.List.{AllByRecursion, flat_map}
 use Rattle.std.specs.Io.KnownBytes.{Appends}
 use Rattle.std.proofs.KnownBytes.{Appends-nil, Appends-trans}
 use Rattle.std.proofs.Math.Seq.{take-length}
 use Rattle.std.proofs.lemmas.Grind.{flat_map-append}
-use Rattle.std.proofs.lemmas.List.Elements.{All-nil}
 use Rattle.gw_outside.specs.Faults.{TakesFront}
 use Rattle.session_model.specs.Journal.{History, BeginsHistory}
 use Rattle.session_model.specs.Inbox.{InboxRecord}
@@ -29,19 +28,19 @@ use Rattle.conn_steps.specs.Settling.{Gains, Refuses}
 use Rattle.conn_steps.specs.Agreeing.{Agrees}
 use Rattle.conn_steps.proofs.Rooms.{gains_none, gains_on, refuses_on, refuses_none}
 use Rattle.conn_loop.specs.Conn.{line_begun}
-use Rattle.conn_loop.specs.Turned.{NotBegun}
+use Rattle.conn_loop.specs.Turned.{NotBegun, told_of}
 use Rattle.turn_laws.specs.Turns.{line_received, IsTurn, adds_in, tells_in}
 use Rattle.turn_laws.specs.Legs.{given_in, sent_in, IsTimelyTurn}
 use Rattle.turn_laws.specs.Made.{TurnAt, MadeTurn}
 use Rattle.turn_laws.specs.Turned.{WasTurn, WasCut}
 use Rattle.conn_door.specs.declared.answer.ServeFault.{ServeFault}
 use Rattle.conn_door.specs.declared.answer.ServeFault.TheVariants as faults
-use Rattle.conn_serve.specs.Lines.{news_line, news_lines, IsShort}
+use Rattle.conn_serve.specs.Lines.{news_line, news_lines}
 use Rattle.conn_serve.specs.Connections.{WereTurns, MadeNoMore, CutAt}
 use Rattle.conn_serve.specs.Causes.{lacks, lacks_at, Tells}
 use Rattle.conn_serve.specs.Turned.{Turned, CutOff, GivenUp, Begins, TurnedOn, GivenUpOn}
 use Rattle.conn_serve.specs.Answers.{close_of, IsOfTurn}
-use Rattle.conn_serve.proofs.Shortness.{turn_short, told_short, told_few, turn_few}
+use Rattle.conn_serve.proofs.Fewness.{turn_few, cut_few, ticked_few}
 use Rattle.conn_loop.specs.Live.{EndAt, live_end}
 use Rattle.conn_serve.specs.Moments.{ConnectionAt, connection_at, turn_in}
 
@@ -162,7 +161,7 @@ cut_dropped eager a b l (Some t) news adds refused wanted k = record {
   now = k.now;
   received = k.received;
   frames = k.frames;
-  next = k.next;
+  refusal = k.refusal;
   fault = k.fault;
   is = k.is;
   made = record { cut = k.made.cut; more = k.made.more; found = k.made.found; moved = k.made.moved; moment = k.made.moment; clock = k.made.clock };
@@ -177,16 +176,21 @@ memory_turn : (fault : TurnFault) (why : ServeFault) → fault ≡ turn_faults.M
 memory_turn fault why memory is = let same : close_of (Err turn_faults.Memory) ≡ Err why = subst (λ (f : TurnFault). close_of (Err f) ≡ Err why) memory is in cc
 
 module _ {J : Type 0} {G : Ghosts J} where
-  -- ---- what a turn told is short
+  -- ---- a turn that was cut short told at most 272 news
 
-  pub cut_is_short : (eager : Bool) (before after : ℕ) (old new : EndAt J G) (why : ServeFault) → old.news ≡ [] → CutOff eager before after old new why → All IsShort new.news
-  cut_is_short eager before after old new why none c = by_kind c.cut
+  pub cut_is_few : (eager : Bool) (before after : ℕ) (old new : EndAt J G) (why : ServeFault) → old.news ≡ [] → length old.line.machine.held ≤ 256 → CutOff eager before after old new why → length new.news ≤ 272
+  cut_is_few eager before after old new why none held c = by_kind c.cut
     where
-      by_kind : NotBegun old new c.fault ⊎ WasCut eager before after old new c.fault → All IsShort new.news
-      by_kind (inl n) = subst (All IsShort) (sym (ap (λ (e : EndAt J G). e.news) n.1 ∙ none)) (All-nil IsShort)
+      by_kind : NotBegun old new c.fault ⊎ WasCut eager before after old new c.fault → length new.news ≤ 272
+      by_kind (inl n) = omega (arith, ap (λ (e : EndAt J G). length e.news) n.1, ap (λ (ns : List NewsItem). length ns) none)
       by_kind (inr k) =
           let l : Line = line_received old.line k.now k.received k.made.cut.got in
-          subst (All IsShort) (sym (k.news_are ∙ ap (λ (ns : List NewsItem). ns ++ told k.now l k.frames) none)) (told_short k.now l k.frames k.made.cut.taken)
+          let ms : List NewsItem = told k.now l k.frames ++ told_of k.now (lines_after k.now l k.frames) k.refusal in
+          omega (
+            arith,
+            ap (λ (ns : List NewsItem). length ns) (k.news_are ∙ ap (λ (ns : List NewsItem). ns ++ ms) none),
+            cut_few k.now l k.frames k.refusal k.made.cut.taken k.made.cut.is k.few (omega (arith, ticked_few old.line k.now, held)),
+          )
 
   -- a connection between its turns, as its next turn finds it, and as it leaves it with these news
   abbrev end_at : ConnectionAt J G → List NewsItem → EndAt J G
@@ -204,13 +208,13 @@ module _ {J : Type 0} {G : Ghosts J} where
   }
 
 module _ {J : Type 0} {G : Ghosts J} {tells : Type 0} where
-  pub was_short : (eager : Bool) (before after : ℕ) (old new : EndAt J G) → old.news ≡ [] → WasTurn tells eager before after old new → All IsShort new.news
-  was_short eager before after old new none was =
-      subst (All IsShort) (sym (was.news_are ∙ ap (λ (ns : List NewsItem). ns ++ tells_in old.line was.turn) none)) (turn_short old.seen new.seen old.line new.line was.turn was.made.is)
-
-  pub was_few : (eager : Bool) (before after : ℕ) (old new : EndAt J G) → old.news ≡ [] → WasTurn tells eager before after old new → length new.news ≤ 16
-  was_few eager before after old new none was =
-      omega (arith, ap (λ (ns : List NewsItem). length ns) (was.news_are ∙ ap (λ (ns : List NewsItem). ns ++ tells_in old.line was.turn) none), turn_few old.seen new.seen old.line new.line was.turn was.made.is)
+  pub was_few : (eager : Bool) (before after : ℕ) (old new : EndAt J G) → old.news ≡ [] → length old.line.machine.held ≤ 256 → WasTurn tells eager before after old new → length new.news ≤ 272
+  was_few eager before after old new none held was =
+      omega (
+        arith,
+        ap (λ (ns : List NewsItem). length ns) (was.news_are ∙ ap (λ (ns : List NewsItem). ns ++ tells_in old.line was.turn) none),
+        turn_few old.seen new.seen old.line new.line was.turn was.made.is held,
+      )
 
   -- ---- turns
 
@@ -329,10 +333,10 @@ module _ {J : Type 0} {G : Ghosts J} {tells : Type 0} where
 
   -- at a whole turn whose lines are lacking
   pub given_lacking : (eager : Bool) (fault : ServeFault) (old new : ConnectionAt J G) (news : List NewsItem)
-      → old.line.machine.ending ≡ None → WasTurn tells eager old.clock new.clock (end_at old []) (end_at new news) → Tells (lacks fault) old.out new.out (news_lines news)
+      → old.line.machine.ending ≡ None → WasTurn tells eager old.clock new.clock (end_at old []) (end_at new news) → length news ≤ 272 → Tells (lacks fault) old.out new.out (news_lines news)
       → (fault ≡ faults.Output) ⊎ (fault ≡ faults.Memory)
       → GivenUp tells eager (Some fault) old new
-  given_lacking eager fault old new news unended was lines which = record {
+  given_lacking eager fault old new news unended was few lines which = record {
     behind = turn_in new;
     turns = was.turn ∷ [];
     news = tells_in old.line was.turn;
@@ -353,7 +357,7 @@ module _ {J : Type 0} {G : Ghosts J} {tells : Type 0} where
       earlier = [];
       late = tells_in old.line was.turn;
       are = append-nil (tells_in old.line was.turn);
-      few = turn_few old.seen new.seen old.line new.line was.turn was.made.is;
+      few = omega (arith, few, ap (λ (ns : List NewsItem). length ns) was.news_are);
       lines = record { between = old.out; first = Appends-nil old.out; last = subst (λ (ns : List NewsItem). Tells (lacks fault) old.out new.out (news_lines ns)) was.news_are lines };
     };
     spent = λ e. by_kind which (inl (cc));
@@ -425,30 +429,30 @@ module _ {J : Type 0} {G : Ghosts J} {tells : Type 0} where
 
   -- at a turn that was cut short
   given_cut : (eager : Bool) (fault why : ServeFault) (turn_fault : TurnFault) (old new : ConnectionAt J G) (news : List NewsItem)
-      → BeginsHistory old.seen new.seen → WasCut eager old.clock new.clock (end_at old []) (end_at new news) turn_fault → close_of (Err turn_fault) ≡ Err why → Tells (lacks fault) old.out new.out (news_lines news)
+      → BeginsHistory old.seen new.seen → WasCut eager old.clock new.clock (end_at old []) (end_at new news) turn_fault → close_of (Err turn_fault) ≡ Err why → length news ≤ 272 → Tells (lacks fault) old.out new.out (news_lines news)
       → (fault ≡ faults.Turns → ⊥) → ((entries bytes : ℕ) → fault ≡ faults.Full entries bytes → why ≡ faults.Full entries bytes) → GivenUp tells eager (Some fault) old new
-  given_cut eager fault why turn_fault old new news grows k is lines no_turns full = record {
+  given_cut eager fault why turn_fault old new news grows k is few lines no_turns full = record {
     behind = turn_in old;
     turns = [];
     news = [];
     adds = [];
     were = (refl, refl, refl);
     grows = grows;
-    cut = Some (cut_short k.now k.received k.frames k.refused);
+    cut = Some (cut_short k.now k.received k.frames k.refusal);
     cut_told = news;
     cut_added = _;
     refused = _;
     wanted = _;
-    is_cut = record { now = k.now; received = k.received; frames = k.frames; next = k.refused; fault = turn_fault; is = refl; made = k.made; news_are = k.news_are; adds_are = refl; refused_are = refl; wanted_are = refl };
+    is_cut = record { now = k.now; received = k.received; frames = k.frames; refusal = k.refusal; fault = turn_fault; is = refl; made = k.made; news_are = k.news_are; adds_are = refl; refused_are = refl; wanted_are = refl };
     timely = (k.timely, tt);
     faithful = λ t. tt;
-    moved = moved_once old.told new.told old.carried new.carried (cut_short k.now k.received k.frames k.refused) k.made.moved;
+    moved = moved_once old.told new.told old.carried new.carried (cut_short k.now k.received k.frames k.refusal) k.made.moved;
     refuses = k.refuses;
     lines = record {
       earlier = [];
       late = news;
       are = refl;
-      few = omega (arith, ap length k.news_are, told_few k.now (line_received old.line k.now k.received k.made.cut.got) k.frames, k.few);
+      few = few;
       lines = record { between = old.out; first = Appends-nil old.out; last = lines };
     };
     spent = λ e. absurd (no_turns (cc));
@@ -459,13 +463,13 @@ module _ {J : Type 0} {G : Ghosts J} {tells : Type 0} where
 
   -- at either
   given_off : (eager : Bool) (fault why : ServeFault) (old new : ConnectionAt J G) (news : List NewsItem)
-      → BeginsHistory old.seen new.seen → old.clock ≤ new.clock → CutOff eager old.clock new.clock (end_at old []) (end_at new news) why → Tells (lacks fault) old.out new.out (news_lines news)
+      → BeginsHistory old.seen new.seen → old.clock ≤ new.clock → CutOff eager old.clock new.clock (end_at old []) (end_at new news) why → length news ≤ 272 → Tells (lacks fault) old.out new.out (news_lines news)
       → (fault ≡ faults.Turns → ⊥) → (fault ≡ faults.Journal → why ≡ faults.Journal) → ((at : ℕ) → fault ≡ faults.Changed at → why ≡ faults.Changed at) → ((entries bytes : ℕ) → fault ≡ faults.Full entries bytes → why ≡ faults.Full entries bytes) → GivenUp tells eager (Some fault) old new
-  given_off eager fault why old new news grows ticks c lines no_turns journal change full = by_kind c.cut
+  given_off eager fault why old new news grows ticks c few lines no_turns journal change full = by_kind c.cut
     where
       by_kind : NotBegun (end_at old []) (end_at new news) c.fault ⊎ WasCut eager old.clock new.clock (end_at old []) (end_at new news) c.fault → GivenUp tells eager (Some fault) old new
       by_kind (inl n) = given_unbegun eager fault why c.fault old new news grows ticks n c.is lines no_turns journal change full
-      by_kind (inr k) = given_cut eager fault why c.fault old new news grows k c.is lines no_turns full
+      by_kind (inr k) = given_cut eager fault why c.fault old new news grows k c.is few lines no_turns full
 
   -- behind further turns
   pub given_on : (eager : Bool) (why : Option ServeFault) (old mid new : ConnectionAt J G) (n : ℕ)
@@ -510,21 +514,21 @@ module _ {J : Type 0} {G : Ghosts J} {tells : Type 0} where
   -- a turn whose lines are lacking, whole or cut short
   pub given_told : {A : Type 0} (r : Result A ServeFault) (fault : ServeFault) (H : Type 0) (eager : Bool) (old new : ConnectionAt J G) (news : List NewsItem)
       → old.line.machine.ending ≡ None → BeginsHistory old.seen new.seen → old.clock ≤ new.clock → OnOk r (WasTurn tells eager old.clock new.clock (end_at old []) (end_at new news)) → IfErr r (CutOff eager old.clock new.clock (end_at old []) (end_at new news))
-      → TakesFront old.out new.out (news_lines news) → ((fault ≡ faults.Output) × H) ⊎ (fault ≡ faults.Memory) → GivenUp tells eager (Some fault) old new
-  given_told (Ok a) fault H eager old new news unended grows ticks whole cut front cause =
-      given_lacking eager fault old new news unended whole (lacking_tells fault H old.out new.out (news_lines news) cause front) (which_lacks fault H cause)
-  given_told (Err e) fault H eager old new news unended grows ticks whole cut front cause =
-      given_off eager fault e old new news grows ticks cut (lacking_tells fault H old.out new.out (news_lines news) cause front) (lacking_spent fault H cause) (λ is. absurd (lacking_journal fault H cause is))
+      → length news ≤ 272 → TakesFront old.out new.out (news_lines news) → ((fault ≡ faults.Output) × H) ⊎ (fault ≡ faults.Memory) → GivenUp tells eager (Some fault) old new
+  given_told (Ok a) fault H eager old new news unended grows ticks whole cut few front cause =
+      given_lacking eager fault old new news unended whole few (lacking_tells fault H old.out new.out (news_lines news) cause front) (which_lacks fault H cause)
+  given_told (Err e) fault H eager old new news unended grows ticks whole cut few front cause =
+      given_off eager fault e old new news grows ticks cut few (lacking_tells fault H old.out new.out (news_lines news) cause front) (lacking_spent fault H cause) (λ is. absurd (lacking_journal fault H cause is))
       (λ at is. absurd (lacking_changed fault H at cause is)) (λ entries bytes is. absurd (lacking_full fault H entries bytes cause is))
 
 module _ {J : Type 0} {G : Ghosts J} (tells : Type 0) where
   -- and one that was cut short, and whose lines were told
   pub given_answer : {A : Type 0} (r : Result A ServeFault) (eager : Bool) (old new : ConnectionAt J G) (news : List NewsItem)
-      → BeginsHistory old.seen new.seen → old.clock ≤ new.clock → IfErr r (CutOff eager old.clock new.clock (end_at old []) (end_at new news)) → IfErr r IsOfTurn → Appends old.out new.out (news_lines news)
+      → BeginsHistory old.seen new.seen → old.clock ≤ new.clock → IfErr r (CutOff eager old.clock new.clock (end_at old []) (end_at new news)) → IfErr r IsOfTurn → length news ≤ 272 → Appends old.out new.out (news_lines news)
       → IfErr r (λ fault. GivenUp tells eager (Some fault) old new)
-  given_answer (Ok a) eager old new news grows ticks cut is lines = tt
-  given_answer (Err fault) eager old new news grows ticks cut is lines =
-      given_off eager fault fault old new news grows ticks cut (tells_all (lacks fault) old.out new.out (news_lines news) lines) (λ e. subst IsOfTurn e is) (λ e. e) (λ at e. e) (λ entries bytes e. e)
+  given_answer (Ok a) eager old new news grows ticks cut is few lines = tt
+  given_answer (Err fault) eager old new news grows ticks cut is few lines =
+      given_off eager fault fault old new news grows ticks cut few (tells_all (lacks fault) old.out new.out (news_lines news) lines) (λ e. subst IsOfTurn e is) (λ e. e) (λ at e. e) (λ entries bytes e. e)
 
 module _ {J : Type 0} {G : Ghosts J} {tells : Type 0} where
   -- ---- the same, with what is known of the records that the inbox gained

@@ -1,5 +1,5 @@
 -- The lines on OUT of a life (this project's profile).
-use Rattle.std.specs.Prelude.{⊤, ℕ, ◌+◌, ◌^◌, ◌≤◌, length, List, [], ◌∷◌, ◌++◌, Option, Some, None}
+use Rattle.std.specs.Prelude.{ℕ, ◌+◌, List, [], ◌∷◌, ◌++◌, Option, Some, None}
 use Rattle.conn_turns.specs.declared.news.NewsItem.{NewsItem}
 use Rattle.conn_turns.specs.declared.news.NewsItem.TheVariants as items
 use Rattle.conn_lines.specs.declared.close.Close.{Close}
@@ -24,8 +24,3 @@ close_line n (Some close) = connection_line n close
 abbrev pub lines_from : ℕ → List Connection → List ℕ
 lines_from n [] = []
 lines_from n (c ∷ later) = (news_lines c.news ++ close_line n c.close) ++ lines_from (n + 1) later
-
--- a message in the news is short enough for its line
-abbrev pub IsShort : NewsItem → Type 0
-IsShort (items.Delivered number payload) = length payload ≤ 2 ^ 20
-IsShort (items.NotApplied from count) = ⊤

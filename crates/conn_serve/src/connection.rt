@@ -1,6 +1,6 @@
 //! One connection: its turns, one after another, until it ends, is told to stop, or is given up.
 
-ghost use Rattle.std.specs.Prelude.{⊤, ◌≡◌, ℕ, ◌<◌, ◌≤◌, ◌^◌, false, [], ◌++◌, All, length, Ok, Some, None, IfOk, IfErr, OnOk};
+ghost use Rattle.std.specs.Prelude.{⊤, ◌≡◌, ℕ, ◌<◌, ◌≤◌, ◌^◌, false, [], ◌++◌, length, Ok, Some, None, IfOk, IfErr, OnOk};
 ghost use Rattle.jr_kept.specs.Inbox.{faults_of};
 ghost use Rattle.gate_turn.specs.Places.{known};
 ghost use Rattle.gate_turn.specs.Calls.{IsFree};
@@ -18,7 +18,6 @@ ghost use Rattle.conn_loop.specs.Turned.{Leaves};
 ghost use Rattle.turn_laws.specs.Turned.{WasTurn};
 ghost use Rattle.conn_serve.specs.Answers.{close_of, IsOfTurn, IsOfConnection};
 ghost use Rattle.conn_serve.specs.Connections.{ClosesAs};
-ghost use Rattle.conn_serve.specs.Lines.{IsShort};
 ghost use Rattle.conn_serve.specs.Causes.{IsBlamed};
 ghost use Rattle.conn_serve.specs.Turned.{CutOff, Turned, GivenUp, TurnedOn, GivenUpOn, MayBegin};
 ghost use Rattle.conn_serve.specs.Ends.{connection_in, faults_in_end};
@@ -71,8 +70,7 @@ fn make_turn<L: Link, O: Journal, I: Journal, C: Clock, R: Wait>(
     ensures stays { Stays end.old end.new }
     ensures whole { OnOk result (WasTurn O.tells L.eager (C.last end.old.clock.now) (C.last end.new.clock.now) (in_turn (L.told link.old) (L.carried link.old) end.old []) (in_turn (L.told link.new) (L.carried link.new) end.new (items_of news.new))) }
     ensures cut { IfErr result (CutOff L.eager (C.last end.old.clock.now) (C.last end.new.clock.now) (in_turn (L.told link.old) (L.carried link.old) end.old []) (in_turn (L.told link.new) (L.carried link.new) end.new (items_of news.new))) }
-    ensures short { All IsShort (items_of news.new) }
-    ensures few { OnOk result (length (items_of news.new) ≤ 16) }
+    ensures few { length (items_of news.new) ≤ 272 }
     ensures goes { result ≡ Ok None → MayTurn end.new }
     ensures closed { (close : Close) → result ≡ Ok (Some close) → ClosesAs close (line_in end.new).machine.ending }
     ensures leaves { OnOk result (Leaves (line_in end.new).machine (pass_in end.new) end.new.inbox.now) }
@@ -82,6 +80,7 @@ fn make_turn<L: Link, O: Journal, I: Journal, C: Clock, R: Wait>(
     ensures lost { result ≡ Ok (Some closes.LinkFault) → HasRisen (L.faults link.old) (L.faults link.new) }
     ensures failed { L.faults link.old ≤ L.faults link.new }
 {
+    end.end().windowed();
     close_of(end.turn(link, news, rt))
 }
 
@@ -97,7 +96,7 @@ fn turn_once<L: Link, K: Sink, O: Journal, I: Journal, C: Clock, R: Wait>(
     requires may { MayTurn end.old }
     requires place { (line_in end.old).place < 2 ^ 63 }
     ensures stays { Stays end.old end.new }
-    ensures few { OnOk result (length (items_of teller.new.news) ≤ 16) }
+    ensures few { length (items_of teller.new.news) ≤ 272 }
     ensures turned { OnOk result ((t : Turned O.tells L.eager (connection_in (L.told link.old) (L.carried link.old) (K.taken out.old) end.old) (connection_in (L.told link.new) (L.carried link.new) (K.taken out.new) end.new) 1)
         × (delivered_in (items_of teller.new.news) ≡ messages_of t.adds)) }
     ensures goes { result ≡ Ok None → MayTurn end.new }

@@ -1,11 +1,11 @@
 //! The lines on OUT: the news of a turn, and the end of a connection.
 
-ghost use Rattle.std.specs.Prelude.{◌≡◌, ◌⊎◌, ◌≤◌, ◌++◌, [], All, OnOk, OnErr, IfErr};
+ghost use Rattle.std.specs.Prelude.{◌≡◌, ◌⊎◌, ◌≤◌, ◌++◌, [], OnOk, OnErr, IfErr};
 ghost use Rattle.std.specs.Io.KnownBytes.{Appends};
 ghost use Rattle.gw_outside.specs.Faults.{HasRisen, TakesFront};
 ghost use Rattle.conn_turns.specs.News.{items_of};
 ghost use Rattle.conn_lines.specs.Lines.{connection_line};
-ghost use Rattle.conn_serve.specs.Lines.{news_line, news_lines, IsShort};
+ghost use Rattle.conn_serve.specs.Lines.{news_line, news_lines};
 ghost use Rattle.conn_door.specs.declared.answer.ServeFault.TheVariants as faults;
 
 use conn_door::ServeFault;
@@ -23,7 +23,6 @@ pub(crate) struct Teller {
 
 /// Adds the line of a piece of news.
 fn push_item(lines: &mut Vec<u8>, item: &NewsItem) -> Result<(), AllocError>
-    requires short { IsShort item.now }
     ensures added { OnOk result (lines.new.items ≡ lines.old.items ++ news_line item.now) }
 {
     match item {
@@ -36,7 +35,6 @@ fn push_item(lines: &mut Vec<u8>, item: &NewsItem) -> Result<(), AllocError>
 
 /// Adds the lines of all news.
 fn push_items(lines: &mut Vec<u8>, items: &[NewsItem]) -> Result<(), AllocError>
-    requires short { All IsShort items.now }
     ensures added { OnOk result (lines.new.items ≡ lines.old.items ++ news_lines items.now) }
 {
     for item in items {
@@ -56,7 +54,6 @@ impl Teller {
 
     /// Tells the news of the last turn.
     pub(crate) fn tell_news<K: Sink>(&mut self, out: &mut K) -> Result<(), ServeFault>
-        requires short { All IsShort (items_of self.old.news) }
         ensures told { OnOk result (Appends (K.taken out.old) (K.taken out.new) (news_lines (items_of self.old.news))) }
         ensures front { OnErr result (TakesFront (K.taken out.old) (K.taken out.new) (news_lines (items_of self.old.news))) }
         ensures same { self.new.news ≡ self.old.news }

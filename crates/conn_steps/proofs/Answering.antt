@@ -17,7 +17,8 @@ use Rattle.fixp_replies.specs.Outcomes.{Outcome}
 use Rattle.fixp_replies.specs.Replies.{reply_of}
 use Rattle.fixp_machine.specs.Machine.{State, after_act, done_pending, run, around}
 use Rattle.fixp_machine.specs.Fitting.{CanTake}
-use Rattle.fixp_machine.specs.Accepting.{payload_in, records_of}
+use Rattle.fixp_machine.specs.Accepting.{records_of}
+use Rattle.fixp_replies.specs.Incoming.{payload_in}
 use Rattle.jr_dated.specs.declared.journal.Journal.{Ghosts}
 use Rattle.jr_kept.specs.declared.inbox.Inbox.{Inbox}
 use Rattle.jr_kept.specs.Inbox.{limits_of}
@@ -28,9 +29,9 @@ use Rattle.conn_turns.specs.declared.news.NewsItem.{NewsItem}
 use Rattle.conn_turns.specs.declared.answer.TurnFault.{TurnFault}
 use Rattle.conn_turns.specs.declared.answer.TurnFault.TheVariants as faults
 use Rattle.conn_turns.specs.News.{told_by}
-use Rattle.conn_turns.specs.Lines.{frame_calls}
+use Rattle.conn_turns.specs.Lines.{act_calls}
 use Rattle.conn_steps.specs.Settling.{payload_at, records_at, told_at, refused_by, IsPast, Settled, Gains, Refuses}
-use Rattle.conn_steps.specs.Taking.{AnsweredFrame, fault_of, refused_by as left_by}
+use Rattle.conn_steps.specs.Taking.{AnsweredAct, fault_of, refused_by as left_by}
 use Rattle.conn_steps.specs.Ends.{answering_end}
 
 apart : (m n : ℕ) → m ≡ n → m ≡ 235 → n ≡ 91 → ⊥
@@ -121,9 +122,9 @@ module _ {J : Type 0} {G : Ghosts J} where
   pub answered : (old new : State) (order : Order) (message : List ℕ) (at now : ℕ) (box after : Inbox J G) (news later : List NewsItem) (act : Act) (i : Incoming) (b : Bool)
       → IsIncoming order message i → act ≡ (reply_of (around old at now) old.facts i).act
       → CanTake old.config.peer_flow old.most old.facts.recorded (IsApplication (payload_at order message)) act → b ≡ is_record act
-      → new ≡ run old (frame_calls now (record { at = at; frame = record { order = order; message = message }; incoming = i; recorded = b }))
+      → new ≡ run old (act_calls now (record { at = at; frame = record { order = order; message = message }; incoming = i; recorded = b; helds = 0 }))
       → Settled box after news later act (records_at act order message) (told_at act order message)
-      → AnsweredFrame now (answering_end old box news) (answering_end new after later) (record { order = order; message = message }) at
+      → AnsweredAct now (answering_end old box news) (answering_end new after later) (record { order = order; message = message }) at
   answered old new order message at now box after news later act i b is replies can recorded machine settled = record {
     incoming = i;
     is = is;

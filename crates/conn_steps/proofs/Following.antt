@@ -1,23 +1,29 @@
 -- Frames that are answered one after another, as the line, the inbox and the news go on over them.
-use Rattle.std.proofs.Common.{◌≡◌, ℕ, ◌+◌, ◌<◌, ◌≤◌, Bool, true, false, List, [], ◌∷◌, ◌++◌, drop, refl, sym, ap, subst, ◌∙◌, arith, append_assoc, append-nil, length-append}
-use Rattle.session_model.specs.Inbox.{InboxRecord}
+use Rattle.std.proofs.Common.{◌≡◌, ℕ, ◌+◌, ◌<◌, ◌≤◌, Bool, false, List, [], ◌∷◌, ◌++◌, length, take, drop, Some, refl, sym, ap, subst, ◌∙◌, arith, append_assoc, append-nil, length-append}
+use Rattle.std.specs.Prelude.{replicate}
+use Rattle.std.proofs.Math.Seq.{take-length}
+use Rattle.session_model.specs.Inbox.{InboxRecord, Numbered}
 use Rattle.sofh_frame.specs.Framing.{Frame, BeginsWith}
-use Rattle.fixp_replies.specs.Acts.{is_record}
 use Rattle.fixp_replies.specs.Incoming.{IsIncoming}
-use Rattle.fixp_machine.specs.Machine.{State, step}
+use Rattle.fixp_machine.specs.Machine.{State, run, front_of}
 use Rattle.fixp_machine.specs.Machine as calls
 use Rattle.jr_dated.specs.declared.journal.Journal.{Ghosts}
 use Rattle.jr_kept.specs.declared.inbox.Inbox.{Inbox}
 use Rattle.jr_kept.specs.Inbox.{limits_of}
 use Rattle.conn_turns.specs.declared.news.NewsItem.{NewsItem}
 use Rattle.conn_turns.specs.declared.answer.TurnFault.{TurnFault}
-use Rattle.conn_turns.specs.Lines.{Line, TakenFrame, size_of, MayTake, IsNext, IsTaken, reply_at, line_after, lines_after}
-use Rattle.conn_turns.specs.Frames.{adds, tells, added, told}
-use Rattle.conn_turns.proofs.Taking.{lines_more, taken_more, added_more, told_more}
+use Rattle.fixp_machine.specs.Accepting.{records_of}
+use Rattle.conn_turns.specs.News.{told_by}
+use Rattle.conn_turns.specs.Lines.{Line, TakenFrame, size_of, MayTake, IsNext, IsTaken, reply_at, act_calls, frame_calls, ready_in, ready_behind, line_after, lines_after}
+use Rattle.conn_turns.specs.Frames.{applies, delivers, adds, tells, added, told}
+use Rattle.conn_turns.specs.Turns as turns
+use Rattle.conn_turns.specs.Turns.{Refusal}
+use Rattle.conn_turns.specs.Refusals.{IsRefused, IsOfRecord, stood, told_before, refused, line_refused}
+use Rattle.conn_turns.proofs.Taking.{run_append, lines_more, taken_more, added_more, told_more}
 use Rattle.conn_steps.specs.Settling.{IsPast, Gains, Refuses}
 use Rattle.conn_steps.specs.Agreeing.{IsInTurn, KeepsOwn}
 use Rattle.conn_steps.proofs.Rooms.{gains_none, gains_on, refuses_on}
-use Rattle.conn_steps.specs.Taking.{AnsweredFrame, RefusedAct, TookFrame, RefusedFrame, TookFrames, CutFrames, refused_by}
+use Rattle.conn_steps.specs.Taking.{AnsweredFrame, RefusedAct, RefusedBehind, RefusedAnswer, of_act, of_held, TookFrame, RefusedFrame, TookFrames, CutFrames, refused_by}
 use Rattle.conn_steps.specs.Ends.{taking_end, answering_end}
 
 -- a line is its four parts
@@ -42,6 +48,7 @@ pub in_turn_less : (m : State) (now more fewer : ℕ) → fewer ≤ more → IsI
 in_turn_less m now more fewer less h = record {
   begun = h.begun;
   done = h.done;
+  drained = h.drained;
   time = h.time;
   room = omega (arith, h.room, less);
   credentials = h.credentials;
@@ -63,29 +70,93 @@ module _ {J : Type 0} {G : Ghosts J} where
   unfolding line_after adds tells
   took now size old new f box after news later may begins a held place over = record {
     frame = t;
-    taken = record { next = next_is old f size t may begins refl refl a.is; recorded = a.record_is };
-    line = line_is new (line_after now old t) a.machine (held ∙ ap (λ (n : ℕ). drop n old.held) begins.counts) (place ∙ ap (λ (n : ℕ). old.place + n) begins.counts) over;
-    gains = a.gains;
-    news_are = a.news_are;
+    taken = record { next = next_is old f size t may begins refl refl a.act.is; recorded = a.act.record_is; helds = ap (λ (ms : List Numbered). length ms) same };
+    line = line_is new (line_after now old t)
+        (a.helds.machine ∙ (ap (λ (m : State). run m (replicate (length ready) calls.held_done)) a.act.machine ∙ sym (run_append old.machine (act_calls now t) (replicate (length ready) calls.held_done))))
+        (held ∙ ap (λ (n : ℕ). drop n old.held) begins.counts) (place ∙ ap (λ (n : ℕ). old.place + n) begins.counts) over;
+    gains = subst (λ (ms : List Numbered). Gains box after (records_of (reply_at now old t).act t.incoming ++ applies ms)) (take-length ready ∙ same)
+        (gains_on box a.behind.box after (records_of (reply_at now old t).act t.incoming) (applies (take (length ready) ready)) a.act.gains a.helds.gains);
+    news_are = a.helds.news_are ∙ (ap (λ (ns : List NewsItem). ns ++ delivers (take (length ready) ready)) a.act.news_are
+        ∙ (append_assoc news (told_by (reply_at now old t).act t.incoming) (delivers (take (length ready) ready))
+        ∙ ap (λ (ms : List Numbered). news ++ (told_by (reply_at now old t).act t.incoming ++ delivers ms)) (take-length ready ∙ same)));
   }
     where
+      ready : List Numbered
+      ready = ready_in a.behind.machine
+
       t : TakenFrame
-      t = record { at = old.place; frame = f; incoming = a.incoming; recorded = a.recorded }
+      t = record { at = old.place; frame = f; incoming = a.act.incoming; recorded = a.act.recorded; helds = length ready }
+
+      same : ready ≡ ready_behind now old t
+      same = ap ready_in a.act.machine
 
   -- a frame whose act was refused
-  pub was_refused : (now size : ℕ) (old new : Line) (f : Frame) (box after : Inbox J G) (news later : List NewsItem) (fault : TurnFault) → MayTake old.machine → BeginsWith old.held f size
+  act_refused : (now size : ℕ) (old new : Line) (f : Frame) (box after : Inbox J G) (news later : List NewsItem) (fault : TurnFault) → MayTake old.machine → BeginsWith old.held f size
       → RefusedAct now (answering_end old.machine box news) (answering_end new.machine after later) f old.place fault → new.held ≡ old.held → new.place ≡ old.place → new.over ≡ old.over
       → RefusedFrame now (taking_end old box news) (taking_end new after later) fault
-  unfolding adds
-  was_refused now size old new f box after news later fault may begins a held place over = record {
-    frame = record { at = old.place; frame = f; incoming = a.incoming; recorded = false };
-    next = next_is old f size (record { at = old.place; frame = f; incoming = a.incoming; recorded = false }) may begins refl refl a.is;
-    line = line_is new (record old { machine = step old.machine (calls.frame a.incoming old.place now) }) a.machine held place over;
+  act_refused now size old new f box after news later fault may begins a held place over = record {
+    refusal = turns.of_act t;
+    is = next_is old f size t may begins refl refl a.is;
+    line = line_is new (line_refused now old (turns.of_act t)) a.machine held place over;
     refuses = a.refuses;
     past = a.past;
     recorded = a.recorded;
-    news_are = a.news_are;
+    news_are = a.news_are ∙ sym (append-nil news);
   }
+    where
+      t : TakenFrame
+      t = record { at = old.place; frame = f; incoming = a.incoming; recorded = false; helds = 0 }
+
+  -- a frame behind whose act a held message was refused
+  held_refused : (now size : ℕ) (old new : Line) (f : Frame) (box after : Inbox J G) (news later : List NewsItem) (fault : TurnFault) → MayTake old.machine → BeginsWith old.held f size
+      → RefusedBehind now (answering_end old.machine box news) (answering_end new.machine after later) f old.place fault → new.held ≡ old.held → new.place ≡ old.place → new.over ≡ old.over
+      → RefusedFrame now (taking_end old box news) (taking_end new after later) fault
+  held_refused now size old new f box after news later fault may begins b held place over = record {
+    refusal = turns.of_held t first;
+    is = record {
+      next = next_is old f size t may begins refl refl b.act.is;
+      recorded = b.act.record_is;
+      awaits = subst (λ (m : State). front_of m ≡ Some first) there b.later.refused.awaited;
+    };
+    line = line_is new (line_refused now old (turns.of_held t first)) (b.later.refused.machine ∙ there) held place over;
+    refuses = subst (λ (ms : List Numbered). Refuses box after (records ++ applies (take n ms)) (refused_by fault (applies (first ∷ [])))) same
+        (subst (λ (rs : List InboxRecord). Refuses box after rs (refused_by fault (applies (first ∷ [])))) (append-nil (records ++ applies (take n ready)))
+        (refuses_on box b.later.last.box after (records ++ applies (take n ready)) [] (refused_by fault (applies (first ∷ [])))
+        (gains_on box b.behind.box b.later.last.box records (applies (take n ready)) b.act.gains b.later.helds.gains) b.later.refused.refuses));
+    past = b.later.refused.past;
+    recorded = λ _. tt;
+    news_are = b.later.refused.news_are ∙ (b.later.helds.news_are ∙ (ap (λ (ns : List NewsItem). ns ++ delivers (take n ready)) b.act.news_are
+        ∙ (append_assoc news (told_by (reply_at now old t).act t.incoming) (delivers (take n ready))
+        ∙ ap (λ (ms : List Numbered). news ++ (told_by (reply_at now old t).act t.incoming ++ delivers (take n ms))) same)));
+  }
+    where
+      n : ℕ
+      n = b.later.count
+
+      first : Numbered
+      first = b.later.refused.message
+
+      ready : List Numbered
+      ready = ready_in b.behind.machine
+
+      t : TakenFrame
+      t = record { at = old.place; frame = f; incoming = b.act.incoming; recorded = b.act.recorded; helds = n }
+
+      records : List InboxRecord
+      records = records_of (reply_at now old t).act t.incoming
+
+      same : ready ≡ ready_behind now old t
+      same = ap ready_in b.act.machine
+
+      there : b.later.last.machine ≡ run old.machine (frame_calls now t)
+      there = b.later.helds.machine ∙ (ap (λ (m : State). run m (replicate n calls.held_done)) b.act.machine ∙ sym (run_append old.machine (act_calls now t) (replicate n calls.held_done)))
+
+  -- a frame of which something was refused
+  pub was_refused : (now size : ℕ) (old new : Line) (f : Frame) (box after : Inbox J G) (news later : List NewsItem) (fault : TurnFault) → MayTake old.machine → BeginsWith old.held f size
+      → RefusedAnswer now (answering_end old.machine box news) (answering_end new.machine after later) f old.place fault → new.held ≡ old.held → new.place ≡ old.place → new.over ≡ old.over
+      → RefusedFrame now (taking_end old box news) (taking_end new after later) fault
+  was_refused now size old new f box after news later fault may begins (of_act a) held place over = act_refused now size old new f box after news later fault may begins a held place over
+  was_refused now size old new f box after news later fault may begins (of_held b) held place over = held_refused now size old new f box after news later fault may begins b held place over
 
   -- none was taken yet
   pub took_none : (now : ℕ) (l : Line) (box : Inbox J G) (news : List NewsItem) → TookFrames now 0 (taking_end l box news) (taking_end l box news)
@@ -120,18 +191,20 @@ module _ {J : Type 0} {G : Ghosts J} where
   pub cut_behind : (now count : ℕ) (old mid new : Line) (box first second : Inbox J G) (news sooner later : List NewsItem) (fault : TurnFault) → TookFrames now count (taking_end old box news) (taking_end mid first sooner)
       → count < 16 → RefusedFrame now (taking_end mid first sooner) (taking_end new second later) fault → CutFrames now (taking_end old box news) (taking_end new second later) fault
   cut_behind now count old mid new box first second news sooner later fault many few one =
-      let t = one.frame in
+      let r : Refusal = one.refusal in
       let same : mid ≡ lines_after now old many.frames = many.line in
       record {
         frames = many.frames;
         few = omega (arith, many.many, few);
         taken = many.taken;
-        refused = t;
-        next = subst (λ (l : Line). IsNext l t) same one.next;
-        line = one.line ∙ ap (λ (l : Line). record l { machine = step l.machine (calls.frame t.incoming t.at now) }) same;
-        refuses = subst (λ (rs : List InboxRecord). Refuses box second rs (refused_by fault (adds now (lines_after now old many.frames) t))) (append-nil (added now old many.frames))
-            (refuses_on box first second (added now old many.frames) [] _ many.gains (subst (λ (l : Line). Refuses first second [] (refused_by fault (adds now l t))) same one.refuses));
-        past = λ entries bytes e. subst (λ (l : Line). IsPast (limits_of second).bytes bytes (adds now l t)) same (one.past entries bytes e);
-        recorded = λ other. subst (λ (l : Line). is_record (reply_at now l t).act ≡ true) same (one.recorded other);
-        news_are = one.news_are ∙ many.news_are;
+        refusal = r;
+        is = subst (λ (l : Line). IsRefused now l r) same one.is;
+        line = one.line ∙ ap (λ (l : Line). line_refused now l r) same;
+        refuses = subst (λ (l : Line). Refuses box second (added now old many.frames ++ stood now l r) (refused_by fault (refused now l r))) same
+            (refuses_on box first second (added now old many.frames) (stood now mid r) (refused_by fault (refused now mid r)) many.gains one.refuses);
+        past = λ entries bytes e. subst (λ (l : Line). IsPast (limits_of second).bytes bytes (refused now l r)) same (one.past entries bytes e);
+        recorded = λ other. subst (λ (l : Line). IsOfRecord now l r) same (one.recorded other);
+        news_are = one.news_are ∙ (ap (λ (ns : List NewsItem). ns ++ told_before now mid r) many.news_are
+            ∙ (append_assoc news (told now old many.frames) (told_before now mid r)
+            ∙ ap (λ (l : Line). news ++ (told now old many.frames ++ told_before now l r)) same));
       }

@@ -1,4 +1,5 @@
 pub mod Answering
 pub mod Following
+pub mod Holding
 pub mod Inboxes
 pub mod Rooms

@@ -1,20 +1,25 @@
 -- What holds between the machine, the inbox and the outbox's pass at a turn's start and at its end (this project's profile).
-use Rattle.std.specs.Prelude.{◌≡◌, ℕ, ◌+◌, ◌*◌, ◌≤◌, true, length, None}
+use Rattle.std.specs.Prelude.{◌≡◌, ℕ, ◌+◌, ◌*◌, ◌≤◌, true, [], length, None}
 use Rattle.jr_dated.specs.declared.journal.Journal.{Ghosts}
 use Rattle.jr_kept.specs.declared.inbox.Inbox.{Inbox}
 use Rattle.jr_kept.specs.Inbox.{next_of, is_negotiated, peer_last_of, flow_of, limits_of}
-use Rattle.fixp_machine.specs.Machine.{State}
+use Rattle.fixp_machine.specs.Machine.{State, front_of}
 
--- The machine between its calls, so many frames before a turn's frames end: no act is still to be done, no moment lies ahead,
--- there is room for the frames, and what is unsent and untold is little
+-- The machine between its calls, so many frames before a turn's frames end: no act is still to be done, no held message is to be applied
+-- first, no moment lies ahead, there is room for the frames, and what is unsent and untold is little
 pub record IsInTurn (m : State) (now frames : ℕ) : Type 0 where
   pub begun : m.begun ≡ true
   pub done : m.pending ≡ None
+  pub drained : front_of m ≡ None
   pub time : m.moment ≤ now
   pub room : frames ≤ m.room
   pub credentials : length m.config.credentials ≤ 2048
   pub unsent : length m.unsent + frames * 5000 ≤ 100000
   pub untold : length m.untold + frames ≤ 16
+
+-- the machine, were nothing held
+abbrev pub unheld : State → State
+unheld m = record m { held = [] }
 
 -- of the own flow, and of what the machine was made with, nothing changed, but that fewer entries may count as sent
 pub record KeepsOwn (old new : State) : Type 0 where

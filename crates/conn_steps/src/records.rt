@@ -63,6 +63,29 @@ fn deliver<J: Journal>(
     Ok(())
 }
 
+/// Applies a held message, and tells it.
+///
+/// # Errors
+/// As those of the inbox's call, and want of memory.
+pub fn deliver_held<J: Journal>(
+    alloc: Global,
+    inbox: &mut Inbox<J>,
+    news: &mut News,
+    number: u64,
+    payload: &[u8],
+) -> Result<(), AppendFault>
+    requires next { number ≡ next_of inbox.old }
+    requires most { number ≤ (limits_of inbox.old).entries }
+    requires payload { IsApplication payload.now }
+    ensures ok { OnOk result (Settled inbox.old inbox.new (items_of news.old) (items_of news.new) (acts.Apply number) (apply (record { number = number; payload = payload.now }) ∷ []) (news_items.Delivered number payload.now ∷ [])) }
+    ensures refused { IfErr result (Refused inbox.old inbox.new (items_of news.old) (items_of news.new) (apply (record { number = number; payload = payload.now }) ∷ [])) }
+    ensures kind { SameKind inbox.old inbox.new }
+    ensures never_falls { faults_of inbox.old ≤ faults_of inbox.new }
+{
+    let payload = Bytes::from_slice(alloc, payload)?;
+    deliver(inbox, news, number, payload)
+}
+
 /// Tells what the peer did not apply.
 fn hand_on(news: &mut News, from: u64, count: u32) -> Result<(), AllocError>
     ensures ok { OnOk result (items_of news.new ≡ items_of news.old ++ news_items.NotApplied from count ∷ []) }

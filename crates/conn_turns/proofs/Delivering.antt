@@ -1,6 +1,6 @@
 -- What frames deliver, and what they apply.
 use Rattle.std.proofs.Common.{◌≡◌, ℕ, ◌≤◌, List, [], ◌∷◌, ◌++◌, length, refl, sym, ap, ◌∙◌, arith}
-use Rattle.session_model.specs.Inbox.{InboxRecord, applied, payloads_of}
+use Rattle.session_model.specs.Inbox.{InboxRecord, Numbered, applied, payloads_of}
 use Rattle.session_model.proofs.Inboxes.{applied-append, payloads_of-append}
 use Rattle.fixp_replies.specs.declared.act.Act.{Act}
 use Rattle.fixp_replies.specs.declared.act.Act.TheVariants as acts
@@ -9,8 +9,8 @@ use Rattle.fixp_machine.specs.Accepting.{records_of}
 use Rattle.conn_turns.specs.declared.news.NewsItem.{NewsItem}
 use Rattle.conn_turns.specs.declared.news.NewsItem.TheVariants as items
 use Rattle.conn_turns.specs.News.{told_by, delivered_in}
-use Rattle.conn_turns.specs.Lines.{Line, TakenFrame, reply_at, line_after}
-use Rattle.conn_turns.specs.Frames.{adds, tells, added, told}
+use Rattle.conn_turns.specs.Lines.{Line, TakenFrame, reply_at, ready_behind, line_after}
+use Rattle.conn_turns.specs.Frames.{adds, tells, added, told, applies, delivers}
 
 -- what news deliver, behind other news
 pub delivered_append : (first later : List NewsItem) → delivered_in (first ++ later) ≡ delivered_in first ++ delivered_in later
@@ -36,9 +36,19 @@ by_act (acts.PeerFinished last) i = refl
 by_act (acts.Told from count) i = refl
 by_act acts.Ended i = refl
 
+by_helds : (ms : List Numbered) → delivered_in (delivers ms) ≡ payloads_of (applied (applies ms))
+by_helds [] = refl
+by_helds (m ∷ ms) = ap (λ ps. m.payload ∷ ps) (by_helds ms)
+
 by_frame : (now : ℕ) (l : Line) (t : TakenFrame) → delivered_in (tells now l t) ≡ payloads_of (applied (adds now l t))
 unfolding adds tells
-by_frame now l t = by_act (reply_at now l t).act t.incoming
+by_frame now l t =
+    let act = (reply_at now l t).act in
+    let ms = ready_behind now l t in
+    delivered_append (told_by act t.incoming) (delivers ms)
+    ∙ (ap (λ ps. ps ++ delivered_in (delivers ms)) (by_act act t.incoming)
+    ∙ (ap (λ ps. payloads_of (applied (records_of act t.incoming)) ++ ps) (by_helds ms)
+    ∙ sym (applied_payloads (records_of act t.incoming) (applies ms))))
 
 pub frames_deliver_applied : (now : ℕ) (l : Line) (frames : List TakenFrame) → delivered_in (told now l frames) ≡ payloads_of (applied (added now l frames))
 frames_deliver_applied now l [] = refl

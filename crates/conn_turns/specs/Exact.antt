@@ -8,7 +8,7 @@ use Rattle.gw_links.specs.Links.{LinkTold, IsAnswer, count_of, gives_lesser}
 use Rattle.fixp_machine.specs.Machine.{State, run}
 use Rattle.conn_turns.specs.Lines.{Line, lines_after, AreTaken}
 use Rattle.conn_turns.specs.Frames.{IsDone, unframed_at, is_link_over}
-use Rattle.conn_turns.specs.Turns.{Work, first_calls, closing_calls, again_calls, outbox_calls, calls_of_frames, served_of, served_now, live_of, finish_of}
+use Rattle.conn_turns.specs.Turns.{Work, first_calls, closing_calls, again_calls, outbox_calls, calls_of_frames, served_of, served_now, live_of, live_beside, finish_of}
 
 -- the bytes that a framer holds at most
 abbrev pub most_held : ℕ
@@ -50,7 +50,7 @@ pub record Served (h h' : History) (l behind : Line) (w : Work) : Type 0 where
   pub broken : w.broken ≡ unframed_at (length w.frames) (lines_after w.now l w.frames)
   pub link_over : w.link_over ≡ is_link_over (lines_after w.now l w.frames)
   pub due_again : w.due_again ≡ served_of (served_now (closed_at l w)) w.at_again
-  pub due_live : w.due_live ≡ live_of (run (closed_at l w) (again_calls w.now w.again)) w.at_live
+  pub due_live : w.due_live ≡ live_beside w.again (live_of (run (closed_at l w) (again_calls w.now w.again)) w.at_live)
   pub again : IsAsDue w.due_again w.again
   pub live : IsAsDue w.due_live w.live
   pub finish : w.finish ≡ finish_of (closed_at l w) w.at_finish

@@ -1,19 +1,27 @@
 -- What the frames of a turn add to the inbox, and what they tell.
-use Rattle.std.specs.Prelude.{◌≡◌, ◌⊎◌, ℕ, ◌&&◌, Bool, true, false, not, nat_lt, if◌then◌else◌, IsTrue, List, [], ◌∷◌, ◌++◌, Option, Some, None, is_some, is_none}
-use Rattle.session_model.specs.Inbox.{InboxRecord}
+use Rattle.std.specs.Prelude.{◌≡◌, ◌⊎◌, ℕ, ◌&&◌, Bool, true, false, not, nat_lt, if◌then◌else◌, IsTrue, List, [], ◌∷◌, ◌++◌, map, Option, Some, None, is_some, is_none}
+use Rattle.session_model.specs.Inbox.{InboxRecord, Numbered}
 use Rattle.sofh_frame.specs.Framing.{First, frame, rest, bad_length, bad_encoding, first_of}
 use Rattle.fixp_machine.specs.Machine.{State}
 use Rattle.fixp_machine.specs.Accepting.{records_of}
 use Rattle.conn_turns.specs.declared.news.NewsItem.{NewsItem}
 use Rattle.conn_turns.specs.News.{told_by}
-use Rattle.conn_turns.specs.Lines.{Line, TakenFrame, reply_at, line_after}
+use Rattle.conn_turns.specs.declared.news.NewsItem.TheVariants as items
+use Rattle.conn_turns.specs.Lines.{Line, TakenFrame, reply_at, ready_behind, line_after}
 
--- what the act of a frame adds to the inbox, and what it tells
+-- held messages that are applied, as records and as news
+abbrev pub applies : List Numbered → List InboxRecord
+applies ms = map InboxRecord.apply ms
+
+abbrev pub delivers : List Numbered → List NewsItem
+delivers ms = map (λ (m : Numbered). items.Delivered m.number m.payload) ms
+
+-- what a frame adds to the inbox, and what it tells: by its act, and by the held messages that are applied behind it
 unfoldable pub adds : ℕ → Line → TakenFrame → List InboxRecord
-adds now l t = records_of (reply_at now l t).act t.incoming
+adds now l t = records_of (reply_at now l t).act t.incoming ++ applies (ready_behind now l t)
 
 unfoldable pub tells : ℕ → Line → TakenFrame → List NewsItem
-tells now l t = told_by (reply_at now l t).act t.incoming
+tells now l t = told_by (reply_at now l t).act t.incoming ++ delivers (ready_behind now l t)
 
 -- what frames add, and what they tell, one after another
 abbrev pub added : ℕ → Line → List TakenFrame → List InboxRecord

@@ -2,5 +2,6 @@ pub mod Lines
 pub mod News
 pub mod Frames
 pub mod Turns
+pub mod Refusals
 pub mod Exact
 pub mod Laws

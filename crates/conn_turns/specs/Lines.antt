@@ -1,11 +1,13 @@
 -- A connection as one end sees it between its turns, and the frames that a turn takes of what it read (this project's profile).
-use Rattle.std.specs.Prelude.{◌≡◌, ℕ, ◌+◌, Bool, if◌then◌else◌, List, [], ◌∷◌, drop, length, None}
+use Rattle.std.specs.Prelude.{◌≡◌, ℕ, ◌+◌, Bool, if◌then◌else◌, List, [], ◌∷◌, ◌++◌, drop, length, replicate, None}
+use Rattle.session_model.specs.Inbox.{Numbered}
 use Rattle.sofh_frame.specs.Framing.{Frame, BeginsWith}
 use Rattle.fixp_replies.specs.Acts.{is_record}
 use Rattle.fixp_replies.specs.Incoming.{Incoming, IsIncoming}
 use Rattle.fixp_replies.specs.Outcomes.{Outcome}
 use Rattle.fixp_replies.specs.Replies.{reply_of}
-use Rattle.fixp_machine.specs.Machine.{State, Call, did, run, around}
+use Rattle.flow_window.specs.Gathering.{ready}
+use Rattle.fixp_machine.specs.Machine.{State, Call, did, held_done, run, around}
 use Rattle.fixp_machine.specs.Machine as calls
 
 -- the session machine; the bytes read of which no frame was taken yet; the place of the first of them among all bytes of the
@@ -16,13 +18,14 @@ pub record Line : Type 0 where
   pub place : ℕ
   pub over : Bool
 
--- a frame that a turn took: its place, its message in its byte order, what that is to an end, and whether its act is a record,
--- which was made stable and then told to be done
+-- a frame that a turn took: its place, its message in its byte order, what that is to an end, whether its act is a record, which was
+-- made stable and then told to be done, and how many held messages were applied behind it, each made stable and then told to be done
 pub record TakenFrame : Type 0 where
   pub at : ℕ
   pub frame : Frame
   pub incoming : Incoming
   pub recorded : Bool
+  pub helds : ℕ
 
 -- how many bytes a frame takes: 6 of its header, and its message (Simple Open Framing Header)
 abbrev pub size_of : Frame → ℕ
@@ -33,8 +36,19 @@ abbrev pub reply_at : ℕ → Line → TakenFrame → Outcome
 reply_at now l t = reply_of (around l.machine t.at now) l.machine.facts t.incoming
 
 -- the machine is told of a frame, and then that its act is done, where that is a record
+abbrev pub act_calls : ℕ → TakenFrame → List Call
+act_calls now t = calls.frame t.incoming t.at now ∷ (if t.recorded then did now ∷ [] else [])
+
+-- and then of each held message that was applied behind it
 abbrev pub frame_calls : ℕ → TakenFrame → List Call
-frame_calls now t = calls.frame t.incoming t.at now ∷ (if t.recorded then did now ∷ [] else [])
+frame_calls now t = act_calls now t ++ replicate t.helds held_done
+
+-- the held messages that the inbox awaits one after another behind the act of a frame
+abbrev pub ready_in : State → List Numbered
+ready_in m = ready m.facts.recorded.inbox_next m.held
+
+abbrev pub ready_behind : ℕ → Line → TakenFrame → List Numbered
+ready_behind now l t = ready_in (run l.machine (act_calls now t))
 
 -- a further frame may be taken: the connection has not ended, and no range is served
 pub record MayTake (m : State) : Type 0 where
@@ -48,10 +62,12 @@ pub record IsNext (l : Line) (t : TakenFrame) : Type 0 where
   pub at : t.at ≡ l.place
   pub is : IsIncoming t.frame.order t.frame.message t.incoming
 
--- the frame is the next one, and its act is a record exactly where it was told to be done
+-- the frame is the next one, its act is a record exactly where it was told to be done, and all held messages that the inbox then awaited
+-- one after another were applied
 pub record IsTaken (now : ℕ) (l : Line) (t : TakenFrame) : Type 0 where
   pub next : IsNext l t
   pub recorded : t.recorded ≡ is_record (reply_at now l t).act
+  pub helds : t.helds ≡ length (ready_behind now l t)
 
 -- what the line is once it was taken, and its act is done
 unfoldable pub line_after : ℕ → Line → TakenFrame → Line

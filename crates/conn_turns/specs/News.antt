@@ -3,7 +3,7 @@ use Rattle.std.specs.Prelude.{◌<◌, ℕ, List, [], ◌∷◌, vec_len, vec_ca
 use Rattle.fixp_replies.specs.declared.act.Act.{Act}
 use Rattle.fixp_replies.specs.declared.act.Act.TheVariants as acts
 use Rattle.fixp_replies.specs.Incoming.{Incoming}
-use Rattle.fixp_machine.specs.Accepting.{payload_in}
+use Rattle.fixp_replies.specs.Incoming.{payload_in}
 use Rattle.conn_turns.specs.declared.news.News.{News}
 use Rattle.conn_turns.specs.declared.news.NewsItem.{NewsItem}
 use Rattle.conn_turns.specs.declared.news.NewsItem.TheVariants as items

@@ -1,7 +1,8 @@
 -- What a turn of a connection did, and the calls of the session machine that it made (this project's profile).
-use Rattle.std.specs.Prelude.{◌≡◌, ⊤, ℕ, ◌+◌, ◌-◌, ◌&&◌, Bool, true, false, not, is_some, is_none, if◌then◌else◌, List, [], ◌∷◌, ◌++◌, length, take, drop, Option, Some, None}
+use Rattle.std.specs.Prelude.{◌≡◌, ⊤, ℕ, ◌+◌, ◌-◌, ◌&&◌, Bool, true, false, not, is_some, is_none, if◌then◌else◌, List, [], ◌∷◌, ◌++◌, length, take, drop, min, Option, Some, None}
 use Rattle.std.specs.List.{flat_map}
 use Rattle.session_model.specs.Journal.{History, payloads}
+use Rattle.session_model.specs.Inbox.{Numbered}
 use Rattle.fixp_msgs.specs.declared.numbering.Range.{Range}
 use Rattle.fixp_shake.specs.Flows.{is_absent}
 use Rattle.fixp_shake.specs.Phases.{is_established}
@@ -35,14 +36,20 @@ pub record Work : Type 0 where
   pub sent : List ℕ
   pub lost : Bool
 
+-- what the inbox refused: the act of a frame; or, behind the act of a frame and as many held messages as are counted with it, the next
+-- one that was held
+pub data Refusal : Type 0 where
+  of_act : TakenFrame → Refusal
+  of_held : TakenFrame → Numbered → Refusal
+
 -- What a turn did: it only sent, where output was unsent at its start or its tick ended the connection; it worked; its link
--- failed as it received; it was cut short, by a journal or by memory, behind these frames, and behind them the one whose act was
--- refused, if one was; or it had no memory to begin
+-- failed as it received; it was cut short, by a journal or by memory, behind these frames, and behind them by what was refused, if
+-- something was; or it had no memory to begin
 pub data Turn : Type 0 where
   only_sends : (now : ℕ) (sent : List ℕ) (lost : Bool) → Turn
   works : Work → Turn
   link_lost : (now : ℕ) → Turn
-  cut_short : (now : ℕ) (received : List ℕ) (frames : List TakenFrame) (refused : Option TakenFrame) → Turn
+  cut_short : (now : ℕ) (received : List ℕ) (frames : List TakenFrame) (refused : Option Refusal) → Turn
   not_begun : Turn
 
 -- what a turn sent of the outbox is what it had seen of it: each entry was read as it had been written
@@ -93,13 +100,19 @@ outbox_calls w = again_calls w.now w.again ++ (live_calls w.now w.live ++ finish
 abbrev pub sending_calls : List ℕ → Bool → List Call
 sending_calls sent lost = if lost then link_end ∷ [] else taken (length sent) ∷ []
 
+-- the machine was told of a frame whose act was refused alone, and of one behind which a held message was, of its act, and of those that
+-- were applied
+abbrev pub refused_calls : ℕ → Refusal → List Call
+refused_calls now (of_act t) = calls.frame t.incoming t.at now ∷ []
+refused_calls now (of_held t m) = frame_calls now t
+
 -- the calls of the machine that a turn made, in order
 abbrev pub calls_of : Turn → List Call
 calls_of (only_sends now sent lost) = first_calls now ++ sending_calls sent lost
 calls_of (works w) = first_calls w.now ++ (calls_of_frames w.now w.frames ++ (closing_calls w ++ (outbox_calls w ++ sending_calls w.sent w.lost)))
 calls_of (link_lost now) = first_calls now ++ link_end ∷ []
 calls_of (cut_short now received frames None) = first_calls now ++ calls_of_frames now frames
-calls_of (cut_short now received frames (Some t)) = first_calls now ++ (calls_of_frames now frames ++ calls.frame t.incoming t.at now ∷ [])
+calls_of (cut_short now received frames (Some r)) = first_calls now ++ (calls_of_frames now frames ++ refused_calls now r)
 calls_of not_begun = []
 
 -- a receive told that no byte will come
@@ -113,10 +126,15 @@ is_end (Some gots.End) = true
 abbrev pub payloads_from : History → ℕ → ℕ → List (List ℕ)
 payloads_from h from most = payloads (take most (drop (from - 1) h.made))
 
--- what is sent again where this is served: its range of the outbox, as it was seen then
+-- what is sent again where this is served: the front of its range of the outbox, 16 at most, as it was seen then
 abbrev pub served_of : Option Range → History → Option (List (List ℕ))
 served_of None h = None
-served_of (Some r) h = Some (payloads_from h r.from r.count)
+served_of (Some r) h = Some (payloads_from h r.from (min 16 r.count))
+
+-- nothing is sent live beside what was sent again
+abbrev pub live_beside : Option (List (List ℕ)) → Option (List (List ℕ)) → Option (List (List ℕ))
+live_beside None due = due
+live_beside (Some sent) due = None
 
 -- entries are sent live: in phase Established, where the connection is open, nothing is served, and there is an own flow
 abbrev pub sends_live : State → Bool

@@ -62,7 +62,7 @@ ended_some (Some x) e is = refl
 
 -- it ends by its link, where it has not ended
 abbrev link_as : State → Bool → State
-link_as s b = if b then s else record s { ending = Some (link_ending (around s 0 s.moment) s.facts); pending = None }
+link_as s b = if b then s else record s { ending = Some (link_ending (around s 0 s.moment) s.facts); pending = None; held = [] }
 
 -- the mark that stood is what a pass has seen
 mark : (h s : History) → BeginsHistory h s → (b : Bool) → h.finished ≡ b → IfSome (if b then Some (length h.made) else None) (λ n. (s.finished ≡ true) × (length s.made ≡ n))

@@ -13,7 +13,6 @@ use Rattle.gate_turn.specs.Places.{known}
 use Rattle.gate_turn.specs.Views.{Part}
 use Rattle.connection_laws.specs.Ranges.{IsInTime, IsInRange}
 use Rattle.conn_turns.specs.Lines.{Line, lines_after}
-use Rattle.conn_turns.specs.Frames.{added}
 use Rattle.conn_turns.specs.Turns.{cut_short}
 use Rattle.conn_turns.specs.declared.answer.TurnFault.{TurnFault}
 use Rattle.conn_loop.specs.Turned.{refused_of}
@@ -22,7 +21,7 @@ use Rattle.conn_loop.specs.Conn.{line_of, line_begun, line_cut, Looks}
 use Rattle.conn_loop.specs.Live.{live_end}
 use Rattle.turn_laws.specs.Standing.{Has}
 use Rattle.turn_laws.specs.Legs.{TurnedLeg, given_in, sent_in}
-use Rattle.turn_laws.specs.Turns.{line_received, adds_in}
+use Rattle.turn_laws.specs.Turns.{line_received, adds_in, adds_cut}
 use Rattle.turn_laws.proofs.Refusing.{cut_waits}
 use Rattle.two_ends.specs.Driving.{Beginning, Awaits, begun_leg, with_turn, cut_leg, Between, During}
 use Rattle.two_ends.specs.Stories.{IsOver}
@@ -114,14 +113,14 @@ module _ (b : Beginning) (past : List TurnedLeg) (leg : TurnedLeg) (e e' : Drive
   cut_turned failed made =
       let fault : TurnFault = made.0 in
       let w = made.1 in
-      let later : TurnedLeg = cut_leg leg (cut_short w.now w.received w.frames w.refused) in
-      let gained : List InboxRecord = added w.now (line_received (line_of e.conn) w.now w.received w.made.cut.got) w.frames in
-      let lost : List InboxRecord = refused_of fault w.now (lines_after w.now (line_received (line_of e.conn) w.now w.received w.made.cut.got) w.frames) w.refused in
+      let later : TurnedLeg = cut_leg leg (cut_short w.now w.received w.frames w.refusal) in
+      let gained : List InboxRecord = adds_cut w.now (line_received (line_of e.conn) w.now w.received w.made.cut.got) w.frames w.refusal in
+      let lost : List InboxRecord = refused_of fault w.now (lines_after w.now (line_received (line_of e.conn) w.now w.received w.made.cut.got) w.frames) w.refusal in
       record {
         later = later;
         given = w.received;
         sent = [];
-        carries = (turn_carries leg (cut_short w.now w.received w.frames w.refused) uncut).1;
+        carries = (turn_carries leg (cut_short w.now w.received w.frames w.refusal) uncut).1;
         moved = w.made.moved.tells;
         runs = record {
           opens = opens_same b e e' gate k.opens;
@@ -131,8 +130,8 @@ module _ (b : Beginning) (past : List TurnedLeg) (leg : TurnedLeg) (e e' : Drive
           whole = λ whole. absurd (unfailed e'.standing whole failed);
           during = λ going'. absurd (unfailed e'.standing (ap is_failed going') failed);
           between = λ over. absurd (unfailed e'.standing (ap is_failed over) failed);
-          failed = λ _ closing has. life_fails b past leg (now_of e k.inbox) w.now w.received w.frames w.refused lost closing awaits (k.during going) w.made.cut w.timely
-              (λ h c stands. cut_waits h c (line_of e.conn) w.now w.received w.frames w.refused fault lost stands w.made.cut refl)
+          failed = λ _ closing has. life_fails b past leg (now_of e k.inbox) w.now w.received w.frames w.refusal lost closing awaits (k.during going) w.made.cut w.timely
+              (λ h c stands. cut_waits h c (line_of e.conn) w.now w.received w.frames w.refusal fault lost stands w.made.cut refl)
               (record { begins = prefix_trans (known e.pass).seen.made (known e'.pass).seen.made (entries closing) looks.seen.made has.begins; few = has.few });
         };
       }

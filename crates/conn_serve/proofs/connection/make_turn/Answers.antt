@@ -1,10 +1,12 @@
-use Rattle.std.proofs.Common.{[], refl, sym, ◌∙◌}
+use Rattle.std.proofs.Common.{[], refl, sym, subst, ◌∙◌}
 use Rattle.std.proofs.lemmas.Result.{on_ok_weaker}
+use Rattle.fixp_machine.specs.Machine.{State, Windowed}
 use Rattle.conn_turns.specs.declared.answer.TurnFault.{TurnFault}
-use Rattle.conn_loop.specs.Ends.{pass_in, in_turn}
+use Rattle.conn_loop.specs.Ends.{line_in, pass_in, in_turn}
 use Rattle.turn_laws.proofs.Repacking.{turn_is_one, cut_is_one}
 use Rattle.conn_serve.proofs.Making.{whole_at, err_at, on_cut, on_both, goes_made, lost_made, closed_made, of_turn_made, blamed_made}
-use Rattle.conn_serve.proofs.Turning.{was_short, was_few, cut_is_short}
+use Rattle.conn_serve.proofs.Turning.{was_few, cut_is_few}
+use Rattle.conn_serve.proofs.Fewness.{held_few}
 use Rattle.conn_serve.proofs.connection.make_turn.Goals as goal
 
 pub returns-clause-whole : goal.returns-clause-whole
@@ -19,15 +21,14 @@ returns-clause-cut g c =
     (λ (f : TurnFault) why is k. record { fault = f; is = is; cut = cut_is_one c.args.end.now.inbox.now _ _ _ (in_turn _ _ c.args.end.now []) (in_turn _ _ c.turn.new.self _) f c.turn.ensures.limit c.turn.ensures.stays.ticks k })
     c.turn.ensures.cut)
 
-pub returns-clause-short : goal.returns-clause-short
-returns-clause-short g c =
-    on_both _ _ _ c.close_of.result (returns-clause-whole g c) (returns-clause-cut g c)
-    (was_short _ _ _ (in_turn _ _ c.args.end.now []) (in_turn _ _ c.turn.new.self _) refl)
-    (λ why. cut_is_short _ _ _ (in_turn _ _ c.args.end.now []) (in_turn _ _ c.turn.new.self _) why refl)
-
 pub returns-clause-few : goal.returns-clause-few
 returns-clause-few g c =
-    on_ok_weaker c.close_of.result (was_few _ _ _ (in_turn _ _ c.args.end.now []) (in_turn _ _ c.turn.new.self _) refl) (returns-clause-whole g c)
+    let m : State = (line_in c.args.end.now).machine in
+    let windowed = subst (λ (s : State). Windowed s.config s.most s.facts s.ending s.held) c.end.ensures c.windowed.ensures in
+    let held = held_few m.config m.most m.facts m.ending m.held windowed c.requires.may.goes.drained in
+    on_both _ _ _ c.close_of.result (returns-clause-whole g c) (returns-clause-cut g c)
+    (was_few _ _ _ (in_turn _ _ c.args.end.now []) (in_turn _ _ c.turn.new.self _) refl held)
+    (λ why. cut_is_few _ _ _ (in_turn _ _ c.args.end.now []) (in_turn _ _ c.turn.new.self _) why refl held)
 
 pub returns-clause-goes : goal.returns-clause-goes
 returns-clause-goes g c = λ e. goes_made _ c.turn.result c.turn.ensures.goes (sym c.close_of.ensures ∙ e)

@@ -18,7 +18,7 @@ returns-then-is_ok-clause-given_up g c =
     let cut = c.cut.ensures in
     (given_in_cut (λ adds. ⊤) _ _ _ _ _ _ c.make_turn-answer.new.end c.cut.new.self cut.pass cut.inbox cut.clock (
       given_told c.make_turn-answer.result c.in-Err.fault _ _ (connection_in _ _ _ c.args.end.now) (connection_in _ _ _ c.make_turn-answer.new.end) _ c.requires.may.goes.unended
-          made.stays.looks.seen made.stays.ticks made.whole made.cut c.in-Err.ensures.front c.in-Err.ensures.cause,
+          made.stays.looks.seen made.stays.ticks made.whole made.cut made.few c.in-Err.ensures.front c.in-Err.ensures.cause,
       tt,
     )).0
 
@@ -28,7 +28,7 @@ returns-then-is_ok-clause-stays g c = stays_on _ _ _ c.make_turn-answer.ensures.
 pub returns-else-is_ok-clause-given_up : goal.returns-else-is_ok-clause-given_up
 returns-else-is_ok-clause-given_up g c =
     let made = c.make_turn-answer.ensures in
-    given_told c.make_turn-answer.result c.in-Err.fault _ _ (connection_in _ _ _ c.args.end.now) (connection_in _ _ _ c.make_turn-answer.new.end) _ c.requires.may.goes.unended made.stays.looks.seen made.stays.ticks made.whole made.cut
+    given_told c.make_turn-answer.result c.in-Err.fault _ _ (connection_in _ _ _ c.args.end.now) (connection_in _ _ _ c.make_turn-answer.new.end) _ c.requires.may.goes.unended made.stays.looks.seen made.stays.ticks made.whole made.cut made.few
     c.in-Err.ensures.front c.in-Err.ensures.cause
 
 pub returns-clause-turned : goal.returns-clause-turned
@@ -42,5 +42,5 @@ returns-clause-turned g c =
 pub returns-clause-given_up : goal.returns-clause-given_up
 returns-clause-given_up g c =
     let made = c.make_turn-answer.ensures in
-    given_answer g.O.Journal.tells c.make_turn-answer.result _ (connection_in _ _ _ c.args.end.now) (connection_in _ _ _ c.make_turn-answer.new.end) _ made.stays.looks.seen made.stays.ticks made.cut made.of_turn
+    given_answer g.O.Journal.tells c.make_turn-answer.result _ (connection_in _ _ _ c.args.end.now) (connection_in _ _ _ c.make_turn-answer.new.end) _ made.stays.looks.seen made.stays.ticks made.cut made.of_turn made.few
     c.in_default.ensures.told

@@ -6,7 +6,7 @@ use Rattle.conn_turns.specs.Turns.{bad_calls, end_calls}
 use Rattle.conn_turns.proofs.Taking.{run_append}
 use Rattle.conn_steps.proofs.Following.{line_is}
 use Rattle.conn_loop.specs.Conn.{line_of}
-use Rattle.conn_loop.proofs.Machine.{turn_keeps}
+use Rattle.conn_loop.proofs.Machine.{turn_keeps, turn_drained}
 use Rattle.conn_loop.proofs.conn.Conn.close_frames.Goals as goal
 
 pub returns-clause-closed : goal.returns-clause-closed
@@ -29,3 +29,8 @@ returns-clause-closed c =
 
 pub returns-clause-told : goal.returns-clause-told
 returns-clause-told c = λ goes. c.turn_done.ensures.told (sym (ap (λ (s : State). s.ending) c.turn_done.ensures.turn ∙ turn_keeps c.tell_end.new.self.end c.args.now) ∙ goes)
+
+pub returns-clause-drained : goal.returns-clause-drained
+returns-clause-drained c =
+    let d = c.turn_done.ensures in
+    turn_drained c.tell_end.new.self.end c.turn_done.new.self c.args.now d.turn d.recorded (c.tell_end.ensures.keeps.drained (c.tell_bad.ensures.keeps.drained c.requires.in_turn.drained))

@@ -63,7 +63,7 @@ returns-clause-answer g c = loss_answer c.work.new.self.end c.send.new.self.end 
 pub returns-clause-goes : goal.returns-clause-goes
 returns-clause-goes g c = λ e.
     let w = c.in_default-work.ensures in
-    goes_after c.args.now c.work.new.self.end c.send.new.self.end (known c.work.new.pass) w.serve c.requires.time c.send.ensures.keeps c.send.ensures.facts c.send.ensures.little c.send.ensures.goes w.unserved w.untold
+    goes_after c.args.now c.work.new.self.end c.send.new.self.end (known c.work.new.pass) w.serve c.requires.time c.send.ensures.keeps c.send.ensures.facts c.send.ensures.little c.send.ensures.goes w.untold
     (loss_goes c.work.new.self.end c.send.new.self.end c.send.result c.send.ensures.answer e)
 
 pub returns-clause-leaves : goal.returns-clause-leaves

@@ -1,4 +1,4 @@
-use Rattle.std.proofs.Common.{◌≡◌, ◌+◌, ◌<◌, ◌≤◌, length, Option, Some, false, sym, ap, subst, ◌∙◌, refl, arith}
+use Rattle.std.proofs.Common.{◌≡◌, ℕ, ◌+◌, ◌<◌, ◌≤◌, length, Option, Some, false, sym, ap, subst, ◌∙◌, refl, arith}
 use Rattle.std.specs.Prelude.{is_some, IfSome}
 use Rattle.session_model.proofs.Lists.{prefix_length}
 use Rattle.fixp_msgs.specs.declared.numbering.Range.{Range}
@@ -6,13 +6,13 @@ use Rattle.fixp_shake.specs.declared.config.EndConfig.{EndConfig}
 use Rattle.fixp_replies.specs.declared.facts.EndState.{EndState}
 use Rattle.fixp_end.specs.Sending.{AreFrom, payloads_of}
 use Rattle.fixp_end.proofs.Frames.{frames_fit}
-use Rattle.fixp_machine.specs.Machine.{State, sent_again}
+use Rattle.fixp_machine.specs.Machine.{State, front_of, sent_again}
 use Rattle.gate_turn.specs.Places.{known}
-use Rattle.conn_turns.specs.Turns.{served_of}
+use Rattle.conn_turns.specs.Turns.{payloads_from, served_of}
 use Rattle.conn_turns.specs.Exact.{IsAsDue}
 use Rattle.conn_steps.proofs.Following.{line_is}
-use Rattle.conn_loop.proofs.Entries.{sized, given_as, applied_as, due_given, told_given, numbers_given, length_given, length_payloads}
-use Rattle.conn_loop.proofs.Machine.{again_is, served_some, seen_on, rest_none}
+use Rattle.conn_loop.proofs.Entries.{sized, given_as, applied_as, due_given, told_given, numbers_given, length_given}
+use Rattle.conn_loop.proofs.Machine.{again_is, served_some, seen_on}
 use Rattle.conn_loop.proofs.conn.Conn.send_again.Goals as goal
 
 pub send_again-requires-clause-front : goal.send_again-requires-clause-front
@@ -21,7 +21,7 @@ send_again-requires-clause-front g c =
     let given = given_as c.as_slice.ensures.value c.in-Ok.ensures.given in
     let serving = sym c.serving.ensures.value ∙ c.in-Some.is in
     subst (λ (o : Option Range). IfSome o (λ r. AreFrom r.from c.as_slice.result.now)) (sym serving)
-    (numbers_given h c.in-Some.range.from c.in-Some.range.count c.as_slice.result.now given)
+    (numbers_given h c.in-Some.range.from c.entries_of-most.result c.as_slice.result.now given)
 
 pub send_again-requires-clause-within : goal.send_again-requires-clause-within
 send_again-requires-clause-within g c =
@@ -29,7 +29,7 @@ send_again-requires-clause-within g c =
     let given = given_as c.as_slice.ensures.value c.in-Ok.ensures.given in
     let serving = sym c.serving.ensures.value ∙ c.in-Some.is in
     subst (λ (o : Option Range). IfSome o (λ r. length c.as_slice.result.now ≤ r.count)) (sym serving)
-    (omega (arith, length_given h c.in-Some.range.from c.in-Some.range.count c.as_slice.result.now given))
+    (omega (arith, length_given h c.in-Some.range.from c.entries_of-most.result c.as_slice.result.now given, c.entries_of-most.ensures))
 
 pub send_again-requires-clause-ranged : goal.send_again-requires-clause-ranged
 send_again-requires-clause-ranged g c =
@@ -37,7 +37,7 @@ send_again-requires-clause-ranged g c =
     let given = given_as c.as_slice.ensures.value c.in-Ok.ensures.given in
     let serving = sym c.serving.ensures.value ∙ c.in-Some.is in
     subst (λ (o : Option Range). IfSome o (λ r. r.from + length c.as_slice.result.now < 18446744073709551616)) (sym serving)
-    (omega (arith, length_given h c.in-Some.range.from c.in-Some.range.count c.as_slice.result.now given, c.in-Some.ensures.sent.last, c.requires.serve.sent))
+    (omega (arith, length_given h c.in-Some.range.from c.entries_of-most.result c.as_slice.result.now given, c.entries_of-most.ensures, c.in-Some.ensures.sent.last, c.requires.serve.sent))
 
 pub send_again-requires-clause-output : goal.send_again-requires-clause-output
 send_again-requires-clause-output g c =
@@ -45,8 +45,8 @@ send_again-requires-clause-output g c =
     let given = given_as c.as_slice.ensures.value c.in-Ok.ensures.given in
     omega (
       arith,
-      length_given h c.in-Some.range.from c.in-Some.range.count c.as_slice.result.now given,
-      c.in-Some.ensures.sent.few,
+      length_given h c.in-Some.range.from c.entries_of-most.result c.as_slice.result.now given,
+      c.entries_of-most.ensures,
       frames_fit c.as_slice.result.now (sized c.as_slice.ensures.value c.in-Ok.ensures.sizes),
       c.requires.serve.little,
     )
@@ -56,7 +56,7 @@ returns-in-Ok-clause-again g c =
     let m = c.args.self.now.end in
     let h = (known c.fetch.new.pass).seen in
     let from = c.in-Some.range.from in
-    let count = c.in-Some.range.count in
+    let most = c.entries_of-most.result in
     let given = given_as c.as_slice.ensures.value c.in-Ok.ensures.given in
     let serving = sym c.serving.ensures.value ∙ c.in-Some.is in
     let goes : is_some m.ending ≡ false = cc in
@@ -65,8 +65,10 @@ returns-in-Ok-clause-again g c =
     record {
       sent = Some pays;
       as_due = subst (λ (o : Option Range). IsAsDue (served_of o h) (Some pays)) (sym served)
-          (due_given h from count c.as_slice.result.now given (applied_as c.as_slice.ensures.value c.in-Ok.ensures.applications));
-      told = λ tells. told_given h from count c.as_slice.result.now given tells ∙ ap (λ (o : Option Range). served_of o h) (sym served);
+          (subst (λ (n : ℕ). IsAsDue (Some (payloads_from h from n)) (Some pays)) c.entries_of-most.ensures
+          (due_given h from most c.as_slice.result.now given (applied_as c.as_slice.ensures.value c.in-Ok.ensures.applications)));
+      told = λ tells. told_given h from most c.as_slice.result.now given tells
+          ∙ (ap (λ (n : ℕ). Some (payloads_from h from n)) c.entries_of-most.ensures ∙ ap (λ (o : Option Range). served_of o h) (sym served));
       line = line_is _ _ (again_is m c.send_again.new.self m.facts.connection.serving c.in-Some.range _ _ c.args.now serving refl c.send_again.ensures.again) refl refl refl;
     }
 
@@ -85,12 +87,13 @@ returns-in-Ok-clause-serve g c =
     record {
       begun = stays.begun ∙ c.requires.serve.begun;
       done = ap (λ (s : State). s.pending) exact ∙ c.requires.serve.done;
+      drained = ap (λ (s : State). front_of s) exact ∙ c.requires.serve.drained;
       time = omega (arith, stays.moment);
       credentials = omega (arith, ap (λ (x : EndConfig). length x.credentials) stays.config, c.requires.serve.credentials);
       little = omega (
         arith,
-        length_given h c.in-Some.range.from c.in-Some.range.count c.as_slice.result.now given,
-        c.in-Some.ensures.sent.few,
+        length_given h c.in-Some.range.from c.entries_of-most.result c.as_slice.result.now given,
+        c.entries_of-most.ensures,
         frames_fit c.as_slice.result.now (sized c.as_slice.ensures.value c.in-Ok.ensures.sizes),
         c.requires.serve.little,
         c.send_again.ensures.small,
@@ -100,23 +103,9 @@ returns-in-Ok-clause-serve g c =
           (omega (arith, sent, c.requires.serve.seen.entries, prefix_length (known c.args.pass.now).seen.made h.made c.in-Ok.ensures.turn.seen.made)) c.requires.serve.seen;
     }
 
-pub returns-in-Ok-clause-unserved : goal.returns-in-Ok-clause-unserved
-returns-in-Ok-clause-unserved g c = λ _.
+pub returns-in-Ok-clause-some : goal.returns-in-Ok-clause-some
+returns-in-Ok-clause-some g c =
     let m = c.args.self.now.end in
-    let n = c.send_again.new.self in
-    let h = (known c.fetch.new.pass).seen in
-    let given = given_as c.as_slice.ensures.value c.in-Ok.ensures.given in
     let serving = sym c.serving.ensures.value ∙ c.in-Some.is in
-    let exact : n ≡ sent_again m c.in-Some.range (payloads_of c.as_slice.result.now) c.args.now
-    = subst (λ (o : Option Range). IfSome o (λ r. n ≡ sent_again m r (payloads_of c.as_slice.result.now) c.args.now)) serving c.send_again.ensures.again in
-    ap (λ (s : State). s.facts.connection.serving) exact
-    ∙ rest_none c.in-Some.range (length (payloads_of c.as_slice.result.now))
-    (omega (
-      arith,
-      length_payloads c.as_slice.result.now,
-      length_given h c.in-Some.range.from c.in-Some.range.count c.as_slice.result.now given,
-      c.in-Some.ensures.sent.first,
-      c.in-Some.ensures.sent.last,
-      c.requires.serve.seen.entries,
-      prefix_length (known c.args.pass.now).seen.made h.made c.in-Ok.ensures.turn.seen.made,
-    ))
+    let goes : is_some m.ending ≡ false = cc in
+    sym (ap (λ (o : Option Range). is_some o) (served_some m c.in-Some.range goes serving))

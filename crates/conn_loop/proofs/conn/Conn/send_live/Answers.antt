@@ -2,7 +2,7 @@ use Rattle.std.proofs.Common.{◌≡◌, ◌+◌, ℕ, Bool, List, length, Optio
 use Rattle.session_model.proofs.Lists.{prefix_length}
 use Rattle.fixp_end.specs.Sending.{AreFrom, payloads_of}
 use Rattle.fixp_end.proofs.Frames.{frames_fit}
-use Rattle.fixp_machine.specs.Machine.{State}
+use Rattle.fixp_machine.specs.Machine.{State, front_of}
 use Rattle.gate_turn.specs.Places.{known}
 use Rattle.conn_turns.specs.Turns.{payloads_from, sends_live, live_of}
 use Rattle.conn_turns.specs.Exact.{IsAsDue}
@@ -70,6 +70,7 @@ returns-in-Ok-clause-serve g c =
     record {
       begun = ap (λ (s : State). s.begun) live ∙ c.requires.serve.begun;
       done = ap (λ (s : State). s.pending) live ∙ c.requires.serve.done;
+      drained = ap (λ (s : State). front_of s) live ∙ c.requires.serve.drained;
       time = omega (arith, ap (λ (s : State). s.moment) live);
       credentials = omega (arith, ap (λ (s : State). length s.config.credentials) live, c.requires.serve.credentials);
       little = omega (

@@ -51,7 +51,7 @@ pub returns-then-not-works-clause-goes : goal.returns-then-not-works-clause-goes
 returns-then-not-works-clause-goes g c = λ e.
     let s = c.in-Ok.ensures in
     let t = c.send.ensures in
-    goes_still c.moment-now.result c.args.self.now.end c.start.new.self.end c.send.new.self.end c.requires.goes c.moment-now.ensures.limit s.begun s.done s.untold s.moment s.config s.facts (s.little (cc)) t.keeps t.facts t.little
+    goes_still c.moment-now.result c.args.self.now.end c.start.new.self.end c.send.new.self.end c.requires.goes c.moment-now.ensures.limit s.begun s.done s.drained s.untold s.moment s.config s.facts (s.little (cc)) t.keeps t.facts t.little
     t.goes (loss_goes c.start.new.self.end c.send.new.self.end c.send.result t.answer e)
 
 pub returns-then-not-works-clause-leaves : goal.returns-then-not-works-clause-leaves
