@@ -26,8 +26,11 @@ use Rattle.fixp_replies.specs.declared.facts.OwnFinish.TheVariants as own
 use Rattle.fixp_replies.specs.Outcomes.{Outcome, breaks}
 use Rattle.fixp_replies.specs.Replies.{reply_of}
 use Rattle.fixp_machine.specs.Sound.{WithinMost, KeepsSound}
-use Rattle.fixp_machine.specs.Machine.{State, Call, begin, frame, bad_frame, did, tick, turn_done, closed, link_end, live, again, taken, reserve, around, bytes_of, wrote, made, to_tell, reply_applied, broken_by, done_pending, served_again, rest_of, step, StaysSound}
+use Rattle.fixp_machine.specs.Machine.{State, Call, begin, frame, bad_frame, did, tick, turn_done, closed, link_end, live, again, taken, reserve, held_done, held_until, held_with, held_applied, past_held, front_of, around, bytes_of, wrote, made, to_tell, reply_applied, broken_by, done_pending, served_again, rest_of, step, StaysSound}
 use Rattle.fixp_machine.proofs.Expecting.{kept}
+use Rattle.session_model.specs.Inbox.{Numbered, numbers_of}
+use Rattle.fixp_replies.specs.Incoming.{payload_in}
+use Rattle.fixp_machine.proofs.Windowing.{front_there}
 use Rattle.fixp_machine.proofs.Keeping.{sound_goes_on}
 use Rattle.connection_laws.specs.Framed.{IsLegalPiece}
 use Rattle.connection_laws.specs.Writing.{said_all, entries, said_with, said_breaking, range_closed, written_again, writes}
@@ -173,7 +176,7 @@ legal_writes h s (frame i at now) all sound r may fits = by_record (is_record (r
   where
     by_record : (b : Bool) → AllByRecursion IsLegalPiece (if b then [] else said_all (reply_of (around s at now) s.facts i).written)
     by_record true = tt
-    by_record false = legal_said (reply_of (around s at now) s.facts i).written (legal_reply (around s at now) s.facts i (ready s at now sound r fits.1) sound.facts fits.0)
+    by_record false = legal_said (reply_of (around s at now) s.facts i).written (legal_reply (around s at now) s.facts i (ready s at now sound r fits.1) sound.facts sound.windowed.fits fits.0)
 legal_writes h s (bad_frame at now) all sound r may fits = (legal_terminate s.config.session 2 r.range.session (omega arith), tt)
 legal_writes h s (did now) all sound r may fits = by_pending s.pending r.pending
   where
@@ -207,6 +210,7 @@ legal_writes h s (again ps now) all sound r may fits =
     legal_again h s s.facts.connection.serving ps sound all (λ q e. subst (λ (t : Range). AreEntries h t.from ps) (let same : may.comes.range ≡ q = cc (may.comes.serves, e) in same) may.comes.entries)
 legal_writes h s (taken count) all sound r may fits = tt
 legal_writes h s reserve all sound r may fits = tt
+legal_writes h s held_done all sound r may fits = tt
 
 -- a state is in range whose configuration is another's, and whose inbox awaits a number in range
 pub in_range : (s t : State) → t.config ≡ s.config → t.most ≡ s.most → IsInRange s → t.facts.recorded.inbox_next ≤ s.most + 1 → IsInRange t
@@ -264,14 +268,14 @@ pub ranged_step : (h : List Entry) (s : State) (call : Call) → StaysSound s �
 ranged_step h s (begin now) sound r may fits = absurd may.comes
 ranged_step h s (frame i at now) sound r may fits =
     either Ranged (is_record o.act) (record s { moment = now; last_received = now; room = s.room - 1; pending = Some o }) (reply_applied got o now)
-    (record { range = in_range s (record s { moment = now; last_received = now; room = s.room - 1; pending = Some o }) refl refl r.range r.range.next; untold = r.untold; pending = legal_reply (around s at now) s.facts i (ready s at now sound r fits.1) sound.facts fits.0 })
-    (applied_ranged s got o now refl refl refl r (sound_goes_on (around s at now) s.facts i sound.most sound.facts))
+    (record { range = in_range s (record s { moment = now; last_received = now; room = s.room - 1; pending = Some o }) refl refl r.range r.range.next; untold = r.untold; pending = legal_reply (around s at now) s.facts i (ready s at now sound r fits.1) sound.facts sound.windowed.fits fits.0 })
+    (applied_ranged s got o now refl refl refl r (sound_goes_on (around s at now) s.facts i sound.most sound.facts sound.windowed.fits))
   where
     o : Outcome
     o = reply_of (around s at now) s.facts i
 
     got : State
-    got = record s { moment = now; last_received = now; room = s.room - 1 }
+    got = record s { moment = now; last_received = now; room = s.room - 1; held = held_with o.holds (payload_in i) s.held }
 ranged_step h s (bad_frame at now) sound r may fits =
     applied_ranged s (record s { moment = now; last_received = now }) (breaks (around s at now) s.facts (BadFrame at)) now refl refl refl r
     (record { next = sound.facts; sent = kept s.config s.facts s.facts refl; advances = refl; within = tt; writes = (record { opening = λ t. absurd (true≢false (sym t)); writable = record { numbers = (tt, (tt, tt)); datum = omega arith } }, tt) })
@@ -318,8 +322,8 @@ ranged_step h s (closed last now) sound r may fits =
     by_test true = refl
     by_test false = refl
 ranged_step h s link_end sound r may fits =
-    either Ranged (is_some s.ending) s (record s { ending = Some (link_ending (around s 0 s.moment) s.facts); pending = None })
-    r (record { range = in_range s (record s { ending = Some (link_ending (around s 0 s.moment) s.facts); pending = None }) refl refl r.range r.range.next; untold = r.untold; pending = tt })
+    either Ranged (is_some s.ending) s (record s { ending = Some (link_ending (around s 0 s.moment) s.facts); pending = None; held = [] })
+    r (record { range = in_range s (record s { ending = Some (link_ending (around s 0 s.moment) s.facts); pending = None; held = [] }) refl refl r.range r.range.next; untold = r.untold; pending = tt })
 ranged_step h s (live ps now) sound r may fits = same_ranged s (step s (live ps now)) refl refl refl refl refl r
 ranged_step h s (again ps now) sound r may fits = by_range s.facts.connection.serving
   where
@@ -328,3 +332,8 @@ ranged_step h s (again ps now) sound r may fits = by_range s.facts.connection.se
     by_range (Some q) = same_ranged s (served_again s (Some q) ps now) refl refl refl refl refl r
 ranged_step h s (taken count) sound r may fits = same_ranged s (step s (taken count)) refl refl refl refl refl r
 ranged_step h s reserve sound r may fits = same_ranged s (step s reserve) refl refl refl refl refl r
+ranged_step h s held_done sound r may fits =
+    let k = front_there s.facts.recorded.inbox_next s.held may.may_call.1 in
+    let top : k.first.number ≤ s.most = (subst (λ (ms : List Numbered). AllByRecursion (λ (n : ℕ). n ≤ s.most) (numbers_of ms)) k.held_is sound.windowed.most).0 in
+    subst (λ (m : Option Numbered). Ranged (held_applied s m)) (sym k.front_is)
+    (record { range = in_range s (held_applied s (Some k.first)) refl refl r.range (omega (arith, top)); untold = r.untold; pending = r.pending })

@@ -9,13 +9,14 @@ use Rattle.flow_idem.specs.Runs.{runs_of}
 use Rattle.fixp_shake.specs.declared.violation.Violation.{Violation}
 use Rattle.fixp_replies.specs.Acts.{is_record}
 use Rattle.fixp_replies.specs.Events.{heartbeats, lateness, turn_ended, outbox_finished, finish_told, link_ending}
-use Rattle.fixp_replies.specs.Incoming.{Incoming}
+use Rattle.session_model.specs.Inbox.{InboxRecord, Numbered}
+use Rattle.fixp_replies.specs.Incoming.{Incoming, payload_in}
 use Rattle.fixp_replies.specs.Outcomes.{Outcome}
 use Rattle.fixp_replies.specs.Replies.{reply_of}
-use Rattle.fixp_machine.specs.Machine.{State, Call, begin, frame, bad_frame, did, tick, turn_done, closed, link_end, live, again, taken, reserve, around, bytes_of, wrote, made, reply_applied, broken_by, done_pending, served_again, step, run}
+use Rattle.fixp_machine.specs.Machine.{State, Call, begin, frame, bad_frame, did, tick, turn_done, closed, link_end, live, again, taken, reserve, held_done, held_with, held_applied, front_of, around, bytes_of, wrote, made, reply_applied, broken_by, done_pending, served_again, step, run}
 use Rattle.fixp_machine.specs.Accepting.{records_of}
 use Rattle.connection_laws.specs.Writing.{writes}
-use Rattle.connection_laws.specs.Courses.{Waiting, Course, accepted_by, counting, called, next_done, next_course, course_after, Continues, StateIsRun}
+use Rattle.connection_laws.specs.Courses.{Waiting, Course, accepted_by, counting, called, next_done, next_held, next_course, course_after, Continues, StateIsRun}
 use Rattle.connection_laws.specs.Standing.{MayStand, CallsGoOn}
 
 pub state_is_run : StateIsRun
@@ -31,6 +32,10 @@ state_is_run c (call ∷ later) = state_is_run (next_course c call) later ∙ ap
     by_pending (Some o) None k = refl
     by_pending (Some o) (Some w) k = refl
 
+    by_front : (m : Option Numbered) (k : Course) → (next_held k m).state ≡ k.state
+    by_front None k = refl
+    by_front (Some m) k = refl
+
     stepped : (k : Call) → (next_course c k).state ≡ step c.state k
     stepped (begin now) = refl
     stepped (frame incoming at now) = by_record (is_record (reply_of (around c.state at now) c.state.facts incoming).act) _ _ (step c.state (frame incoming at now)) refl refl
@@ -44,6 +49,7 @@ state_is_run c (call ∷ later) = state_is_run (next_course c call) later ∙ ap
     stepped (again ps now) = refl
     stepped (taken count) = refl
     stepped reserve = refl
+    stepped held_done = by_front (front_of c.state) _
 
 -- what a call adds is behind what was there
 begins_same : {A : Type 0} (xs : List A) → IsPrefix xs xs
@@ -73,7 +79,7 @@ same_config s (frame incoming at now) = by_record (is_record (reply_of (around s
   where
     by_record : (b : Bool) → (
         if b then record s { moment = now; last_received = now; room = s.room - 1; pending = Some (reply_of (around s at now) s.facts incoming) }
-        else reply_applied (record s { moment = now; last_received = now; room = s.room - 1 }) (reply_of (around s at now) s.facts incoming) now
+        else reply_applied (record s { moment = now; last_received = now; room = s.room - 1; held = held_with (reply_of (around s at now) s.facts incoming).holds (payload_in incoming) s.held }) (reply_of (around s at now) s.facts incoming) now
         ).config ≡ s.config
     by_record true = refl
     by_record false = refl
@@ -104,7 +110,7 @@ same_config s (closed last now) = by_test (is_some s.ending)
     by_test false = refl
 same_config s link_end = by_test (is_some s.ending)
   where
-    by_test : (b : Bool) → (if b then s else record s { ending = Some (link_ending (around s 0 s.moment) s.facts); pending = None }).config ≡ s.config
+    by_test : (b : Bool) → (if b then s else record s { ending = Some (link_ending (around s 0 s.moment) s.facts); pending = None; held = [] }).config ≡ s.config
     by_test true = refl
     by_test false = refl
 same_config s (live ps now) = refl
@@ -115,6 +121,11 @@ same_config s (again ps now) = by_range s.facts.connection.serving
     by_range (Some r) = refl
 same_config s (taken count) = refl
 same_config s reserve = refl
+same_config s held_done = by_front (front_of s)
+  where
+    by_front : (m : Option Numbered) → (held_applied s m).config ≡ s.config
+    by_front None = refl
+    by_front (Some m) = refl
 
 continues_called : (c : Course) (call : Call) → Continues c (called c call)
 continues_called c call = record {
@@ -177,6 +188,22 @@ goes_one h c link_end may = continues_called c link_end
 goes_one h c (live ps now) may = continues_called c (live ps now)
 goes_one h c (again ps now) may = continues_called c (again ps now)
 goes_one h c reserve may = continues_called c reserve
+goes_one h c held_done may = by_front (front_of c.state)
+  where
+    k : Continues c (called c held_done)
+    k = continues_called c held_done
+
+    by_front : (m : Option Numbered) → Continues c (next_held (called c held_done) m)
+    by_front None = k
+    by_front (Some m) = record {
+      config = k.config;
+      start = k.start;
+      sent_before = k.sent_before;
+      accepted = k.accepted;
+      added = prefix_trans c.added c.added (c.added ++ InboxRecord.apply m ∷ []) k.added (begins_with c.added (InboxRecord.apply m ∷ []));
+      output = k.output;
+      taken = k.taken;
+    }
 
 pub calls_go_on : CallsGoOn
 calls_go_on h c [] all = continues_same c

@@ -1,15 +1,22 @@
 -- A connection that begins stands, and each call that may come on it keeps it standing.
-use Rattle.std.proofs.Common.{◌≡◌, ℕ, ◌+◌, ◌-◌, ◌≤◌, ◌==◌, ◌&&◌, ◌||◌, Bool, true, false, if◌then◌else◌, IsTrue, IfSome, IsSome, List, [], ◌∷◌, ◌++◌, map, length, take, drop, Option, Some, None, option_map, option_to_list, refl, sym, ap, subst, ◌∙◌, arith, append-nil, append_assoc, length-append, true≢false}
+use Rattle.std.proofs.Common.{◌≡◌, ℕ, ◌+◌, ◌-◌, ◌≤◌, ◌==◌, ◌&&◌, ◌||◌, Bool, true, false, if◌then◌else◌, IsTrue, IfSome, IsSome, List, [], ◌∷◌, ◌++◌, map, length, take, drop, Option, Some, None, option_map, option_to_list, Contains, nat_lt, refl, sym, ap, subst, ◌∙◌, arith, append-nil, append_assoc, length-append, true≢false}
 use Rattle.std.specs.Prelude.{is_none, is_some}
 use Rattle.std.proofs.lemmas.Grind.{flat_map-append}
 use Rattle.std.proofs.lemmas.List.{take-append-drop}
 use Rattle.session_model.specs.Journal.{Entry}
-use Rattle.session_model.specs.Inbox.{InboxRecord, applied, skips}
-use Rattle.session_model.specs.Events.{Event, announce, in_flow, message, standing, BeginsWithHandshake}
-use Rattle.session_model.specs.Growth.{Grown}
+use Rattle.session_model.specs.Inbox.{InboxRecord, Numbered, applied, skips, next_number}
+use Rattle.session_model.specs.Events.{Event, announce, in_flow, message, numbered, standing, BeginsWithHandshake}
+use Rattle.session_model.specs.Growth.{Grown, GrownLater}
+use Rattle.session_model.specs.Growth as model
 use Rattle.session_model.proofs.Inboxes.{skips-append}
-use Rattle.session_model.proofs.Numbering.{standing-append}
-use Rattle.session_model.proofs.Through.{growth_goes_on}
+use Rattle.session_model.proofs.Numbering.{numbered-append, standing-append}
+use Rattle.session_model.proofs.Through.{growth_goes_on, held_goes_on}
+use Rattle.session_model.proofs.Lists.{all_weaker}
+use Rattle.std.specs.List.{AllByRecursion}
+use Rattle.std.proofs.lemmas.List.Elements.{Contains-append_right, Contains-append_left}
+use Rattle.flow_window.specs.Window.{holding}
+use Rattle.fixp_shake.specs.declared.config.EndConfig.{EndConfig}
+use Rattle.fixp_replies.specs.declared.act.Ending.{Ending}
 use Rattle.fixp_msgs.specs.Canonical.{frame_bytes}
 use Rattle.fixp_msgs.specs.Message.{Message, sequence, unsequenced_heartbeat, finished_sending, terminate}
 use Rattle.fixp_msgs.specs.declared.flow.Flow.{Flow}
@@ -26,20 +33,24 @@ use Rattle.fixp_replies.specs.declared.facts.Facts.{Facts}
 use Rattle.fixp_replies.specs.Acts.{is_record}
 use Rattle.fixp_replies.specs.Events.{Made, begun, heartbeat, heartbeats, is_due, lateness, applied_runs, turn_ended, outbox_finished, tells_finish, finish_told, link_ending}
 use Rattle.fixp_replies.specs.Facts.{Around, is_initiator, connecting, in_phase, serves, finishes_exchanged}
-use Rattle.fixp_replies.specs.Incoming.{Incoming}
+use Rattle.fixp_replies.specs.Incoming.{Incoming, payload_in}
 use Rattle.fixp_replies.specs.Serving.{own_finishing}
 use Rattle.fixp_replies.specs.declared.facts.OwnFinish.TheVariants as finishes
 use Rattle.fixp_replies.specs.Outcomes.{Outcome}
 use Rattle.fixp_replies.specs.Replies.{reply_to_bad_frame}
-use Rattle.fixp_machine.specs.Machine.{State, begin, frame, bad_frame, did, tick, turn_done, closed, link_end, live, again, taken, reserve, around, bytes_of, wrote, made, reply_applied, after_bad_frame, after_act, broken_by, ticked, after_turn, after_closed, link_ended, payload_frames, counted_sent, sent_live, rest_of, range_end, sent_again, done_pending, served_again}
+use Rattle.fixp_machine.specs.Machine.{State, begin, frame, bad_frame, did, tick, turn_done, closed, link_end, live, again, taken, reserve, held_done, held_until, held_with, held_applied, past_held, front_of, around, bytes_of, wrote, made, reply_applied, after_bad_frame, after_act, broken_by, ticked, after_turn, after_closed, link_ended, payload_frames, counted_sent, sent_live, rest_of, range_end, sent_again, done_pending, served_again}
 use Rattle.fixp_machine.proofs.Calls.{begun_as}
 use Rattle.fixp_machine.specs.Accepting as accepting
-use Rattle.fixp_machine.specs.Accepting.{model_flow, event_of, records_of, Agrees, GrowsBy, told_in, turn_end, outbox_finish}
+use Rattle.fixp_machine.specs.Accepting.{model_flow, event_of, records_of, Agrees, GrowsBy, GrowsHeld, told_in, turn_end, outbox_finish}
 use Rattle.fixp_machine.proofs.Growing.{quiet_grows, unmoved}
 use Rattle.fixp_machine.proofs.Accepted.{accepted_frame_grows, refused_frame_spares, frame_tells, begins_agreeing, own_keeps_agreeing, alike}
+use Rattle.fixp_machine.specs.Sound.{MayHold}
+use Rattle.fixp_machine.proofs.Holding.{holding_goes_on}
+use Rattle.fixp_machine.proofs.HeldGrowth.{holds_what_came, held_grows}
+use Rattle.fixp_machine.proofs.Windowing.{IsFront, front_there}
 use Rattle.fixp_machine.proofs.Tests.{is_done}
 use Rattle.connection_laws.specs.Writing.{events_in, written_again, said_with, Piece, said, said_all, entries, bytes_written, events_written, ranges_told, said_breaking, range_closed, is_reached, SameOwn, nothing, shakes, returns, resends, WritesOwn, HearsHandshake}
-use Rattle.connection_laws.specs.Courses.{Waiting, Course, inbox_of, reply_to, accepted_by, still_waiting, next_done, next_course}
+use Rattle.connection_laws.specs.Courses.{Waiting, Course, inbox_of, reply_to, accepted_by, still_waiting, next_done, next_held, next_course}
 use Rattle.connection_laws.specs.Standing.{number_at, OwnFlow, Stands, AreEntries, IsOpen, MayGoLive, MayGoAgain, ConnectionBegins, BeginsAgain, CallKeeps, CallsKeep, StandsLonger, WaitingGrows}
 use Rattle.connection_laws.proofs.Replied.{still_own, frame_writes, frame_hears}
 use Rattle.connection_laws.proofs.Owned.{stays_own, shakes_own, announces_own, returning, replies_own, entries_reach, entries_own, longer_own}
@@ -65,6 +76,80 @@ none_records (Some o) w P e = absurd cc
 abbrev ActIsRecord : State → Waiting → Type 0
 ActIsRecord s w = IsTrue (is_record (reply_to s w).act)
 
+-- what is held came, on a recoverable flow
+record Came (flow : Flow) (accepted : List Event) (held : List Numbered) : Type 0 where
+  came : AllByRecursion (λ (m : Numbered). Contains (numbered None accepted) m) held
+  held_on : is_recoverable flow ≡ false → held ≡ []
+
+same_held : (h : List Entry) (c : Course) (held : List Numbered) → Stands h c → held ≡ c.state.held → Came c.state.config.peer_flow c.accepted held
+same_held h c held st e = subst (λ ms. Came c.state.config.peer_flow c.accepted ms) (sym e) (record { came = st.came; held_on = st.held_on })
+
+none_held : (flow : Flow) (accepted : List Event) → Came flow accepted []
+none_held flow accepted = record { came = tt; held_on = λ _. refl }
+
+-- more is accepted
+came_more : (flow : Flow) (first second : List Event) (held : List Numbered) → Came flow first held → Came flow (first ++ second) held
+came_more flow first second held k = record {
+  came = subst (λ ms. AllByRecursion (λ (m : Numbered). Contains ms m) held) (sym (numbered-append None first second))
+      (all_weaker (λ (m : Numbered). Contains (numbered None first) m) (λ (m : Numbered). Contains (numbered None first ++ numbered (standing None first) second) m)
+      (λ m there. Contains-append_left (numbered None first) (numbered (standing None first) second) m there) held k.came);
+  held_on = k.held_on;
+}
+
+-- where a connection ends, nothing is held any more
+came_until : (flow : Flow) (accepted : List Event) (ending : Option Ending) (held : List Numbered) → Came flow accepted held → Came flow accepted (held_until ending held)
+came_until flow accepted None held k = k
+came_until flow accepted (Some e) held k = none_held flow accepted
+
+-- and one more is
+came_holding : (P : Numbered → Type 0) (n : ℕ) (p : List ℕ) (ms : List Numbered) → P (record { number = n; payload = p }) → AllByRecursion P ms → AllByRecursion P (holding n p ms)
+came_holding P n p [] new all = (new, tt)
+came_holding P n p (m ∷ ms) new all = by_tests (m.number == n) (nat_lt n m.number) (came_holding P n p ms new all.1)
+  where
+    by_tests : (same below : Bool) → AllByRecursion P (holding n p ms)
+        → AllByRecursion P (if same then m ∷ ms else if below then record { number = n; payload = p } ∷ m ∷ ms else m ∷ holding n p ms)
+    by_tests true below later = all
+    by_tests false true later = (new, all)
+    by_tests false false later = (all.0, later)
+
+-- a frame's message is held, if it is to be
+came_with : (s : State) (w : Waiting) (accepted : List Event) (inbox : List InboxRecord) → Agrees s.config.peer_flow (standing None accepted) s.facts inbox
+    → Came s.config.peer_flow accepted s.held
+    → Came s.config.peer_flow (accepted ++ accepted_by (reply_to s w) w.incoming) (held_with (reply_to s w).holds (payload_in w.incoming) s.held)
+came_with s w accepted inbox a k = by_number (reply_to s w).holds refl
+  where
+    x : Around
+    x = around s w.at w.moment
+
+    o : Outcome
+    o = reply_to s w
+
+    es : List Event
+    es = accepted_by o w.incoming
+
+    more : Came s.config.peer_flow (accepted ++ es) s.held
+    more = came_more s.config.peer_flow accepted es s.held k
+
+    by_number : (h : Option ℕ) → o.holds ≡ h → Came s.config.peer_flow (accepted ++ es) (held_with h (payload_in w.incoming) s.held)
+    by_number None e = more
+    by_number (Some n) e =
+        let m : Numbered = record { number = n; payload = payload_in w.incoming } in
+        let there = holds_what_came x s.facts w.incoming (standing None accepted) inbox n a e in
+        let es_is : es ≡ option_to_list (event_of w.incoming) = accepted_one o.accepted there.0 in
+        let carried : numbered (standing None accepted) es ≡ m ∷ [] = ap (λ k. numbered (standing None accepted) k) es_is ∙ there.1 in
+        let new : Contains (numbered None (accepted ++ es)) m = subst (λ ms. Contains ms m) (sym (numbered-append None accepted es))
+        (Contains-append_right (numbered None accepted) (numbered (standing None accepted) es) m (subst (λ ms. Contains ms m) (sym carried) (0, omega arith, refl))) in
+        let may : MayHold s.config s.most s.facts o n = subst (λ (v : Option ℕ). IfSome v (λ j. MayHold s.config s.most s.facts o j)) e
+        (holding_goes_on x s.facts w.incoming (λ r. a.waits r ∙ sym a.recorded)).holds in
+        record {
+          came = came_holding (λ (j : Numbered). Contains (numbered None (accepted ++ es)) j) n (payload_in w.incoming) s.held new more.came;
+          held_on = λ f. absurd (true≢false (sym may.flow ∙ f));
+        }
+      where
+        accepted_one : (b : Bool) → IsTrue b → (if b then option_to_list (event_of w.incoming) else []) ≡ option_to_list (event_of w.incoming)
+        accepted_one true t = refl
+        accepted_one false t = absurd cc
+
 -- a call by which nothing is accepted
 record Moves (h : List Entry) (c : Course) (s : State) (w : Option Waiting) (ps : List Piece) : Type 0 where
   config : s.config ≡ c.state.config
@@ -76,6 +161,7 @@ record Moves (h : List Entry) (c : Course) (s : State) (w : Option Waiting) (ps 
   own : OwnFlow c.state.config.own_flow h c.sent_before s.facts (events_written c.output ++ events_written ps)
   tells : ranges_told ps ≡ []
   bytes : s.unsent ≡ c.state.unsent ++ bytes_written ps
+  held : Came c.state.config.peer_flow c.accepted s.held
 
 -- the bytes that were written are those that the link took and those unsent
 written_so_far : (output ps : List Piece) (gone unsent now : List ℕ) → bytes_written output ≡ gone ++ unsent → now ≡ unsent ++ bytes_written ps → bytes_written (output ++ ps) ≡ gone ++ now
@@ -97,13 +183,15 @@ moved h c s w ps st m = record {
       (subst (λ es. OwnFlow c.state.config.own_flow h c.sent_before s.facts es) (sym (flat_map-append _ c.output ps)) m.own);
   tells = flat_map-append _ c.output ps ∙ (ap (λ rs. ranges_told c.output ++ rs) m.tells ∙ (append-nil (ranges_told c.output) ∙ st.tells));
   bytes = written_so_far c.output ps c.taken c.state.unsent s.unsent st.bytes m.bytes;
+  came = m.held.came;
+  held_on = λ e. m.held.held_on (ap (λ (cfg : EndConfig). is_recoverable cfg.peer_flow) (sym m.config) ∙ e);
 }
 
 -- the facts stay
 resting : (h : List Entry) (c : Course) (s : State) (w : Option Waiting) (ps : List Piece) → Stands h c → s.config ≡ c.state.config → s.facts ≡ c.state.facts → s.begun ≡ true
     → s.pending ≡ option_map (reply_to s) w → IfSome w (ActIsRecord s) → OwnFlow c.state.config.own_flow h c.sent_before c.state.facts (events_written c.output ++ events_written ps)
-    → ranges_told ps ≡ [] → s.unsent ≡ c.state.unsent ++ bytes_written ps → Moves h c s w ps
-resting h c s w ps st config facts began pends records own tells bytes = record {
+    → ranges_told ps ≡ [] → s.unsent ≡ c.state.unsent ++ bytes_written ps → Came c.state.config.peer_flow c.accepted s.held → Moves h c s w ps
+resting h c s w ps st config facts began pends records own tells bytes held = record {
   config = config;
   begun = began;
   agrees = subst (λ f. Agrees c.state.config.peer_flow (standing None c.accepted) f (inbox_of c)) (sym facts) st.agrees;
@@ -113,6 +201,7 @@ resting h c s w ps st config facts began pends records own tells bytes = record 
   own = subst (λ f. OwnFlow c.state.config.own_flow h c.sent_before f (events_written c.output ++ events_written ps)) (sym facts) own;
   tells = tells;
   bytes = bytes;
+  held = held;
 }
 
 -- nothing is written of the own flow
@@ -160,7 +249,7 @@ begins_behind h c w st = by_phase (is_shaken c.state.facts.connection.phase) ref
 
 -- an outcome takes effect
 took : (h : List Entry) (c : Course) (w : Waiting) (s : State) → Stands h c → s.config ≡ c.state.config → s.begun ≡ true → s.facts ≡ (reply_to c.state w).next → s.pending ≡ None
-    → s.unsent ≡ c.state.unsent ++ bytes_of (reply_to c.state w).written
+    → s.unsent ≡ c.state.unsent ++ bytes_of (reply_to c.state w).written → Came c.state.config.peer_flow (c.accepted ++ accepted_by (reply_to c.state w) w.incoming) s.held
     → Stands h (record c {
       state = s;
       accepted = c.accepted ++ accepted_by (reply_to c.state w) w.incoming;
@@ -168,7 +257,7 @@ took : (h : List Entry) (c : Course) (w : Waiting) (s : State) → Stands h c �
       waiting = None;
       output = c.output ++ said_all (reply_to c.state w).written;
     })
-took h c w s st config began facts pending unsent = record {
+took h c w s st config began facts pending unsent held = record {
   begun = began;
   grown = subst (λ cfg. Grown (model_flow cfg.peer_flow) None (c.accepted ++ es) c.start (c.start ++ (c.added ++ rs))) (sym config)
       (subst (λ inbox. Grown (model_flow flow) None (c.accepted ++ es) c.start inbox) (append_assoc c.start c.added rs)
@@ -192,6 +281,8 @@ took h c w s st config began facts pending unsent = record {
       ∙ (ap (λ k. skips c.added ++ k) (told_said o.written ∙ frame_tells x c.state.facts w.incoming (standing None c.accepted) (inbox_of c) st.agrees)
       ∙ sym (skips-append c.added rs)));
   bytes = written_so_far c.output (said_all o.written) c.taken c.state.unsent s.unsent st.bytes (unsent ∙ ap (λ bs. c.state.unsent ++ bs) (sym (bytes_said o.written)));
+  came = held.came;
+  held_on = λ e. held.held_on (ap (λ (cfg : EndConfig). is_recoverable cfg.peer_flow) (sym config) ∙ e);
 }
   where
     x : Around
@@ -249,7 +340,7 @@ framed h c incoming at now st open_now = by_test (is_record o.act) refl
     o = reply_to c.state w
 
     got : State
-    got = record c.state { moment = now; last_received = now; room = c.state.room - 1 }
+    got = record c.state { moment = now; last_received = now; room = c.state.room - 1; held = held_with o.holds (payload_in incoming) c.state.held }
 
     pended : State
     pended = record c.state { moment = now; last_received = now; room = c.state.room - 1; pending = Some o }
@@ -264,8 +355,10 @@ framed h c incoming at now st open_now = by_test (is_record o.act) refl
           output = c.output ++ (if b then [] else said_all o.written);
         }
         )
-    by_test true e = moved h c pended (Some w) [] st (resting h c pended (Some w) [] st refl refl open_now.begun refl e (unsaid h c st) refl (sym (append-nil c.state.unsent)))
+    by_test true e = moved h c pended (Some w) [] st (resting h c pended (Some w) [] st refl refl open_now.begun refl e (unsaid h c st) refl (sym (append-nil c.state.unsent)) (same_held h c c.state.held st refl))
     by_test false e = took h c w (reply_applied got o now) st refl open_now.begun refl refl refl
+        (came_until c.state.config.peer_flow (c.accepted ++ accepted_by o incoming) o.ending got.held
+        (came_with c.state w c.accepted (inbox_of c) st.agrees (same_held h c c.state.held st refl)))
 
 -- the act of the frame that waits is done
 done : (h : List Entry) (c : Course) (now : ℕ) → Stands h c → IsSome c.state.pending → Stands h (next_course c (did now))
@@ -288,14 +381,16 @@ done h c now st some = by_case c.state.pending c.waiting refl refl some
           waiting = None;
           output = c.output ++ said_all a.written;
         })) (sym is)
-        (took h c w (after_act c.state (reply_to c.state w) now) st refl st.begun refl refl refl)
+        (took h c w (after_act c.state (reply_to c.state w) now) st refl st.begun refl refl refl
+        (came_until c.state.config.peer_flow (c.accepted ++ accepted_by (reply_to c.state w) w.incoming) (reply_to c.state w).ending c.state.held
+        (came_more c.state.config.peer_flow c.accepted (accepted_by (reply_to c.state w) w.incoming) c.state.held (same_held h c c.state.held st refl))))
 
 -- bytes came that are no frame
 unframed : (h : List Entry) (c : Course) (at now : ℕ) → Stands h c → IsOpen c.state → Stands h (next_course c (bad_frame at now))
 unframed h c at now st open_now =
     let said_of : List Message = (reply_to_bad_frame (around c.state at now) c.state.facts).written in
     let s : State = after_bad_frame c.state at now in
-    moved h c s None (said_all said_of) st (resting h c s None (said_all said_of) st refl refl open_now.begun refl tt (unsaid h c st) refl (ap (λ bs. c.state.unsent ++ bs) (sym (bytes_said said_of))))
+    moved h c s None (said_all said_of) st (resting h c s None (said_all said_of) st refl refl open_now.begun refl tt (unsaid h c st) refl (ap (λ bs. c.state.unsent ++ bs) (sym (bytes_said said_of))) (none_held c.state.config.peer_flow c.accepted))
 
 -- the heartbeat is an announcement of the next number, on a flow with numbers
 beats : (x : Around) (h : List Entry) (before : ℕ) (f : Facts) (written : List Event) (last_sent : ℕ) (unsent : List ℕ) → OwnFlow x.config.own_flow h before f written
@@ -371,26 +466,26 @@ ticking h c now st = moved h c (ticked c.state now) (still_waiting (ticked c.sta
 
     by_test : (b : Bool) (v : Option Violation) → Moves h c (if b then record c.state { moment = now } else broken_by beat v now)
         (still_waiting (if b then record c.state { moment = now } else broken_by beat v now).pending c.waiting) (if b then [] else says v)
-    by_test true v = resting h c (record c.state { moment = now }) _ [] st refl refl st.begun (waits_still c.state.pending c.waiting (reply_to c.state) st.pends) (records_still c.state.pending c.waiting (ActIsRecord c.state) st.records) (unsaid h c st) refl (sym (append-nil c.state.unsent))
-    by_test false None = resting h c beat _ (says None) st refl refl st.begun (waits_still c.state.pending c.waiting (reply_to c.state) st.pends) (records_still c.state.pending c.waiting (ActIsRecord c.state) st.records) (owned None) (told None) (sym (append-nil (c.state.unsent ++ bytes_of hb)) ∙ bytes None)
-    by_test false (Some v) = resting h c (broken_by beat (Some v) now) _ (says (Some v)) st refl refl st.begun refl tt (owned (Some v)) (told (Some v)) (bytes (Some v))
+    by_test true v = resting h c (record c.state { moment = now }) _ [] st refl refl st.begun (waits_still c.state.pending c.waiting (reply_to c.state) st.pends) (records_still c.state.pending c.waiting (ActIsRecord c.state) st.records) (unsaid h c st) refl (sym (append-nil c.state.unsent)) (same_held h c c.state.held st refl)
+    by_test false None = resting h c beat _ (says None) st refl refl st.begun (waits_still c.state.pending c.waiting (reply_to c.state) st.pends) (records_still c.state.pending c.waiting (ActIsRecord c.state) st.records) (owned None) (told None) (sym (append-nil (c.state.unsent ++ bytes_of hb)) ∙ bytes None) (same_held h c c.state.held st refl)
+    by_test false (Some v) = resting h c (broken_by beat (Some v) now) _ (says (Some v)) st refl refl st.begun refl tt (owned (Some v)) (told (Some v)) (bytes (Some v)) (none_held c.state.config.peer_flow c.accepted)
 
 -- no more bytes come
 ending_link : (h : List Entry) (c : Course) → Stands h c → Stands h (next_course c link_end)
 ending_link h c st = moved h c (link_ended c.state) (still_waiting (link_ended c.state).pending c.waiting) [] st (by_test (is_some c.state.ending))
   where
     over : State
-    over = record c.state { ending = Some (link_ending (around c.state 0 c.state.moment) c.state.facts); pending = None }
+    over = record c.state { ending = Some (link_ending (around c.state 0 c.state.moment) c.state.facts); pending = None; held = [] }
 
     by_test : (b : Bool) → Moves h c (if b then c.state else over) (still_waiting (if b then c.state else over).pending c.waiting) []
-    by_test true = resting h c c.state _ [] st refl refl st.begun (waits_still c.state.pending c.waiting (reply_to c.state) st.pends) (records_still c.state.pending c.waiting (ActIsRecord c.state) st.records) (unsaid h c st) refl (sym (append-nil c.state.unsent))
-    by_test false = resting h c over _ [] st refl refl st.begun refl tt (unsaid h c st) refl (sym (append-nil c.state.unsent))
+    by_test true = resting h c c.state _ [] st refl refl st.begun (waits_still c.state.pending c.waiting (reply_to c.state) st.pends) (records_still c.state.pending c.waiting (ActIsRecord c.state) st.records) (unsaid h c st) refl (sym (append-nil c.state.unsent)) (same_held h c c.state.held st refl)
+    by_test false = resting h c over _ [] st refl refl st.begun refl tt (unsaid h c st) refl (sym (append-nil c.state.unsent)) (none_held c.state.config.peer_flow c.accepted)
 
 -- room is made
 reserving : (h : List Entry) (c : Course) → Stands h c → Stands h (next_course c reserve)
 reserving h c st =
     let s : State = record c.state { room = 16 } in
-    moved h c s (still_waiting c.state.pending c.waiting) [] st (resting h c s _ [] st refl refl st.begun (waits_still c.state.pending c.waiting (reply_to c.state) st.pends) (records_still c.state.pending c.waiting (ActIsRecord c.state) st.records) (unsaid h c st) refl (sym (append-nil c.state.unsent)))
+    moved h c s (still_waiting c.state.pending c.waiting) [] st (resting h c s _ [] st refl refl st.begun (waits_still c.state.pending c.waiting (reply_to c.state) st.pends) (records_still c.state.pending c.waiting (ActIsRecord c.state) st.records) (unsaid h c st) refl (sym (append-nil c.state.unsent)) (same_held h c c.state.held st refl))
 
 -- the link takes bytes
 taking : (h : List Entry) (c : Course) (count : ℕ) → Stands h c → Stands h (next_course c (taken count))
@@ -407,6 +502,8 @@ taking h c count st = record {
   tells = ap (λ ps. ranges_told ps) (append-nil c.output) ∙ st.tells;
   bytes = ap (λ ps. bytes_written ps) (append-nil c.output) ∙ (st.bytes ∙ (ap (λ bs. c.taken ++ bs) (sym (take-append-drop count c.state.unsent))
       ∙ sym (append_assoc c.taken (take count c.state.unsent) (drop count c.state.unsent))));
+  came = st.came;
+  held_on = st.held_on;
 }
 
 -- what an event other than a frame makes, where nothing is said of the own flow
@@ -462,9 +559,9 @@ finishes_quietly x f last = by_test (tells_finish x f last)
 -- what is made takes effect
 made_moves : (h : List Entry) (c : Course) (s : State) (m : Made) (now : ℕ) → Stands h c → c.state.pending ≡ None → Quiet c.state.facts m
     → Agrees c.state.config.peer_flow (standing None c.accepted) m.next (inbox_of c)
-    → s.config ≡ c.state.config → s.begun ≡ true → s.facts ≡ m.next → s.pending ≡ c.state.pending → s.unsent ≡ c.state.unsent ++ bytes_of m.written
+    → s.config ≡ c.state.config → s.begun ≡ true → s.facts ≡ m.next → s.pending ≡ c.state.pending → s.unsent ≡ c.state.unsent ++ bytes_of m.written → s.held ≡ c.state.held
     → Moves h c s (still_waiting s.pending c.waiting) (said_all m.written)
-made_moves h c s m now st none q a config began facts pending unsent = record {
+made_moves h c s m now st none q a config began facts pending unsent held = record {
   config = config;
   begun = began;
   agrees = subst (λ f. Agrees c.state.config.peer_flow (standing None c.accepted) f (inbox_of c)) (sym facts) a;
@@ -477,6 +574,7 @@ made_moves h c s m now st none q a config began facts pending unsent = record {
       (stays_own c.state.config.own_flow h c.sent_before c.state.facts m.next (events_written c.output) q.own st.own)));
   tells = told_said m.written ∙ q.told;
   bytes = unsent ∙ ap (λ bs. c.state.unsent ++ bs) (sym (bytes_said m.written));
+  held = same_held h c s.held st held;
 }
 
 -- a turn ends
@@ -497,9 +595,9 @@ turning h c now st none = moved h c (after_turn c.state now) (still_waiting (aft
 
     by_test : (b : Bool) → Moves h c (if b then ended else turned) (still_waiting (if b then ended else turned).pending c.waiting) (if b then [] else said_all m.written)
     by_test true = made_moves h c ended (record { written = []; next = c.state.facts }) now st none (record { own = still_own c.state.facts; same = refl; events = refl; told = refl }) st.agrees
-        refl st.begun refl refl (sym (append-nil c.state.unsent))
+        refl st.begun refl refl (sym (append-nil c.state.unsent)) refl
     by_test false = made_moves h c turned m now st none (turns_quietly x c.state.facts (runs_of c.state.untold))
-        (own_keeps_agreeing c.state.config.peer_flow (standing None c.accepted) c.state.facts (inbox_of c) (turn_end x (runs_of c.state.untold)) st.agrees) refl st.begun refl refl refl
+        (own_keeps_agreeing c.state.config.peer_flow (standing None c.accepted) c.state.facts (inbox_of c) (turn_end x (runs_of c.state.untold)) st.agrees) refl st.begun refl refl refl refl
 
 -- the outbox has its finish
 finishing : (h : List Entry) (c : Course) (last now : ℕ) → Stands h c → c.state.pending ≡ None → Stands h (next_course c (closed last now))
@@ -521,9 +619,9 @@ finishing h c last now st none = moved h c (after_closed c.state last now) (stil
     by_test true = made_moves h c ended (record { written = []; next = outbox_finished c.state.facts last }) now st none
         (record { own = record { sent = refl; serving = refl; stays = λ t. t; reached = λ t. t; idle = λ t. t }; same = refl; events = refl; told = refl })
         (alike c.state.config.peer_flow (standing None c.accepted) c.state.facts (outbox_finished c.state.facts last) (inbox_of c) st.agrees refl refl refl refl refl)
-        refl st.begun refl refl (sym (append-nil c.state.unsent))
+        refl st.begun refl refl (sym (append-nil c.state.unsent)) refl
     by_test false = made_moves h c told m now st none (finishes_quietly x c.state.facts last)
-        (own_keeps_agreeing c.state.config.peer_flow (standing None c.accepted) c.state.facts (inbox_of c) (outbox_finish x last) st.agrees) refl st.begun refl refl refl
+        (own_keeps_agreeing c.state.config.peer_flow (standing None c.accepted) c.state.facts (inbox_of c) (outbox_finish x last) st.agrees) refl st.begun refl refl refl refl
 
 -- a flow is served again where it is recoverable, and so there is one
 present : (k : Flow) → is_recoverable k ≡ true → is_absent k ≡ false
@@ -546,6 +644,7 @@ going_live h c ps now st m = moved h c (sent_live c.state ps now) (still_waiting
       (ap (λ v. number_at (f.recorded.sent + length ps + 1) v) m.free ∙ omega arith) m.flow (λ _. m.free) (entries_reach h f.recorded.sent ps st.own.enough m.entries) (λ _. (refl, refl)) m.entries st.own);
   tells = told_entries ps;
   bytes = ap (λ bs. c.state.unsent ++ bs) (sym (bytes_entries ps));
+  held = same_held h c c.state.held st refl;
 })
   where
     f : Facts
@@ -623,6 +722,90 @@ going_again h c ps now st m = moved h c (served_again c.state f.connection.servi
           tells = told_closing (rest_of r (length ps));
           bytes = ap (λ bs. c.state.unsent ++ bs) (ap (λ bs. payload_frames ps ++ bs) (closing_bytes (rest_of r (length ps)))
               ∙ (ap (λ bs. bs ++ bytes_written (range_closed f (rest_of r (length ps)))) (sym (bytes_entries ps)) ∙ sym (flat_map-append _ (entries ps) (range_closed f (rest_of r (length ps))))));
+          held = same_held h c c.state.held st refl;
+        }
+
+-- a held message that the inbox awaits grows it without a further event
+pub grown_held : (h : List Entry) (c : Course) (m : Numbered) → Stands h c → front_of c.state ≡ Some m
+    → GrowsHeld c.state.config.peer_flow c.accepted (inbox_of c) c.state.facts m
+    × Grown (model_flow c.state.config.peer_flow) None c.accepted c.start (inbox_of c ++ InboxRecord.apply m ∷ [])
+grown_held h c m st e = by_flow (is_recoverable flow) refl
+  where
+    flow : Flow
+    flow = c.state.config.peer_flow
+
+    k : IsFront c.state.facts.recorded.inbox_next c.state.held
+    k = front_there c.state.facts.recorded.inbox_next c.state.held (subst (λ (o : Option Numbered). IsSome o) (sym e) refl)
+
+    is : k.first ≡ m
+    is = cc (k.front_is, e)
+
+    there : Contains (numbered None c.accepted) m
+    there = subst (λ (j : Numbered). Contains (numbered None c.accepted) j) is
+        (subst (λ (ms : List Numbered). AllByRecursion (λ (j : Numbered). Contains (numbered None c.accepted) j) ms) k.held_is st.came).0
+
+    number : m.number ≡ next_number (inbox_of c)
+    number = sym (ap (λ (j : Numbered). j.number) is) ∙ (k.number ∙ st.agrees.recorded)
+
+    as_model : (f : Flow) → is_recoverable f ≡ true → model_flow f ≡ model.recoverable
+    as_model flows.Recoverable t = refl
+    as_model flows.Idempotent t = absurd (true≢false (sym t))
+    as_model flows.Unsequenced t = absurd (true≢false (sym t))
+    as_model flows.None t = absurd (true≢false (sym t))
+
+    by_flow : (b : Bool) → is_recoverable flow ≡ b → GrowsHeld flow c.accepted (inbox_of c) c.state.facts m
+        × Grown (model_flow flow) None c.accepted c.start (inbox_of c ++ InboxRecord.apply m ∷ [])
+    by_flow false r = absurd (cc (k.held_is, st.held_on r))
+    by_flow true r =
+        let g = held_grows flow c.accepted (inbox_of c) c.state.facts m r st.agrees there number in
+        let later : GrownLater (model_flow flow) None c.accepted [] (inbox_of c) (inbox_of c ++ InboxRecord.apply m ∷ []) =
+        subst (λ f. GrownLater f None c.accepted [] (inbox_of c) (inbox_of c ++ InboxRecord.apply m ∷ [])) (sym (as_model flow r)) g.grown in (
+          g,
+          subst (λ es. Grown (model_flow flow) None es c.start (inbox_of c ++ InboxRecord.apply m ∷ [])) (append-nil c.accepted)
+              (held_goes_on (model_flow flow) None c.accepted [] c.start (inbox_of c) (inbox_of c ++ InboxRecord.apply m ∷ []) st.grown later),
+        )
+
+-- a held message was applied
+applying : (h : List Entry) (c : Course) → Stands h c → (c.state.pending ≡ None) × IsSome (front_of c.state) → Stands h (next_course c held_done)
+applying h c st may =
+    let next = c.state.facts.recorded.inbox_next in
+    let k = front_there next c.state.held may.1 in
+    subst (λ (o : Option Numbered). Stands h (next_held (record c {
+      state = held_applied c.state o;
+      waiting = still_waiting (held_applied c.state o).pending c.waiting;
+      output = c.output ++ [];
+    }) o)) (sym k.front_is) (by_front k.first k.later k.held_is k.front_is)
+  where
+    f : Facts
+    f = c.state.facts
+
+    by_front : (m : Numbered) (later : List Numbered) → c.state.held ≡ m ∷ later → front_of c.state ≡ Some m → Stands h (record c {
+      state = record c.state { facts = past_held f m; held = drop 1 c.state.held };
+      added = c.added ++ InboxRecord.apply m ∷ [];
+      waiting = still_waiting c.state.pending c.waiting;
+      output = c.output ++ [];
+    })
+    by_front m later is e =
+        let g = grown_held h c m st e in
+        let s : State = record c.state { facts = past_held f m; held = drop 1 c.state.held } in
+        let r : InboxRecord = InboxRecord.apply m in
+        record {
+          begun = st.begun;
+          grown = subst (λ rs. Grown (model_flow c.state.config.peer_flow) None c.accepted c.start rs) (append_assoc c.start c.added (r ∷ [])) g.1;
+          agrees = subst (λ rs. Agrees c.state.config.peer_flow (standing None c.accepted) (past_held f m) rs) (append_assoc c.start c.added (r ∷ [])) g.0.agrees;
+          begins = st.begins;
+          unheard = st.unheard;
+          heard = st.heard;
+          pends = waits_for_none c.state.pending c.waiting (reply_to s) may.0;
+          records = none_records c.state.pending c.waiting (ActIsRecord s) may.0;
+          own = subst (λ ps. OwnFlow c.state.config.own_flow h c.sent_before (past_held f m) (events_written ps)) (sym (append-nil c.output))
+              (stays_own c.state.config.own_flow h c.sent_before f (past_held f m) (events_written c.output)
+              (record { sent = refl; serving = refl; stays = λ t. t; reached = λ t. t; idle = λ t. t }) st.own);
+          tells = ap (λ ps. ranges_told ps) (append-nil c.output) ∙ (st.tells ∙ (sym (append-nil (skips c.added)) ∙ sym (skips-append c.added (r ∷ []))));
+          bytes = ap (λ ps. bytes_written ps) (append-nil c.output) ∙ st.bytes;
+          came = subst (λ (ms : List Numbered). AllByRecursion (λ (j : Numbered). Contains (numbered None c.accepted) j) ms) (sym (ap (λ (ms : List Numbered). drop 1 ms) is))
+              (subst (λ (ms : List Numbered). AllByRecursion (λ (j : Numbered). Contains (numbered None c.accepted) j) ms) is st.came).1;
+          held_on = λ n. absurd (cc (is, st.held_on n));
         }
 
 pub call_keeps : CallKeeps
@@ -631,13 +814,14 @@ call_keeps h c (frame incoming at now) st may = framed h c incoming at now st ma
 call_keeps h c (bad_frame at now) st may = unframed h c at now st may.comes
 call_keeps h c (did now) st may = done h c now st may.comes
 call_keeps h c (tick now) st may = ticking h c now st
-call_keeps h c (turn_done now) st may = turning h c now st may.may_call
-call_keeps h c (closed last now) st may = finishing h c last now st may.may_call
+call_keeps h c (turn_done now) st may = turning h c now st may.may_call.0
+call_keeps h c (closed last now) st may = finishing h c last now st may.may_call.0
 call_keeps h c link_end st may = ending_link h c st
 call_keeps h c (live ps now) st may = going_live h c ps now st may.comes
 call_keeps h c (again ps now) st may = going_again h c ps now st may.comes
 call_keeps h c (taken count) st may = taking h c count st
 call_keeps h c reserve st may = reserving h c st
+call_keeps h c held_done st may = applying h c st may.may_call
 
 pub calls_keep : CallsKeep
 calls_keep h c [] st all = st
@@ -697,6 +881,8 @@ connection_begins h s inbox now next enough =
       own = subst (λ es. OwnFlow s.config.own_flow h recorded.sent (begun x recorded).next es) (sym (events_said (begun x recorded).written)) o.own;
       tells = told_said (begun x recorded).written ∙ o.told;
       bytes = bytes_said (begun x recorded).written;
+      came = tt;
+      held_on = λ _. refl;
     }
 
 pub begins_again : BeginsAgain
@@ -715,6 +901,8 @@ stands_longer h longer c begins st = record {
   own = longer_own c.state.config.own_flow h longer c.sent_before c.state.facts (events_written c.output) begins st.own;
   tells = st.tells;
   bytes = st.bytes;
+  came = st.came;
+  held_on = st.held_on;
 }
 
 pub waiting_grows : WaitingGrows

@@ -14,8 +14,8 @@ use Rattle.fixp_msgs.specs.Table.{Field, null}
 use Rattle.fixp_msgs.specs.declared.flow.Flow.{Flow}
 use Rattle.fixp_msgs.specs.declared.flow.Flow.TheVariants as flows
 use Rattle.fixp_msgs.specs.declared.numbering.Range.{Range}
-use Rattle.flow_recover.specs.declared.receiver.Seen.{Seen}
-use Rattle.flow_recover.specs.declared.receiver.Seen.TheVariants.{Deliver, Gap, Repeat}
+use Rattle.flow_recover.specs.declared.numbers.Seen.{Seen}
+use Rattle.flow_recover.specs.declared.numbers.Seen.TheVariants.{Deliver, Hold, Gap, Repeat}
 use Rattle.flow_recover.specs.Receiving as receiver_is
 use Rattle.flow_retrans.specs.declared.requester.BadStart.{BadStart}
 use Rattle.flow_retrans.specs.declared.judging.RetransmitCode.{RetransmitCode}
@@ -35,7 +35,7 @@ use Rattle.fixp_replies.specs.declared.facts.Facts.{Facts}
 use Rattle.fixp_replies.specs.declared.facts.PeerFinish.TheVariants as peer
 use Rattle.fixp_replies.specs.declared.facts.OwnFinish.TheVariants as own
 use Rattle.fixp_replies.specs.Incoming.{Incoming, application, session, wrong_order, too_short, unknown}
-use Rattle.fixp_replies.specs.Facts.{Around, is_own, in_phase, requesting, serves, negotiated as as_negotiated, awaiting, gap_to_ask, having_asked, announced_number}
+use Rattle.fixp_replies.specs.Facts.{Around, is_own, in_phase, requesting, serves, negotiated as as_negotiated, awaiting, gap_of, gap_to_ask, holding_too, having_asked, announced_number}
 use Rattle.fixp_replies.specs.Outcomes.{Outcome, row, goes_on, accepts, ignores, ends, breaks, not_in_phase, request_for, skip_of, told_skip, opening_negotiate, opening_establish}
 use Rattle.fixp_replies.specs.Announcing.{Announced, announced, refuses}
 use Rattle.fixp_replies.specs.Handshake.{awaits_client, serves_client, rejects_negotiate, rejects_establish, established, acknowledges, establish_rows, established_again_rows, establish_rows_in, shaken, reached}
@@ -43,7 +43,7 @@ use Rattle.fixp_replies.specs.Expecting.{is_newer, is_present, number_in, told_n
 use Rattle.fixp_replies.specs.Flowing.{bad_retransmission, counted, taken_as, finish_act, peer_finished, restarted, answers_finish, is_filled, is_past_finish, sequence_taken, sequence_follows, finished_last, finish_fault}
 use Rattle.fixp_replies.specs.Serving.{request_answered, own_finishing}
 use Rattle.fixp_replies.specs.Replies.{template_of, rows_of, answer_of, terminates, reply_of}
-use Rattle.fixp_machine.specs.Sound.{Sound, Advances, WithinMost, KeepsSound}
+use Rattle.fixp_machine.specs.Sound.{Sound, Advances, WithinMost, KeepsSound, HeldFits}
 use Rattle.fixp_machine.proofs.Rows.{AllRows, by_row, all_rows, all_within, announced_rows, own_rows}
 use Rattle.fixp_machine.proofs.Keeping.{sound_goes_on}
 use Rattle.fixp_machine.proofs.Expecting.{taken}
@@ -127,31 +127,30 @@ asked_receiver f (Some g) = refl
 few_asked : (c : ℕ) → min request_limit c < 2 ^ 32
 few_asked c = omega (arith, min-le_left 256 c)
 
-legal_request : (x : Around) (f next : Facts) → Ready x f → Sound x.config (having_asked next (gap_to_ask next)) → (having_asked next (gap_to_ask next)).recorded.inbox_next ≤ x.most + 1
-    → AllLegal (request_for x (gap_to_ask next))
-legal_request x f next r s bound = by_tests next.connection.soft (is_some (request_is.outstanding next.connection.requester)) (nat_lt v.next v.live) refl
+legal_request : (x : Around) (f next : Facts) → Ready x f → Sound x.config (having_asked next (gap_to_ask x next)) → (having_asked next (gap_to_ask x next)).recorded.inbox_next ≤ x.most + 1
+    → AllLegal (request_for x (gap_to_ask x next))
+legal_request x f next r s bound =
+    by_tests next.connection.soft (is_some (request_is.outstanding next.connection.requester)) (is_recoverable x.config.peer_flow) (nat_lt v.next (receiver_is.gap_end x.held v.live)) refl
   where
     v : receiver_is.Receiving
     v = next.connection.receiver
 
     asked : Facts
-    asked = having_asked next (gap_to_ask next)
+    asked = having_asked next (gap_to_ask x next)
 
     same : asked.connection.receiver ≡ v
-    same = asked_receiver next (gap_to_ask next)
+    same = asked_receiver next (gap_to_ask x next)
 
-    low : nat_lt v.next v.live ≡ true → v.next ≤ x.most + 1
-    low e = by_flow (is_recoverable x.config.peer_flow) refl
-      where
-        by_flow : (b : Bool) → is_recoverable x.config.peer_flow ≡ b → v.next ≤ x.most + 1
-        by_flow true rec = omega (arith, ap (λ (w : receiver_is.Receiving). w.next) (sym same) ∙ s.waits rec, bound)
-        by_flow false rec = absurd (omega (arith, ltb-true v.next v.live e, ap (λ (w : receiver_is.Receiving). w.live) (sym same) ∙ (s.even rec ∙ ap (λ (w : receiver_is.Receiving). w.next) same)))
+    low : is_recoverable x.config.peer_flow ≡ true → v.next ≤ x.most + 1
+    low rec = omega (arith, ap (λ (w : receiver_is.Receiving). w.next) (sym same) ∙ s.waits rec, bound)
 
-    by_tests : (a b c : Bool) → nat_lt v.next v.live ≡ c → AllLegal (request_for x (if a || b then None else if c then Some (record { from = v.next; count = v.live - v.next }) else None))
-    by_tests false false true e = (record { fields = (r.session, (fits_moment x f r, (omega (arith, low e, r.most), (few_asked (v.live - v.next), tt)))); datum = tt }, tt)
-    by_tests false false false e = tt
-    by_tests false true c e = tt
-    by_tests true b c e = tt
+    by_tests : (a b rec c : Bool) → is_recoverable x.config.peer_flow ≡ rec → AllLegal (request_for x (if a || b then None
+        else if rec then (if c then Some (record { from = v.next; count = receiver_is.gap_end x.held v.live - v.next }) else None) else None))
+    by_tests false false true true e = (record { fields = (r.session, (fits_moment x f r, (omega (arith, low e, r.most), (few_asked (receiver_is.gap_end x.held v.live - v.next), tt)))); datum = tt }, tt)
+    by_tests false false true false e = tt
+    by_tests false false false c e = tt
+    by_tests false true rec c e = tt
+    by_tests true b rec c e = tt
 
 -- what an outcome writes is legal, where the law of sound facts holds of it
 abbrev Legal : Around → Facts → Outcome → Type 0
@@ -159,8 +158,8 @@ Legal x f o = KeepsSound x.config x.most f o → AllLegal o.written
 
 goes : (x : Around) (f : Facts) (act : Act) (written : List Message) (next : Facts) → Ready x f → (KeepsSound x.config x.most f (goes_on x act written next) → AllLegal written) → Legal x f (goes_on x act written next)
 goes x f act written next r legal k =
-    all_append IsLegal written (request_for x (gap_to_ask next)) (legal k)
-    (legal_request x f next r k.next (advanced act x.most f.recorded.inbox_next (having_asked next (gap_to_ask next)).recorded.inbox_next r.next k.advances k.within))
+    all_append IsLegal written (request_for x (gap_to_ask x next)) (legal k)
+    (legal_request x f next r k.next (advanced act x.most f.recorded.inbox_next (having_asked next (gap_to_ask x next)).recorded.inbox_next r.next k.advances k.within))
 
 quiet : (x : Around) (f : Facts) (act : Act) (next : Facts) → Ready x f → Legal x f (goes_on x act [] next)
 quiet x f act next r = goes x f act [] next r (λ _. tt)
@@ -184,6 +183,9 @@ bad x f g (Some b) r = breaking x f g _ r
 
 taking : (x : Around) (f g : Facts) (s : Seen) → Ready x f → Legal x f (taken_as x g s)
 taking x f g (Deliver n) r = quiet x f (acts.Apply n) (awaiting g (n + 1)) r
+taking x f g (Hold n) r = λ k. quiet (holding_too x n) f acts.Nothing g
+    (record { session = r.session; keepalive = r.keepalive; credentials = r.credentials; most = r.most; moment = r.moment; next = r.next; sent = r.sent })
+    (record { next = k.next; sent = k.sent; advances = k.advances; within = k.within; writes = k.writes })
 taking x f g (Gap n) r = quiet x f acts.Nothing g r
 taking x f g (Repeat n) r = quiet x f acts.Nothing g r
 
@@ -224,11 +226,11 @@ acknowledging x f timestamp keepalive e a r time =
     asked_recorded (Some q) = refl
 
     small : KeepsSound x.config x.most f (acknowledges x timestamp keepalive e a) → g.recorded.sent < 2 ^ 40
-    small k = subst (λ (s : EndState). s.sent < 2 ^ 40) (asked_recorded (gap_to_ask after)) k.next.sent
+    small k = subst (λ (s : EndState). s.sent < 2 ^ 40) (asked_recorded (gap_to_ask x after)) k.next.sent
 
     low : KeepsSound x.config x.most f (acknowledges x timestamp keepalive e a) → g.recorded.inbox_next ≤ x.most + 1
-    low k = subst (λ (s : EndState). s.inbox_next ≤ x.most + 1) (asked_recorded (gap_to_ask after))
-        (advanced (skip_of a.skipped) x.most f.recorded.inbox_next (having_asked after (gap_to_ask after)).recorded.inbox_next r.next k.advances k.within)
+    low k = subst (λ (s : EndState). s.inbox_next ≤ x.most + 1) (asked_recorded (gap_to_ask x after))
+        (advanced (skip_of a.skipped) x.most f.recorded.inbox_next (having_asked after (gap_to_ask x after)).recorded.inbox_next r.next k.advances k.within)
 
 -- Establish was acknowledged: the number that the peer expects is one past what was sent at most
 reaching : (x : Around) (f : Facts) (keepalive : ℕ) (e : Expected) (a : Announced) → Ready x f → a.facts.recorded.sent ≡ f.recorded.sent → Legal x f (reached x keepalive e a)
@@ -269,7 +271,7 @@ answering x f g last r = goes x f (finish_act g.recorded.peer_last last) (finish
 following : (x : Around) (f ended : Facts) (next : ℕ) (a : Announced) → Ready x f → Legal x f (sequence_follows x ended next a)
 following x f ended next a r =
     by_row (Legal x f) (is_past_finish x ended next) (breaks x ended _) (sequence_taken x a) (λ _. breaking x f ended _ r)
-    (λ _. by_row (Legal x f) (is_filled a.facts) (answers_finish x a.facts _) (goes_on x (skip_of a.skipped) (told_skip a.skipped) a.facts)
+    (λ _. by_row (Legal x f) (is_filled x a.facts) (answers_finish x a.facts _) (goes_on x (skip_of a.skipped) (told_skip a.skipped) a.facts)
     (λ _. answering x f a.facts _ r) (λ _. skipping x f a.skipped a.facts r))
 
 -- a range is sent again as it was asked for
@@ -342,7 +344,7 @@ session_rows x f (finished_sending id last) r m =
     own_rows (Legal x f) x f 14 id _ (λ e. ending x f f 2 e r (omega arith)) (all_within (Legal x f) (is_established f.connection.phase) _ (λ _. (
       λ _. refusing x f f r (finish_fault x f last),
       λ _. (
-        λ _. by_row (Legal x f) (is_some (receiver_is.gap f.connection.receiver)) (accepts x [] (peer_finished f (peer.Read (finished_last x last)) f.recorded.peer_last)) (answers_finish x f (finished_last x last))
+        λ _. by_row (Legal x f) (is_some (gap_of x f)) (accepts x [] (peer_finished f (peer.Read (finished_last x last)) f.recorded.peer_last)) (answers_finish x f (finished_last x last))
             (λ _. quiet x f acts.Nothing (peer_finished f (peer.Read (finished_last x last)) f.recorded.peer_last) r) (λ _. answering x f f (finished_last x last) r),
         λ _. tt,
       ),
@@ -359,9 +361,9 @@ each_row x f wrong_order r fits = (λ _. breaking x f f _ r, λ _. tt)
 each_row x f too_short r fits = (λ _. breaking x f f _ r, λ _. tt)
 each_row x f (unknown template) r fits = (λ _. breaking x f f _ r, λ _. tt)
 
-pub legal_reply : (x : Around) (f : Facts) (i : Incoming) → Ready x f → Sound x.config f → FitsIncoming i → AllLegal (reply_of x f i).written
-legal_reply x f i r s fits =
+pub legal_reply : (x : Around) (f : Facts) (i : Incoming) → Ready x f → Sound x.config f → HeldFits x.held f → FitsIncoming i → AllLegal (reply_of x f i).written
+legal_reply x f i r s held fits =
     by_row (Legal x f) (is_closing f.connection.phase && not (terminates x i)) (ignores f) (answer_of x f i)
     (λ _ _. tt)
     (λ _. all_rows (Legal x f) (not_in_phase x f (template_of i)) (rows_of x f i) (breaking x f f _ r) (each_row x f i r fits))
-    (sound_goes_on x f i (omega (arith, r.most)) s)
+    (sound_goes_on x f i (omega (arith, r.most)) s held)

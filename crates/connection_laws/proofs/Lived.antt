@@ -5,7 +5,7 @@ use Rattle.std.proofs.lemmas.Grind.{flat_map-append}
 use Rattle.std.proofs.lemmas.List.{take_all, length-take, take-take, take-append-le}
 use mathlib.Core.List.{IsPrefix}
 use Rattle.session_model.specs.Journal.{Entry}
-use Rattle.session_model.specs.Inbox.{InboxRecord}
+use Rattle.session_model.specs.Inbox.{InboxRecord, Numbered}
 use Rattle.session_model.specs.Events.{Event, messages, TrueOfJournal, Rising, HandshakeFirst, BeginsWithHandshake}
 use Rattle.session_model.specs.Growth as model
 use Rattle.session_model.specs.Growth.{Grown, GrownThrough}
@@ -23,13 +23,14 @@ use Rattle.fixp_replies.specs.declared.facts.Facts.{Facts}
 use Rattle.fixp_replies.specs.Incoming.{Incoming}
 use Rattle.fixp_shake.specs.Flows.{is_sequenced, is_absent}
 use Rattle.fixp_replies.specs.Acts.{is_record}
-use Rattle.fixp_machine.specs.Accepting.{model_flow, payload_in, records_of}
+use Rattle.fixp_machine.specs.Accepting.{model_flow, records_of}
+use Rattle.fixp_replies.specs.Incoming.{payload_in}
 use Rattle.connection_laws.specs.Writing.{Piece, events_written, ranges_told}
 use Rattle.connection_laws.specs.Courses.{Course, inbox_of, beginning, reply_to, accepted_by, course_after, Continues}
 use Rattle.connection_laws.specs.Standing.{OwnFlow, Stands}
-use Rattle.connection_laws.specs.Connections.{WasTaken, connection_of, served_by, ConnectionKept, RefusedKept, ConnectionServes, sent_part, WritingGoesOn, PartIsWritten}
+use Rattle.connection_laws.specs.Connections.{WasTaken, connection_of, served_by, ConnectionKept, RefusedKept, RefusedHeldKept, ConnectionServes, sent_part, WritingGoesOn, PartIsWritten}
 use Rattle.connection_laws.proofs.Continuing.{calls_go_on}
-use Rattle.connection_laws.proofs.Going.{begins_behind, waiting_grows, calls_keep, connection_begins}
+use Rattle.connection_laws.proofs.Going.{begins_behind, grown_held, waiting_grows, calls_keep, connection_begins}
 
 -- the events of the first frames are the first events
 first_written : (whole output : List Piece) → IsPrefix whole output → IsPrefix (events_written whole) (events_written output)
@@ -157,6 +158,35 @@ refused_kept opened h c w whole drained st waits low t = record {
         (grown_to flow (c.accepted ++ es) (c.accepted ++ es) (length (c.accepted ++ es)) (length c.accepted) c.start (inbox_of c ++ one.added ∷ []) (take_all (length (c.accepted ++ es)) (c.accepted ++ es) (omega arith)) (omega (arith, length-append c.accepted es))
         (subst (λ k. Grown flow None (c.accepted ++ es) c.start (inbox_of c ++ k)) one.alone whole_grown))
         (subst (λ k. IsImage (inbox_of c) k image) one.alone i)
+
+-- the append of the record of a held message failed: it would have grown the inbox without a further event
+pub refused_held_kept : RefusedHeldKept
+refused_held_kept opened h c m whole drained st e low t = record {
+  inbox_adds = ap (λ rs. c.start ++ rs) (sym (append-nil c.added));
+  inbox_grown = images;
+  none_lost = one_grown flow c.accepted c.start (inbox_of c ++ InboxRecord.apply m ∷ []) (grown_held h c m st e).1;
+  all_processed = λ _. omega arith;
+  begins = (st.begins, tt);
+  handshakes = (first_handshakes (events_written whole) (events_written c.output) (first_written whole c.output t.first) st.own.handshakes, tt);
+  writes = writes_one c.state.config.own_flow opened h c.sent_before c.state.facts (events_written c.output) (events_written whole) st.own (first_written whole c.output t.first) low;
+  reports = (record { in_order = reported.in_order; all = reported.all }, tt);
+}
+  where
+    flow : model.Flow
+    flow = model_flow c.state.config.peer_flow
+
+    reported : ReportsSkips (connection_of c whole drained)
+    reported = reports_first h c whole drained st t
+
+    same : take (length c.accepted) c.accepted ≡ c.accepted
+    same = take_all (length c.accepted) c.accepted (omega arith)
+
+    images : (image : List InboxRecord) → IsImage (inbox_of c) (InboxRecord.apply m ∷ []) image
+        → (j : ℕ) × GrownThrough flow (first_events j (c.accepted ∷ [])) c.start image × (length c.accepted ≤ j)
+    images image i = image_of_one (λ image. (j : ℕ) × GrownThrough flow (first_events j (c.accepted ∷ [])) c.start image × (length c.accepted ≤ j)) (inbox_of c) (InboxRecord.apply m) image
+        (grown_to flow c.accepted c.accepted (length c.accepted) (length c.accepted) c.start (inbox_of c) same (omega arith) st.grown)
+        (grown_to flow c.accepted c.accepted (length c.accepted) (length c.accepted) c.start (inbox_of c ++ InboxRecord.apply m ∷ []) same (omega arith) (grown_held h c m st e).1)
+        i
 
 -- what was written before, of an outbox that has grown, and one connection behind it
 true_longer : (h longer : List Entry) (earlier : List (List Event)) → IsPrefix h longer → AllByRecursion (λ es. TrueOfJournal h None es) earlier → AllByRecursion (λ es. TrueOfJournal longer None es) earlier

@@ -9,8 +9,8 @@ use Rattle.fixp_msgs.specs.declared.messages.Expected.{Expected}
 use Rattle.fixp_msgs.specs.declared.numbering.Range.{Range}
 use Rattle.fixp_msgs.specs.Flow.{flow_code}
 use Rattle.fixp_msgs.specs.Message.{Message, negotiate, negotiation_response, negotiation_reject, establish, establishment_ack, establishment_reject, sequence, unsequenced_heartbeat, retransmit_request, retransmission, retransmit_reject, applied, not_applied, finished_sending, finished_receiving, terminate}
-use Rattle.flow_recover.specs.declared.receiver.Seen.{Seen}
-use Rattle.flow_recover.specs.declared.receiver.Seen.TheVariants.{Deliver, Gap, Repeat}
+use Rattle.flow_recover.specs.declared.numbers.Seen.{Seen}
+use Rattle.flow_recover.specs.declared.numbers.Seen.TheVariants.{Deliver, Hold, Gap, Repeat}
 use Rattle.flow_recover.specs.Receiving as receiver_is
 use Rattle.flow_retrans.specs.declared.requester.BadStart.{BadStart}
 use Rattle.flow_retrans.specs.declared.judging.RetransmitCode.{RetransmitCode}
@@ -29,7 +29,7 @@ use Rattle.fixp_replies.specs.declared.facts.Facts.{Facts}
 use Rattle.fixp_replies.specs.declared.facts.PeerFinish.TheVariants as peer
 use Rattle.fixp_replies.specs.declared.facts.OwnFinish.TheVariants as own
 use Rattle.fixp_replies.specs.Incoming.{Incoming, application, session, wrong_order, too_short, unknown}
-use Rattle.fixp_replies.specs.Facts.{Around, is_initiator, is_own, in_phase, receiving, requesting, firm, serves, negotiated as as_negotiated, awaiting, awaits_gap, gap_to_ask, having_asked, announced_number}
+use Rattle.fixp_replies.specs.Facts.{Around, is_initiator, is_own, in_phase, receiving, requesting, firm, serves, negotiated as as_negotiated, awaiting, awaits_gap, gap_of, gap_to_ask, holding_too, having_asked, announced_number}
 use Rattle.fixp_replies.specs.Outcomes.{Outcome, Row, row, goes_on, accepts, ignores, ends, not_in_phase, request_for, skip_of, told_skip, opening_negotiate, opening_establish}
 use Rattle.fixp_replies.specs.Announcing.{Announced, jumped_over, announced, refuses}
 use Rattle.fixp_replies.specs.Handshake.{awaits_client, serves_client, established, acknowledges, establish_rows, established_again_rows, establish_rows_in, shaken, reached}
@@ -126,13 +126,13 @@ spares x f i o out none u = record {
 -- the connection goes on, and nothing is said of the own flow
 goes : (x : Around) (f : Facts) (i : Incoming) (act : Act) (written : List Message) (g : Facts) → events_in written ≡ [] → SameOwn f g
     → HearsHandshake f i (goes_on x act written g) → Replies x f i (goes_on x act written g)
-goes x f i act written g none same h = record { writes = nothing (events_asking x written (gap_to_ask g) ∙ none) (asked_own f g (gap_to_ask g) same); hears = h }
+goes x f i act written g none same h = record { writes = nothing (events_asking x written (gap_to_ask x g) ∙ none) (asked_own f g (gap_to_ask x g) same); hears = h }
 
 -- on a message that has no event
 goes_unheard : (x : Around) (f : Facts) (i : Incoming) (act : Act) (written : List Message) (g : Facts) → events_in written ≡ [] → SameOwn f g
     → (is_shaken g.connection.phase ≡ true → is_shaken f.connection.phase ≡ true) → event_of i ≡ None → Replies x f i (goes_on x act written g)
 goes_unheard x f i act written g none same from e =
-    goes x f i act written g none same (hears_none f i (goes_on x act written g) e (λ t. from (ap (λ p. is_shaken p) (sym (asked_phase g (gap_to_ask g))) ∙ t)))
+    goes x f i act written g none same (hears_none f i (goes_on x act written g) e (λ t. from (ap (λ p. is_shaken p) (sym (asked_phase g (gap_to_ask x g))) ∙ t)))
 
 passes_by : (x : Around) (f : Facts) (i : Incoming) (act : Act) (written : List Message) (g : Facts) → events_in written ≡ [] → Untouched f g → event_of i ≡ None → Replies x f i (goes_on x act written g)
 passes_by x f i act written g none u e = goes_unheard x f i act written g none (untouched_own f g u) (λ t. ap (λ p. is_shaken p) (sym u.phase) ∙ t) e
@@ -140,7 +140,7 @@ passes_by x f i act written g none u e = goes_unheard x f i act written g none (
 -- once the handshake is done
 goes_later : (x : Around) (f : Facts) (i : Incoming) (act : Act) (written : List Message) (g : Facts) → events_in written ≡ [] → Untouched f g → is_shaken f.connection.phase ≡ true → Replies x f i (goes_on x act written g)
 goes_later x f i act written g none u done =
-    goes x f i act written g none (untouched_own f g u) (hears_later f i (goes_on x act written g) done (ap (λ p. is_shaken p) (asked_phase g (gap_to_ask g) ∙ u.phase) ∙ done))
+    goes x f i act written g none (untouched_own f g u) (hears_later f i (goes_on x act written g) done (ap (λ p. is_shaken p) (asked_phase g (gap_to_ask x g) ∙ u.phase) ∙ done))
 
 bad : (x : Around) (f : Facts) (i : Incoming) (b : Option BadStart) → Replies x f i (bad_retransmission x f b)
 bad x f i None = spares x f i (bad_retransmission x f None) refl refl (still f)
@@ -178,18 +178,18 @@ last_of true true false d t = absurd (true≢false (sym t))
 shaking : (x : Around) (f : Facts) (i : Incoming) → event_of i ≡ None → is_shaken f.connection.phase ≡ false → Replies x f i (shaken x f)
 shaking x f i none before =
     let g : Facts = in_phase (as_negotiated f) phases.Establishing in
-    let next : Facts = having_asked g (gap_to_ask g) in
-    let open_still : is_shaken next.connection.phase ≡ false = ap (λ p. is_shaken p) (asked_phase g (gap_to_ask g)) in
+    let next : Facts = having_asked g (gap_to_ask x g) in
+    let open_still : is_shaken next.connection.phase ≡ false = ap (λ p. is_shaken p) (asked_phase g (gap_to_ask x g)) in
     record {
       writes = shakes (record {
-        tells = events_asking x (opening_establish x f ∷ []) (gap_to_ask g) ∙ ap (λ k. announce handshake k ∷ []) (sym (announced_same x f next (asked_sent g (gap_to_ask g))));
+        tells = events_asking x (opening_establish x f ∷ []) (gap_to_ask x g) ∙ ap (λ k. announce handshake k ∷ []) (sym (announced_same x f next (asked_sent g (gap_to_ask x g))));
         before = before;
-        opened = ap (λ p. is_idle p) (asked_phase g (gap_to_ask g));
-        sent = kept x.config f next (asked_sent g (gap_to_ask g));
+        opened = ap (λ p. is_idle p) (asked_phase g (gap_to_ask x g));
+        sent = kept x.config f next (asked_sent g (gap_to_ask x g));
         first = λ may. absurd (true≢false (sym (last_of (is_newer x.config) (is_recoverable x.config.own_flow) (not (is_shaken f.connection.phase)) (is_shaken next.connection.phase) may) ∙ open_still));
-        serving = asked_serving g (gap_to_ask g);
+        serving = asked_serving g (gap_to_ask x g);
       });
-      hears = hears_none f i (shaken x f) none (λ t. absurd (true≢false (sym t ∙ ap (λ p. is_shaken p) (asked_phase g (gap_to_ask g)))));
+      hears = hears_none f i (shaken x f) none (λ t. absurd (true≢false (sym t ∙ ap (λ p. is_shaken p) (asked_phase g (gap_to_ask x g)))));
     }
 
 -- an acceptor waits for its client before anything is written
@@ -206,20 +206,20 @@ acknowledging : (x : Around) (f : Facts) (i : Incoming) (timestamp keepalive : �
 acknowledging x f i timestamp keepalive next expected a u e idle =
     let r : Facts = returned x a.facts expected in
     let g : Facts = established (softened x expected r) keepalive in
-    let after : Facts = having_asked g (gap_to_ask g) in
+    let after : Facts = having_asked g (gap_to_ask x g) in
     let ack : Message = establishment_ack x.config.session timestamp x.config.keepalive (announced_number x r) (answers_next x expected r) in
     let before : is_shaken f.connection.phase ≡ false = not_opened f.connection.phase idle in
-    let done : is_shaken after.connection.phase ≡ true = ap (λ p. is_shaken p) (asked_phase g (gap_to_ask g)) in
+    let done : is_shaken after.connection.phase ≡ true = ap (λ p. is_shaken p) (asked_phase g (gap_to_ask x g)) in
     record {
       writes = shakes (record {
-        tells = events_asking x (ack ∷ told_skip a.skipped) (gap_to_ask g)
+        tells = events_asking x (ack ∷ told_skip a.skipped) (gap_to_ask x g)
             ∙ (ap (λ es. announce handshake (announced_number x r) ∷ es) (skip_says_nothing a.skipped)
-            ∙ ap (λ k. announce handshake k ∷ []) (sym (announced_same x r after (asked_sent g (gap_to_ask g)))));
+            ∙ ap (λ k. announce handshake k ∷ []) (sym (announced_same x r after (asked_sent g (gap_to_ask x g)))));
         before = before;
-        opened = ap (λ p. is_idle p) (asked_phase g (gap_to_ask g));
-        sent = returned_keeps x f a.facts after expected before done u.sent (asked_sent g (gap_to_ask g));
+        opened = ap (λ p. is_idle p) (asked_phase g (gap_to_ask x g));
+        sent = returned_keeps x f a.facts after expected before done u.sent (asked_sent g (gap_to_ask x g));
         first = λ _. idle;
-        serving = asked_serving g (gap_to_ask g) ∙ (ap (λ c. c.serving) (returned_stays x a.facts expected).connection ∙ u.serving);
+        serving = asked_serving g (gap_to_ask x g) ∙ (ap (λ c. c.serving) (returned_stays x a.facts expected).connection ∙ u.serving);
       });
       hears = hears_handshake f i (acknowledges x timestamp keepalive expected a) next e refl done;
     }
@@ -274,7 +274,7 @@ acknowledged x f i keepalive next expected a u e phase = by_tests (takes x a.fac
     after t = established (returned_if t a.facts expected) interval
 
     hears : (t same : Bool) → HearsHandshake f i (goes_on x (skip_of a.skipped) (told t same) (after t))
-    hears t same = hears_handshake f i (goes_on x (skip_of a.skipped) (told t same) (after t)) next e refl (ap (λ p. is_shaken p) (asked_phase (after t) (gap_to_ask (after t))))
+    hears t same = hears_handshake f i (goes_on x (skip_of a.skipped) (told t same) (after t)) next e refl (ap (λ p. is_shaken p) (asked_phase (after t) (gap_to_ask x (after t))))
 
     quiet : (t same : Bool) → (t && not same) ≡ false → (after t).recorded.sent ≡ f.recorded.sent → (after t).connection.serving ≡ f.connection.serving
         → Replies x f i (goes_on x (skip_of a.skipped) (told t same) (after t))
@@ -292,14 +292,14 @@ acknowledged x f i keepalive next expected a u e phase = by_tests (takes x a.fac
     by_tests true false is eq =
         let k = taken x a.facts expected is in
         let g : Facts = after true in
-        let last : Facts = having_asked g (gap_to_ask g) in
-        let done : is_shaken last.connection.phase ≡ true = ap (λ p. is_shaken p) (asked_phase g (gap_to_ask g)) in
-        let sent : last.recorded.sent ≡ number_in expected - 1 = asked_sent g (gap_to_ask g) in
+        let last : Facts = having_asked g (gap_to_ask x g) in
+        let done : is_shaken last.connection.phase ≡ true = ap (λ p. is_shaken p) (asked_phase g (gap_to_ask x g)) in
+        let sent : last.recorded.sent ≡ number_in expected - 1 = asked_sent g (gap_to_ask x g) in
         let number : number_in expected ≡ last.recorded.sent + 1 = omega (arith, sent, k.low) in
         let other : number_in expected ≢ a.facts.recorded.sent + 1 = λ same. true≢false (sym (eq-eqb (number_in expected) (a.facts.recorded.sent + 1) same) ∙ eq) in
         record {
           writes = returns (record {
-            tells = events_asking x (told true false) (gap_to_ask g)
+            tells = events_asking x (told true false) (gap_to_ask x g)
                 ∙ (flat_map-append _ (told_skip a.skipped) (sequence (number_in expected) ∷ [])
                 ∙ (ap (λ es. es ++ announce in_flow (Some (number_in expected)) ∷ []) (skip_says_nothing a.skipped) ∙ ap (λ n. announce in_flow (Some n) ∷ []) number));
             may = ap (λ b. b && is_recoverable x.config.own_flow && not (is_shaken f.connection.phase) && is_shaken last.connection.phase) k.newer
@@ -307,7 +307,7 @@ acknowledged x f i keepalive next expected a u e phase = by_tests (takes x a.fac
                 ∙ (ap (λ b. not b && is_shaken last.connection.phase) before ∙ done));
             reached = is_made;
             sent = omega (arith, number, k.high, other, u.sent);
-            serving = asked_serving g (gap_to_ask g) ∙ u.serving;
+            serving = asked_serving g (gap_to_ask x g) ∙ u.serving;
           });
           hears = hears true false;
         }
@@ -320,7 +320,7 @@ answered_facts f h last u = record { sent = u.sent; serving = u.serving; phase =
 sequence_all : (x : Around) (f ended : Facts) (i : Incoming) (next : ℕ) (a : Announced) → Untouched f ended → Untouched f a.facts → is_shaken f.connection.phase ≡ true → Replies x f i (sequence_follows x ended next a)
 sequence_all x f ended i next a same far done =
     by_row (Replies x f i) (is_past_finish x ended next) _ (sequence_taken x a) (λ _. spares x f i _ refl refl same)
-    (λ _. by_row (Replies x f i) (is_filled a.facts) (answers_finish x a.facts last) _
+    (λ _. by_row (Replies x f i) (is_filled x a.facts) (answers_finish x a.facts last) _
     (λ _. goes_later x f i (finish_act a.facts.recorded.peer_last last) (finished_receiving x.config.session ∷ []) (peer_finished a.facts (peer.Exchanged last) (Some (unwrap_or a.facts.recorded.peer_last last))) refl (answered_facts f a.facts last far) done)
     (λ _. goes_later x f i (skip_of a.skipped) (told_skip a.skipped) a.facts (skip_says_nothing a.skipped) far done))
   where
@@ -329,7 +329,7 @@ sequence_all x f ended i next a same far done =
 
 finishing : (x : Around) (f : Facts) (i : Incoming) (last : ℕ) → event_of i ≡ None → Replies x f i (finished x f last)
 finishing x f i last none =
-    by_row (Replies x f i) (is_some (receiver_is.gap f.connection.receiver)) (accepts x [] (peer_finished f (peer.Read last) f.recorded.peer_last)) (answers_finish x f last)
+    by_row (Replies x f i) (is_some (gap_of x f)) (accepts x [] (peer_finished f (peer.Read last) f.recorded.peer_last)) (answers_finish x f last)
     (λ _. passes_by x f i acts.Nothing [] (peer_finished f (peer.Read last) f.recorded.peer_last) refl (record { sent = refl; serving = refl; phase = refl }) none)
     (λ _. passes_by x f i (finish_act f.recorded.peer_last last) (finished_receiving x.config.session ∷ []) (peer_finished f (peer.Exchanged last) (Some (unwrap_or f.recorded.peer_last last))) refl (answered_facts f f last (still f)) none)
 
@@ -369,13 +369,13 @@ answered x f i id timestamp (Ok range) none done free ok =
     record {
       writes = resends (record {
         range = range;
-        tells = events_asking x (retransmission x.config.session range.from timestamp range.count ∷ []) (gap_to_ask g);
+        tells = events_asking x (retransmission x.config.session range.from timestamp range.count ∷ []) (gap_to_ask x g);
         own = j.recovers;
         free = free;
         done = done;
-        stays = ap (λ p. is_shaken p) (asked_phase g (gap_to_ask g)) ∙ done;
-        sent = asked_sent g (gap_to_ask g);
-        serving = asked_serving g (gap_to_ask g);
+        stays = ap (λ p. is_shaken p) (asked_phase g (gap_to_ask x g)) ∙ done;
+        sent = asked_sent g (gap_to_ask x g);
+        serving = asked_serving g (gap_to_ask x g);
         from_one = j.from_one;
         within = j.within;
       });
@@ -383,9 +383,30 @@ answered x f i id timestamp (Ok range) none done free ok =
     }
 answered x f i id timestamp (Err code) none done free ok = spares x f i _ refl refl (still f)
 
+-- a reply whose message is held writes and hears what it does otherwise
+writes_held : (x : Around) (f : Facts) (n : ℕ) → WritesOwn (holding_too x n) f (accepts (holding_too x n) [] (counted f)) → WritesOwn x f (taken_as x (counted f) (Hold n))
+writes_held x f n (nothing none same) = nothing none same
+writes_held x f n (shakes s) = shakes (record { tells = s.tells; before = s.before; opened = s.opened; sent = s.sent; first = s.first; serving = s.serving })
+writes_held x f n (returns r) = returns (record { tells = r.tells; may = r.may; reached = r.reached; sent = r.sent; serving = r.serving })
+writes_held x f n (resends r) = resends (record {
+  range = r.range;
+  tells = r.tells;
+  own = r.own;
+  free = r.free;
+  done = r.done;
+  stays = r.stays;
+  sent = r.sent;
+  serving = r.serving;
+  from_one = r.from_one;
+  within = r.within;
+})
+
 -- a message of a recoverable flow
 taking : (x : Around) (f : Facts) (i : Incoming) → is_shaken f.connection.phase ≡ true → (s : Seen) → Replies x f i (taken_as x (counted f) s)
 taking x f i done (Deliver n) = goes_later x f i (acts.Apply n) [] (awaiting (counted f) (n + 1)) refl (record { sent = refl; serving = refl; phase = refl }) done
+taking x f i done (Hold n) =
+    let k = goes_later (holding_too x n) f i acts.Nothing [] (counted f) refl (record { sent = refl; serving = refl; phase = refl }) done in
+    record { writes = writes_held x f n k.writes; hears = record { opens = k.hears.opens; unheard = k.hears.unheard; done = k.hears.done } }
 taking x f i done (Gap n) = goes_later x f i acts.Nothing [] (counted f) refl (record { sent = refl; serving = refl; phase = refl }) done
 taking x f i done (Repeat n) = goes_later x f i acts.Nothing [] (counted f) refl (record { sent = refl; serving = refl; phase = refl }) done
 

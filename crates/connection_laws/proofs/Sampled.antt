@@ -9,7 +9,7 @@ course_sample = (
   refl,
   refl,
   (
-    record { may_call = refl; comes = record { begun = refl; going = refl; done = refl } },
+    record { may_call = (refl, refl); comes = record { begun = refl; going = refl; done = refl } },
     (
       record { may_call = tt; comes = refl },
       (
@@ -24,11 +24,11 @@ course_sample = (
           };
         },
         (
-          record { may_call = refl; comes = record { begun = refl; going = refl; done = refl } },
+          record { may_call = (refl, refl); comes = record { begun = refl; going = refl; done = refl } },
           (
             record { may_call = tt; comes = refl },
             (
-              record { may_call = refl; comes = record { begun = refl; going = refl; done = refl } },
+              record { may_call = (refl, refl); comes = record { begun = refl; going = refl; done = refl } },
               (
                 record {
                   may_call = refl;
@@ -40,7 +40,7 @@ course_sample = (
                     entries = (record { from_one = omega arith; found = refl }, tt);
                   };
                 },
-                (record { may_call = refl; comes = tt }, tt),
+                (record { may_call = (refl, refl); comes = tt }, tt),
               ),
             ),
           ),

@@ -1,7 +1,9 @@
 -- All that a machine in range writes on a connection is legal.
 use Rattle.std.proofs.Common.{◌≡◌, ◌≤◌, ◌<◌, ◌+◌, ◌^◌, ℕ, Bool, true, false, if◌then◌else◌, List, [], ◌∷◌, ◌++◌, Option, Some, None, refl, sym, subst, arith, true≢false}
 use Rattle.std.specs.List.{AllByRecursion}
+use Rattle.std.proofs.lemmas.Bool.{false≢true}
 use Rattle.session_model.specs.Journal.{Entry}
+use Rattle.session_model.specs.Inbox.{Numbered}
 use Rattle.session_model.proofs.Lists.{all_append}
 use Rattle.fixp_shake.specs.declared.phase.Phase.TheVariants as phases
 use Rattle.fixp_replies.specs.Acts.{is_record}
@@ -9,11 +11,12 @@ use Rattle.fixp_replies.specs.Facts.{Around, is_initiator, connecting}
 use Rattle.fixp_replies.specs.Outcomes.{Outcome}
 use Rattle.fixp_replies.specs.Replies.{reply_of}
 use Rattle.fixp_machine.specs.Sound.{Sound}
-use Rattle.fixp_machine.specs.Machine.{State, Call, begin, frame, bad_frame, did, tick, turn_done, closed, link_end, live, again, taken, reserve, around, connected, step, StaysSound}
+use Rattle.fixp_machine.specs.Machine.{State, Call, begin, frame, bad_frame, did, tick, turn_done, closed, link_end, live, again, taken, reserve, held_done, front_of, around, connected, step, StaysSound}
 use Rattle.fixp_machine.proofs.Calls.{begun_as, calls_keep_sound}
+use Rattle.fixp_machine.proofs.Windowing.{windowed_empty}
 use Rattle.connection_laws.specs.Framed.{IsLegalPiece}
 use Rattle.connection_laws.specs.Writing.{said_all, writes}
-use Rattle.connection_laws.specs.Courses.{Waiting, Course, beginning, counting, called, next_done, next_course, course_after}
+use Rattle.connection_laws.specs.Courses.{Waiting, Course, beginning, counting, called, next_done, next_held, next_course, course_after}
 use Rattle.connection_laws.specs.Standing.{MayStand, AllMayStand}
 use Rattle.connection_laws.proofs.Continuing.{state_is_run}
 use Rattle.connection_laws.specs.Ranges.{IsInRange, IsInTime, FitsCall}
@@ -44,6 +47,11 @@ output_of h c (live ps now) may = refl
 output_of h c (again ps now) may = refl
 output_of h c (taken count) may = refl
 output_of h c reserve may = refl
+output_of h c held_done may = by_front (front_of c.state) (called c held_done)
+  where
+    by_front : (m : Option Numbered) (k : Course) → (next_held k m).output ≡ k.output
+    by_front None k = refl
+    by_front (Some m) k = refl
 
 legal_calls : (h : List Entry) (c : Course) (calls : List Call) → AllByRecursion IsPayload h → StaysSound c.state → Ranged c.state → AllByRecursion IsLegalPiece c.output
     → AllMayStand h c calls → AllByRecursion FitsCall calls → StaysLegal (course_after c calls)
@@ -72,7 +80,14 @@ begun_sound s now r small =
       soft = λ t. absurd (true≢false (sym t));
       role = λ _. refl;
     } in
-    calls_keep_sound (record s { facts = connecting s.facts.recorded phases.Idle; pending = None }) (begin now) (record { most = omega (arith, r.most); facts = idle; pending = tt }) tt
+    calls_keep_sound (record s { facts = connecting s.facts.recorded phases.Idle; pending = None; held = [] }) (begin now) (record {
+      most = omega (arith, r.most);
+      facts = idle;
+      windowed = windowed_empty s.config s.most (connecting s.facts.recorded phases.Idle) s.ending;
+      pending = tt;
+      holding = tt;
+      waits = λ some. absurd (false≢true some);
+    }) tt
 
 begun_ranged : (s : State) (now : ℕ) → IsInRange s → Ranged (connected s now)
 begun_ranged s now r = record { range = in_range s (connected s now) refl refl r (by_case (is_initiator s.config.role) s.facts.recorded.negotiated); untold = tt; pending = tt }

@@ -2,12 +2,12 @@
 use Rattle.std.specs.Prelude.{◌≡◌, ℕ, ◌≤◌, Bool, true, List, [], ◌∷◌, ◌++◌, length, take, Some}
 use mathlib.Core.List.{IsPrefix}
 use Rattle.session_model.specs.Journal.{Entry}
-use Rattle.session_model.specs.Inbox.{InboxRecord, next_number}
+use Rattle.session_model.specs.Inbox.{InboxRecord, Numbered, next_number}
 use Rattle.session_model.specs.Events.{Event}
 use Rattle.session_model.specs.Growth as model
 use Rattle.session_model.specs.Lives.{Connection, Served, Writes, KeepsConnections}
 use Rattle.fixp_msgs.specs.declared.flow.Flow.TheVariants as flows
-use Rattle.fixp_machine.specs.Machine.{State, Call}
+use Rattle.fixp_machine.specs.Machine.{State, Call, front_of}
 use Rattle.fixp_machine.specs.Accepting.{model_flow, records_of}
 use Rattle.connection_laws.specs.Writing.{Piece, events_written, ranges_told}
 use Rattle.connection_laws.specs.Courses.{Waiting, Course, inbox_of, beginning, reply_to, accepted_by, course_after}
@@ -49,6 +49,10 @@ refused_by c w whole drained = record {
   connections = record (connection_of c whole drained) { accepted = c.accepted ++ accepted_by (reply_to c.state w) w.incoming } ∷ [];
 }
 
+-- a life that served it, until the append of the record of the held message that the inbox awaits failed: all frames were processed
+abbrev pub refused_held : Course → Numbered → List Piece → Bool → Served
+refused_held c m whole drained = record (served_by c whole drained) { refused_inbox = InboxRecord.apply m ∷ [] }
+
 -- the life opened on no more entries than were sent when the connection began, which counts on a flow without numbers
 abbrev pub OpenedBefore : Course → List Entry → Type 0
 OpenedBefore c opened = c.state.config.own_flow ≡ flows.Unsequenced → length opened ≤ c.sent_before
@@ -63,6 +67,11 @@ abbrev pub RefusedKept : Type 0
 RefusedKept = (opened h : List Entry) (c : Course) (w : Waiting) (whole : List Piece) (drained : Bool)
     → Stands h c → c.waiting ≡ Some w → OpenedBefore c opened → WasTaken c whole drained
     → KeepsConnections (model_flow c.state.config.own_flow) (model_flow c.state.config.peer_flow) opened h (refused_by c w whole drained)
+
+abbrev pub RefusedHeldKept : Type 0
+RefusedHeldKept = (opened h : List Entry) (c : Course) (m : Numbered) (whole : List Piece) (drained : Bool)
+    → Stands h c → front_of c.state ≡ Some m → OpenedBefore c opened → WasTaken c whole drained
+    → KeepsConnections (model_flow c.state.config.own_flow) (model_flow c.state.config.peer_flow) opened h (refused_held c m whole drained)
 
 -- So whatever calls come on a connection from its beginning on, where each may come, it is one that a life may have served
 abbrev pub ConnectionServes : Type 0

@@ -1,13 +1,13 @@
 -- How a connection goes over the calls of its end: what is accepted of the peer's flow, what is added to the inbox, what is written.
 use Rattle.std.specs.Prelude.{◌≡◌, ℕ, if◌then◌else◌, List, [], ◌∷◌, ◌++◌, take, Option, Some, None, option_to_list}
 use mathlib.Core.List.{IsPrefix}
-use Rattle.session_model.specs.Inbox.{InboxRecord}
+use Rattle.session_model.specs.Inbox.{InboxRecord, Numbered}
 use Rattle.session_model.specs.Events.{Event}
 use Rattle.fixp_replies.specs.Acts.{is_record}
 use Rattle.fixp_replies.specs.Incoming.{Incoming}
 use Rattle.fixp_replies.specs.Outcomes.{Outcome}
 use Rattle.fixp_replies.specs.Replies.{reply_of}
-use Rattle.fixp_machine.specs.Machine.{State, Call, begin, frame, did, taken, around, connected, step, run}
+use Rattle.fixp_machine.specs.Machine.{State, Call, begin, frame, did, taken, held_done, front_of, around, connected, step, run}
 use Rattle.fixp_machine.specs.Accepting.{event_of, records_of}
 use Rattle.connection_laws.specs.Writing.{Piece, writes}
 
@@ -81,12 +81,18 @@ next_done c None w = c
 next_done c (Some o) None = c
 next_done c (Some o) (Some w) = counting c o w.incoming
 
+-- a held message was applied
+abbrev pub next_held : Course → Option Numbered → Course
+next_held c None = c
+next_held c (Some m) = record c { added = c.added ++ InboxRecord.apply m ∷ [] }
+
 abbrev pub next_course : Course → Call → Course
 next_course c (begin now) = beginning c.state (inbox_of c) now
 next_course c (frame incoming at now) = next_framed c (record { incoming = incoming; at = at; moment = now })
     (reply_of (around c.state at now) c.state.facts incoming)
 next_course c (did now) = next_done (called c (did now)) c.state.pending c.waiting
 next_course c (taken count) = record (called c (taken count)) { taken = c.taken ++ take count c.state.unsent }
+next_course c held_done = next_held (called c held_done) (front_of c.state)
 next_course c call = called c call
 
 abbrev pub course_after : Course → List Call → Course

@@ -1,15 +1,15 @@
 -- A life of the machine: connections one behind another, in the words of the session model.
 use Rattle.std.specs.Prelude.{◌≡◌, ⊤, ℕ, ◌≤◌, Bool, List, [], ◌∷◌, length, Some}
 use Rattle.session_model.specs.Journal.{Entry}
-use Rattle.session_model.specs.Inbox.{InboxRecord, next_number}
+use Rattle.session_model.specs.Inbox.{InboxRecord, Numbered, next_number}
 use Rattle.session_model.specs.Lives.{Served, served_on, KeepsConnections}
 use Rattle.fixp_msgs.specs.declared.flow.Flow.TheVariants as flows
-use Rattle.fixp_machine.specs.Machine.{State, Call}
+use Rattle.fixp_machine.specs.Machine.{State, Call, front_of}
 use Rattle.fixp_machine.specs.Accepting.{model_flow}
 use Rattle.connection_laws.specs.Writing.{Piece}
 use Rattle.connection_laws.specs.Courses.{Waiting, Course, inbox_of, beginning, course_after}
 use Rattle.connection_laws.specs.Standing.{AllMayStand}
-use Rattle.connection_laws.specs.Connections.{WasTaken, served_by, refused_by}
+use Rattle.connection_laws.specs.Connections.{WasTaken, served_by, refused_by, refused_held}
 
 -- one connection of a life: the moment of its beginning, the calls that came on it, the frames that the link took whole, and
 -- whether all of its output was taken and it had not ended
@@ -67,3 +67,11 @@ LifeRefused = (opened h : List Entry) (s : State) (inbox : List InboxRecord) (le
     → (course_of (state_behind s inbox legs) (inbox_behind s inbox legs) last).waiting ≡ Some w
     → KeepsConnections (model_flow s.config.own_flow) (model_flow s.config.peer_flow) opened h
     (served_on (life_on s inbox legs) (refused_by (course_of (state_behind s inbox legs) (inbox_behind s inbox legs) last) w last.whole last.drained))
+
+-- or the append of the record of the held message that the inbox awaits
+abbrev pub LifeRefusedHeld : Type 0
+LifeRefusedHeld = (opened h : List Entry) (s : State) (inbox : List InboxRecord) (legs : List Leg) (last : Leg) (m : Numbered)
+    → Opens opened h s inbox → AllMayRun h s inbox legs → MayRun h (state_behind s inbox legs) (inbox_behind s inbox legs) last
+    → front_of (course_of (state_behind s inbox legs) (inbox_behind s inbox legs) last).state ≡ Some m
+    → KeepsConnections (model_flow s.config.own_flow) (model_flow s.config.peer_flow) opened h
+    (served_on (life_on s inbox legs) (refused_held (course_of (state_behind s inbox legs) (inbox_behind s inbox legs) last) m last.whole last.drained))

@@ -1,10 +1,10 @@
 -- What holds of a connection at every moment, and when a call may come on it.
-use Rattle.std.specs.Prelude.{◌≡◌, ⊤, ℕ, ◌+◌, ◌≤◌, true, false, if◌then◌else◌, List, [], ◌∷◌, ◌++◌, length, take, Option, Some, None, option_map, IfSome, IsSome, IsTrue}
+use Rattle.std.specs.Prelude.{◌≡◌, ⊤, ℕ, ◌+◌, ◌≤◌, true, false, if◌then◌else◌, List, [], ◌∷◌, ◌++◌, length, take, Option, Some, None, option_map, IfSome, IsSome, IsTrue, Contains}
 use Rattle.std.specs.List.{AllByRecursion}
 use mathlib.Core.List.{IsPrefix}
 use Rattle.session_model.specs.Journal.{Entry, IsEntry}
-use Rattle.session_model.specs.Inbox.{InboxRecord, skips, next_number}
-use Rattle.session_model.specs.Events.{Event, announce, handshake, standing, messages, TrueOfJournal, Rising, HandshakeFirst, BeginsWithHandshake}
+use Rattle.session_model.specs.Inbox.{InboxRecord, Numbered, skips, next_number}
+use Rattle.session_model.specs.Events.{Event, announce, handshake, numbered, standing, messages, TrueOfJournal, Rising, HandshakeFirst, BeginsWithHandshake}
 use Rattle.session_model.specs.Growth.{Grown}
 use Rattle.fixp_msgs.specs.declared.numbering.Range.{Range}
 use Rattle.fixp_msgs.specs.declared.flow.Flow.{Flow}
@@ -13,7 +13,7 @@ use Rattle.fixp_shake.specs.Flows.{is_recoverable, is_sequenced, is_absent}
 use Rattle.fixp_shake.specs.Phases.{is_idle, is_established, is_shaken}
 use Rattle.fixp_replies.specs.declared.facts.Facts.{Facts}
 use Rattle.fixp_replies.specs.Acts.{is_record}
-use Rattle.fixp_machine.specs.Machine.{State, Call, begin, frame, bad_frame, did, tick, turn_done, closed, link_end, live, again, taken, reserve, MayCall}
+use Rattle.fixp_machine.specs.Machine.{State, Call, begin, frame, bad_frame, did, tick, turn_done, closed, link_end, live, again, taken, reserve, held_done, MayCall}
 use Rattle.fixp_machine.specs.Accepting.{model_flow, records_of, Agrees}
 use Rattle.connection_laws.specs.Writing.{bytes_written, events_written, ranges_told, is_reached}
 use Rattle.connection_laws.specs.Courses.{Waiting, Course, inbox_of, beginning, reply_to, accepted_by, next_course, course_after, Continues}
@@ -56,8 +56,8 @@ pub record OwnFlow (own : Flow) (h : List Entry) (before : ℕ) (f : Facts) (wri
 
 -- A connection stands. The inbox has grown over what was accepted, and the facts agree with it. What was accepted begins with
 -- the handshake, and is nothing before that is done. A pending outcome is the reply to the frame that waits, and its act is a
--- record. The own flow is as it has to be. Told are exactly the ranges that were skipped. And what was written are the bytes
--- that the link took and those that are unsent
+-- record. The own flow is as it has to be. Told are exactly the ranges that were skipped. What was written are the bytes
+-- that the link took and those that are unsent. And each message that is held came, with its number, on a recoverable flow
 pub record Stands (h : List Entry) (c : Course) : Type 0 where
   pub begun : c.state.begun ≡ true
   pub grown : Grown (model_flow c.state.config.peer_flow) None c.accepted c.start (inbox_of c)
@@ -70,6 +70,8 @@ pub record Stands (h : List Entry) (c : Course) : Type 0 where
   pub own : OwnFlow c.state.config.own_flow h c.sent_before c.state.facts (events_written c.output)
   pub tells : ranges_told c.output ≡ skips c.added
   pub bytes : bytes_written c.output ≡ c.taken ++ c.state.unsent
+  pub came : AllByRecursion (λ (m : Numbered). Contains (numbered None c.accepted) m) c.state.held
+  pub held_on : is_recoverable c.state.config.peer_flow ≡ false → c.state.held ≡ []
 
 -- payloads are the entries of an outbox from this number on
 abbrev pub AreEntries : List Entry → ℕ → List (List ℕ) → Type 0
@@ -112,6 +114,7 @@ MayComeOn h s (live payloads now) = MayGoLive h s payloads
 MayComeOn h s (again payloads now) = MayGoAgain h s payloads
 MayComeOn h s (taken count) = count ≤ length s.unsent
 MayComeOn h s reserve = ⊤
+MayComeOn h s held_done = IsOpen s
 
 pub record MayStand (h : List Entry) (s : State) (call : Call) : Type 0 where
   pub may_call : MayCall s call

@@ -19,7 +19,7 @@ use Rattle.fixp_replies.specs.Facts.{Around, announced_number}
 use Rattle.fixp_replies.specs.Incoming.{Incoming}
 use Rattle.fixp_replies.specs.Outcomes.{Outcome, breaks}
 use Rattle.fixp_replies.specs.Replies.{reply_of, reply_to_bad_frame}
-use Rattle.fixp_machine.specs.Machine.{State, Call, begin, frame, bad_frame, did, tick, turn_done, closed, link_end, live, again, taken, reserve, around, payload_frame, rest_of}
+use Rattle.fixp_machine.specs.Machine.{State, Call, begin, frame, bad_frame, did, tick, turn_done, closed, link_end, live, again, taken, reserve, held_done, around, payload_frame, rest_of}
 use Rattle.fixp_machine.specs.Sound.{may_return, KeepsSent}
 use Rattle.fixp_machine.specs.Accepting.{event_of, told_by}
 
@@ -93,6 +93,7 @@ writes s (live payloads now) = entries payloads
 writes s (again payloads now) = written_again s.facts s.facts.connection.serving payloads
 writes s (taken count) = []
 writes s reserve = []
+writes s held_done = []
 
 -- the handshake's announcement was made in this phase: an initiator makes it with Establish
 abbrev pub is_reached : Phase → Bool

@@ -1,7 +1,7 @@
 //! Connections that stand, in the words of the session model.
 
-ghost use Rattle.connection_laws.specs.Connections.{ConnectionKept, RefusedKept, ConnectionServes, WritingGoesOn, PartIsWritten};
-ghost use Rattle.connection_laws.specs.Living.{LifeServes, LifeRefused};
+ghost use Rattle.connection_laws.specs.Connections.{ConnectionKept, RefusedKept, RefusedHeldKept, ConnectionServes, WritingGoesOn, PartIsWritten};
+ghost use Rattle.connection_laws.specs.Living.{LifeServes, LifeRefused, LifeRefusedHeld};
 
 /// A connection that stands is one that a life may have served, whatever of its frames the link took.
 pub fn connection_kept()
@@ -12,6 +12,11 @@ pub fn connection_kept()
 /// processed for sure.
 pub fn refused_kept()
     ensures law { RefusedKept }
+{}
+
+/// So is one at which the append of the record of a held message failed: all frames were processed.
+pub fn refused_held_kept()
+    ensures law { RefusedHeldKept }
 {}
 
 /// Whatever calls come on a connection from its beginning on, where each may come, a life may have served it.
@@ -37,4 +42,9 @@ pub fn life_serves()
 /// A life on whose last connection the append of a record failed keeps on its connections what the session model asks of it.
 pub fn life_refused()
     ensures law { LifeRefused }
+{}
+
+/// And so does one on whose last connection the append of the record of a held message failed.
+pub fn life_refused_held()
+    ensures law { LifeRefusedHeld }
 {}

@@ -1,5 +1,6 @@
 -- How a reply moves the requests for what is missing and the ranges that are sent again, row by row: one request is open at a time, and a
 -- range is served in answer to one.
+use Rattle.flow_recover.specs.Receiving.{gap_end}
 use Rattle.std.proofs.Common.{◌≡◌, ◌⊎◌, inl, inr, ℕ, ◌+◌, ◌-◌, ◌≤◌, ◌==◌, ◌&&◌, ◌||◌, nat_lt, min, max, not, Bool, true, false, if◌then◌else◌, List, [], ◌∷◌, ◌++◌, Option, Some, None, refl, sym, ap, subst, ◌∙◌, arith, true≢false, append-nil, eqb-true}
 use Rattle.std.specs.Prelude.{⊤, is_some, unwrap_or, IfSome, Result, Ok, Err}
 use Rattle.std.specs.List.{AllByRecursion}
@@ -9,8 +10,8 @@ use Rattle.fixp_msgs.specs.declared.flow.Flow.{Flow}
 use Rattle.fixp_msgs.specs.Flow.{flow_code}
 use Rattle.fixp_msgs.specs.declared.messages.Expected.{Expected}
 use Rattle.fixp_msgs.specs.Message.{Message, negotiate, negotiation_response, negotiation_reject, establish, establishment_ack, establishment_reject, sequence, unsequenced_heartbeat, retransmit_request, retransmission, retransmit_reject, applied, not_applied, finished_sending, finished_receiving, terminate}
-use Rattle.flow_recover.specs.declared.receiver.Seen.{Seen}
-use Rattle.flow_recover.specs.declared.receiver.Seen.TheVariants.{Deliver, Gap, Repeat}
+use Rattle.flow_recover.specs.declared.numbers.Seen.{Seen}
+use Rattle.flow_recover.specs.declared.numbers.Seen.TheVariants.{Deliver, Hold, Gap, Repeat}
 use Rattle.flow_recover.specs.Receiving as receiver_is
 use Rattle.flow_retrans.specs.declared.requester.BadStart.{BadStart}
 use Rattle.flow_retrans.specs.declared.judging.RetransmitCode.{RetransmitCode}
@@ -31,7 +32,7 @@ use Rattle.flow_retrans.specs.declared.request.Request.{Request}
 use Rattle.flow_retrans.specs.declared.request.Request.TheVariants as requests
 use Rattle.fixp_replies.specs.declared.facts.PeerFinish.TheVariants as peer
 use Rattle.fixp_replies.specs.Incoming.{application, session}
-use Rattle.fixp_replies.specs.Facts.{Around, is_initiator, is_own, in_phase, receiving, requesting, firm, serves, negotiated as as_negotiated, awaiting, gap_to_ask, having_asked, announced_number, peer_last, awaits_gap}
+use Rattle.fixp_replies.specs.Facts.{Around, is_initiator, is_own, in_phase, receiving, requesting, firm, serves, negotiated as as_negotiated, awaiting, gap_to_ask, having_asked, announced_number, peer_last, awaits_gap, gap_of, holding_too}
 use Rattle.fixp_replies.specs.Outcomes.{Outcome, Row, row, goes_on, accepts, rejects, ignores, ends_with, ends, breaks, not_in_phase, request_for, timestamp as timestamp_of, skip_of, told_skip, opening_negotiate, opening_establish}
 use Rattle.fixp_replies.specs.Announcing.{Announced, jumped_over, announced, announcement_fault, refuses}
 use Rattle.fixp_replies.specs.Handshake.{awaits_client, serves_client, established, acknowledges, negotiate_rows, establish_rows, established_again_rows, acknowledged_by, shaken, negotiation_response_rows, negotiation_reject_rows, establishment_ack_rows, reached, establishment_reject_rows}
@@ -158,11 +159,11 @@ IsGap g r = (r.from ≡ g.connection.receiver.next) × (1 ≤ r.count)
 first_few : (n : ℕ) → 1 ≤ n → (1 ≤ min request_limit n) × (min request_limit n ≤ request_limit)
 first_few n h = (omega (arith, h), omega arith)
 
-gap_of : (x : Around) (g : Facts) (soft : Bool) (q : Request) (gap : Option Range) → g.connection.requester ≡ q → IfSome gap (IsGap g)
+asks_gap : (x : Around) (g : Facts) (soft : Bool) (q : Request) (gap : Option Range) → g.connection.requester ≡ q → IfSome gap (IsGap g)
     → AsksGap x g (if soft || is_some (request_is.outstanding q) then None else gap)
-gap_of x g true q gap e is = record { sum = omega arith; same = refl; few = omega arith; serving = refl; sent = refl; receiver = refl; names = tt; keeps = λ _. refl }
-gap_of x g false requests.Nothing None e is = record { sum = omega arith; same = refl; few = omega arith; serving = refl; sent = refl; receiver = refl; names = tt; keeps = λ _. refl }
-gap_of x g false requests.Nothing (Some r) e is =
+asks_gap x g true q gap e is = record { sum = omega arith; same = refl; few = omega arith; serving = refl; sent = refl; receiver = refl; names = tt; keeps = λ _. refl }
+asks_gap x g false requests.Nothing None e is = record { sum = omega arith; same = refl; few = omega arith; serving = refl; sent = refl; receiver = refl; names = tt; keeps = λ _. refl }
+asks_gap x g false requests.Nothing (Some r) e is =
     let z = ap unanswered_of e in
     let k = first_few r.count is.1 in
     record {
@@ -175,16 +176,20 @@ gap_of x g false requests.Nothing (Some r) e is =
       names = ((refl, is.0, k.0, k.1), tt);
       keeps = λ one. absurd (omega (arith, z, one));
     }
-gap_of x g false (requests.Asked range) gap e is = record { sum = omega arith; same = refl; few = omega arith; serving = refl; sent = refl; receiver = refl; names = tt; keeps = λ _. refl }
-gap_of x g false (requests.Coming range next left) gap e is = record { sum = omega arith; same = refl; few = omega arith; serving = refl; sent = refl; receiver = refl; names = tt; keeps = λ _. refl }
+asks_gap x g false (requests.Asked range) gap e is = record { sum = omega arith; same = refl; few = omega arith; serving = refl; sent = refl; receiver = refl; names = tt; keeps = λ _. refl }
+asks_gap x g false (requests.Coming range next left) gap e is = record { sum = omega arith; same = refl; few = omega arith; serving = refl; sent = refl; receiver = refl; names = tt; keeps = λ _. refl }
 
-gap_is : (g : Facts) (b : Bool) → nat_lt g.connection.receiver.next g.connection.receiver.live ≡ b
-    → IfSome (if b then Some (record { from = g.connection.receiver.next; count = g.connection.receiver.live - g.connection.receiver.next }) else None) (IsGap g)
-gap_is g true e = (refl, positive g.connection.receiver.next g.connection.receiver.live e)
+gap_is : (x : Around) (g : Facts) → IfSome (gap_of x g) (IsGap g)
+gap_is x g = by_flow (is_recoverable x.config.peer_flow) (nat_lt g.connection.receiver.next (gap_end x.held g.connection.receiver.live)) refl
   where
     positive : (n k : ℕ) → nat_lt n k ≡ true → 1 ≤ k - n
     positive n k t = let h = ltb-true n k t in omega (arith, h)
-gap_is g false e = tt
+
+    by_flow : (rec b : Bool) → nat_lt g.connection.receiver.next (gap_end x.held g.connection.receiver.live) ≡ b
+        → IfSome (if rec then (if b then Some (record { from = g.connection.receiver.next; count = gap_end x.held g.connection.receiver.live - g.connection.receiver.next }) else None) else None) (IsGap g)
+    by_flow true true e = (refl, positive g.connection.receiver.next (gap_end x.held g.connection.receiver.live) e)
+    by_flow true false e = tt
+    by_flow false b e = tt
 
 asking_behind : (x : Around) (ms : List Message) (r : Option Range) → total asks (said_all (ms ++ request_for x r)) ≡ total asks (said_all ms) + total asks (said_all (request_for x r))
 asking_behind x [] r = omega arith
@@ -222,8 +227,8 @@ going_on : (x : Around) (f g : Facts) (requested restarted : ℕ) (turn : Bool �
     → total restarts (said_all written) ≤ requested → coming g ≡ turn (coming f) → inside (is_serving f) (said_all written) ≡ is_serving g → RunsOn x.config f (said_all written) g
     → Asks x f requested restarted turn (goes_on x act written g)
 going_on x f g requested restarted turn act written none u keeps resent comes serving runs =
-    let gap = gap_to_ask g in
-    let q : AsksGap x g (gap_to_ask g) = gap_of x g g.connection.soft g.connection.requester (receiver_is.gap g.connection.receiver) refl (gap_is g (nat_lt g.connection.receiver.next g.connection.receiver.live) refl) in
+    let gap = gap_to_ask x g in
+    let q : AsksGap x g (gap_to_ask x g) = asks_gap x g g.connection.soft g.connection.requester (gap_of x g) refl (gap_is x g) in
     let sum = q.sum in
     let few = q.few in
     let e = asking_behind x written gap in
@@ -369,6 +374,9 @@ counting x f g act e s n =
 
 taking : (x : Around) (f : Facts) (s : Seen) → Asks x f 0 0 Same (taken_as x (counted f) s)
 taking x f (Deliver n) = counting x f (awaiting (counted f) (n + 1)) (acts.Apply n) refl refl refl
+taking x f (Hold n) =
+    let k = counting (holding_too x n) f (counted f) acts.Nothing refl refl refl in
+    record { once = k.once; asked = k.asked; resent = k.resent; comes = k.comes; serves = k.serves; goes = k.goes; runs = k.runs; names = k.names; keeps = k.keeps }
 taking x f (Gap n) = counting x f (counted f) acts.Nothing refl refl refl
 taking x f (Repeat n) = counting x f (counted f) acts.Nothing refl refl refl
 
@@ -393,7 +401,7 @@ following x f next a u =
     let here = ap unanswered_of u.requester in
     by_row (Asks x f 0 0 Never) (is_past_finish x g next) (breaks x g (AfterFinish (unwrap_or (peer_last g) 0) next)) (sequence_taken x a)
     (λ _. ending x f g 0 0 Never 2 _ (omega (arith, same)) (λ _ one. e.keeps one) refl refl)
-    (λ _. by_row (Asks x f 0 0 Never) (is_filled a.facts) (answers_finish x a.facts (unwrap_or (awaits_gap a.facts.connection.peer_finish) 0)) (goes_on x (skip_of a.skipped) (told_skip a.skipped) a.facts)
+    (λ _. by_row (Asks x f 0 0 Never) (is_filled x a.facts) (answers_finish x a.facts (unwrap_or (awaits_gap a.facts.connection.peer_finish) 0)) (goes_on x (skip_of a.skipped) (told_skip a.skipped) a.facts)
     (λ _. going x f (peer_finished a.facts (peer.Exchanged (unwrap_or (awaits_gap a.facts.connection.peer_finish) 0)) (Some (unwrap_or a.facts.recorded.peer_last (unwrap_or (awaits_gap a.facts.connection.peer_finish) 0)))) 0 0 Never _ (finished_receiving x.config.session ∷ []) refl (omega (arith, same, here)) (λ _ one. u.requester ∙ e.keeps one) (omega arith)
     (ap (λ q. request_is.is_coming q) u.requester ∙ e.comes) (sym (ap (λ r. is_some r) u.serving))
     (runs_told x.config.own_flow f (peer_finished a.facts (peer.Exchanged (unwrap_or (awaits_gap a.facts.connection.peer_finish) 0)) (Some (unwrap_or a.facts.recorded.peer_last (unwrap_or (awaits_gap a.facts.connection.peer_finish) 0)))) (said_all (finished_receiving x.config.session ∷ [])) u.serving u.sent (λ l. same_number (f.recorded.sent + 1) l)))
@@ -429,7 +437,7 @@ starts (requests.Asked range) next count e = refl
 starts (requests.Coming range n left) next count e = refl
 
 finishing : (x : Around) (f : Facts) (n : ℕ) → Asks x f 0 0 Same (finished x f n)
-finishing x f n = by_row (Asks x f 0 0 Same) (is_some (receiver_is.gap f.connection.receiver)) (accepts x [] (peer_finished f (peer.Read n) f.recorded.peer_last)) (answers_finish x f n)
+finishing x f n = by_row (Asks x f 0 0 Same) (is_some (gap_of x f)) (accepts x [] (peer_finished f (peer.Read n) f.recorded.peer_last)) (answers_finish x f n)
     (λ _. passing x f (peer_finished f (peer.Read n) f.recorded.peer_last) 0 acts.Nothing [] (record { requester = refl; serving = refl; sent = refl }) (nothing x.config.own_flow (f.recorded.sent + 1)))
     (λ _. passing x f (peer_finished f _ _) 0 _ (finished_receiving x.config.session ∷ []) (record { requester = refl; serving = refl; sent = refl }) (receiving_plain x f))
 

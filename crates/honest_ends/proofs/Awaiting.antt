@@ -16,7 +16,8 @@ use Rattle.fixp_replies.specs.Facts.{Around}
 use Rattle.fixp_replies.specs.Outcomes.{Outcome}
 use Rattle.fixp_msgs.specs.Message.{Message, establish, establishment_ack, sequence, retransmission}
 use Rattle.connection_laws.specs.Writing.{Piece, said, entry}
-use Rattle.honest_ends.specs.Numbers.{Awaited, exactly, at_most, softly, announces, live_after, awaited_after, left_after, Runs, Answers, Matches, NotNumber, to_come, Line, Idle, Lined, Other, goes_softly, expecting}
+use Rattle.fixp_machine.specs.Sound.{Matches}
+use Rattle.honest_ends.specs.Numbers.{Awaited, exactly, at_most, softly, announces, live_after, awaited_after, left_after, Runs, Answers, NotNumber, to_come, Line, Idle, Lined, Other, goes_softly, expecting}
 use Rattle.honest_ends.proofs.Running.{number_of, runs_top, Below, below_same, lower}
 use Rattle.honest_ends.proofs.Lining.{sequenced_of}
 use Rattle.honest_ends.specs.Numbered.{next_live, awaits, awaited}
@@ -107,7 +108,7 @@ line_same f g e q n t line = record {
 }
 
 pub idle_same : (f g : Facts) → g.connection.receiver ≡ f.connection.receiver → g.connection.requester ≡ f.connection.requester → g.connection.soft ≡ f.connection.soft → Idle f → Idle g
-idle_same f g e q t idle = record { even = ap (λ k. receiver_is.gap k) e ∙ idle.even; none = q ∙ idle.none; firm = t ∙ idle.firm }
+idle_same f g e q t idle = record { even = ap (λ k. receiver_is.gap None k) e ∙ idle.even; none = q ∙ idle.none; firm = t ∙ idle.firm }
 
 -- a flow without numbers announces none
 unannounced : (flow : Flow) (p : Piece) → is_sequenced flow ≡ false → is_some (announces flow p) ≡ false

@@ -1,5 +1,7 @@
 -- The finish of one flow at any moment: where its reader knows it, or it is under way, its writer has sent all of its entries, and behind
 -- it no message is live. How each reply and each call keeps that, and that so no message comes behind a finish.
+use Rattle.honest_ends.proofs.Past.{to_come_some}
+use Rattle.honest_ends.proofs.Held.{open_not_closing}
 use Rattle.std.proofs.Common.{◌≡◌, ◌⊎◌, inl, inr, ℕ, zero, suc, ◌+◌, ◌≤◌, ◌==◌, ◌&&◌, not, Bool, true, false, if◌then◌else◌, List, ◌∷◌, ◌++◌, length, Option, Some, None, refl, sym, ap, subst, ◌∙◌, arith, true≢false, eq-eqb}
 use Rattle.std.specs.Prelude.{is_some, unwrap_or, IfSome}
 use Rattle.std.specs.List.{AllByRecursion}
@@ -9,10 +11,7 @@ use Rattle.fixp_msgs.specs.declared.numbering.Range.{Range}
 use Rattle.fixp_msgs.specs.declared.flow.Flow.{Flow}
 use Rattle.fixp_msgs.specs.Message.{sequence, finished_sending}
 use Rattle.flow_retrans.specs.declared.request.Request.{Request}
-use Rattle.flow_retrans.specs.declared.request.Request.TheVariants as requests
 use Rattle.flow_retrans.specs.Requests as request_is
-use Rattle.fixp_shake.specs.declared.phase.Phase.{Phase}
-use Rattle.fixp_shake.specs.declared.phase.Phase.TheVariants as phases
 use Rattle.fixp_shake.specs.Flows.{is_sequenced}
 use Rattle.fixp_shake.specs.Phases.{is_established, is_closing}
 use Rattle.fixp_replies.specs.declared.act.Ending.{Ending}
@@ -210,19 +209,6 @@ kept_behind own h writer reader next over later way goes opens asked a t = recor
 
     same : known (peer_last next) ≡ known (peer_last reader)
     same = ap (λ (q : PeerFinish). known (last_among next.recorded.peer_last q)) t.theirs ∙ ap (λ (r : Option ℕ). known (last_among r reader.connection.peer_finish)) t.recorded
-
-pub open_not_closing : (p : Phase) → is_established p ≡ true → is_closing p ≡ false
-open_not_closing phases.Idle e = refl
-open_not_closing phases.Negotiating e = refl
-open_not_closing phases.Establishing e = refl
-open_not_closing phases.Established e = refl
-open_not_closing phases.Closing e = absurd (true≢false (sym e))
-open_not_closing phases.Ended e = refl
-
-pub to_come_some : (q : Request) → is_some (to_come q) ≡ request_is.is_coming q
-to_come_some requests.Nothing = refl
-to_come_some (requests.Asked range) = refl
-to_come_some (requests.Coming range next left) = refl
 
 -- What is under way brings a reader of a flow with numbers from its live number to exactly one past what was sent
 abbrev pub Brings : Flow → (writer : Facts) (x : Around) (reader : Facts) → List Piece → Type 0

@@ -9,8 +9,8 @@ use Rattle.fixp_msgs.specs.Flow.{flow_code}
 use Rattle.fixp_msgs.specs.declared.messages.Expected.{Expected}
 use Rattle.fixp_msgs.specs.declared.messages.Expected.TheVariants as expects
 use Rattle.fixp_msgs.specs.Message.{Message, negotiate, negotiation_response, negotiation_reject, establish, establishment_ack, establishment_reject, sequence, unsequenced_heartbeat, retransmit_request, retransmission, retransmit_reject, applied, not_applied, finished_sending, finished_receiving, terminate}
-use Rattle.flow_recover.specs.declared.receiver.Seen.{Seen}
-use Rattle.flow_recover.specs.declared.receiver.Seen.TheVariants.{Deliver, Gap, Repeat}
+use Rattle.flow_recover.specs.declared.numbers.Seen.{Seen}
+use Rattle.flow_recover.specs.declared.numbers.Seen.TheVariants.{Deliver, Hold, Gap, Repeat}
 use Rattle.flow_recover.specs.Receiving as receiver_is
 use Rattle.flow_retrans.specs.declared.request.Request.{Request}
 use Rattle.flow_retrans.specs.declared.request.Request.TheVariants as requests
@@ -31,7 +31,7 @@ use Rattle.fixp_replies.specs.declared.facts.Facts.{Facts}
 use Rattle.fixp_replies.specs.declared.facts.OwnFinish.TheVariants as own
 use Rattle.fixp_replies.specs.declared.facts.PeerFinish.TheVariants as peer
 use Rattle.fixp_replies.specs.Incoming.{Incoming, session}
-use Rattle.fixp_replies.specs.Facts.{Around, is_initiator, is_own, in_phase, receiving, requesting, firm, serves, negotiated as as_negotiated, awaiting, gap_to_ask, having_asked, announced_number, awaits_gap}
+use Rattle.fixp_replies.specs.Facts.{Around, is_initiator, is_own, in_phase, receiving, requesting, firm, serves, negotiated as as_negotiated, awaiting, gap_to_ask, having_asked, announced_number, awaits_gap, gap_of, holding_too}
 use Rattle.fixp_replies.specs.Outcomes.{Outcome, Row, row, within, goes_on, accepts, rejects, ignores, ends_with, ends, breaks, not_in_phase, request_for, skip_of, told_skip, opening_negotiate, opening_establish}
 use Rattle.fixp_replies.specs.Announcing.{Announced, jumped_over, announced, announcement_fault, refuses}
 use Rattle.fixp_replies.specs.Expecting.{is_newer, is_present, number_in, told_next, answers_next, takes, softened}
@@ -86,9 +86,9 @@ tells_asking x g (m ∷ ms) (Some r) a = (tells_same x.config g (requests.Asked 
 -- the connection goes on
 going : (x : Around) (f g : Facts) (p : Piece) (act : Act) (written : List Message) → AllByRecursion (TellsNext x.config g) (said_all written) → (g.connection.soft ≡ true → (f.connection.soft ≡ true) ⊎ Softens x f p)
     → (g.recorded.sent ≡ f.recorded.sent) ⊎ IsTold p (g.recorded.sent + 1) → Marks x f p (goes_on x act written g)
-going x f g p act written tells soft back = by_gap (gap_to_ask g)
+going x f g p act written tells soft back = by_gap (gap_to_ask x g)
   where
-    by_gap : (r : Option Range) → Marks x f p (record { act = act; written = written ++ request_for x r; next = having_asked g r; ending = None; accepted = true })
+    by_gap : (r : Option Range) → Marks x f p (record { act = act; written = written ++ request_for x r; next = having_asked g r; ending = None; accepted = true; holds = None })
     by_gap None = record { tells = tells_asking x g written None tells; soft = soft; back = back }
     by_gap (Some r) = record { tells = tells_asking x g written (Some r) tells; soft = soft; back = back }
 
@@ -142,6 +142,8 @@ calm x f next = by_flow (is_recoverable x.config.peer_flow) (is_idempotent x.con
 
 taking : (x : Around) (f : Facts) (p : Piece) (s : Seen) → Marks x f p (taken_as x (counted f) s)
 taking x f p (Deliver n) = passing x f (awaiting (counted f) (n + 1)) p (acts.Apply n) [] tt (λ s. absurd (true≢false (sym s))) refl
+taking x f p (Hold n) =
+    let k = passing (holding_too x n) f (counted f) p acts.Nothing [] tt (λ s. absurd (true≢false (sym s))) refl in record { tells = k.tells; soft = k.soft; back = k.back }
 taking x f p (Gap n) = passing x f (counted f) p acts.Nothing [] tt (λ s. absurd (true≢false (sym s))) refl
 taking x f p (Repeat n) = passing x f (counted f) p acts.Nothing [] tt (λ s. absurd (true≢false (sym s))) refl
 
@@ -155,7 +157,7 @@ following x f p next =
     let c = calm x g (Some next) in
     by_row (Marks x f p) (is_past_finish x g next) (breaks x g _) (sequence_taken x a)
     (λ _. ending x f g p 2 _ (λ s. s) refl)
-    (λ _. by_row (Marks x f p) (is_filled a.facts) (answers_finish x a.facts (unwrap_or (awaits_gap a.facts.connection.peer_finish) 0)) (goes_on x (skip_of a.skipped) (told_skip a.skipped) a.facts)
+    (λ _. by_row (Marks x f p) (is_filled x a.facts) (answers_finish x a.facts (unwrap_or (awaits_gap a.facts.connection.peer_finish) 0)) (goes_on x (skip_of a.skipped) (told_skip a.skipped) a.facts)
     (λ _. passing x f (peer_finished a.facts _ _) p _ (finished_receiving x.config.session ∷ []) (tt, tt) c.soft c.sent)
     (λ _. passing x f a.facts p (skip_of a.skipped) (told_skip a.skipped) (skip_tells x.config a.facts a.skipped) c.soft c.sent))
 
@@ -164,7 +166,7 @@ answered x f p id timestamp (Ok range) = passing x f (serves f (Some range)) p a
 answered x f p id timestamp (Err code) = staying x f p _ (tt, tt)
 
 finishing : (x : Around) (f : Facts) (p : Piece) (n : ℕ) → Marks x f p (finished x f n)
-finishing x f p n = by_row (Marks x f p) (is_some (receiver_is.gap f.connection.receiver)) (accepts x [] (peer_finished f (peer.Read n) f.recorded.peer_last)) (answers_finish x f n)
+finishing x f p n = by_row (Marks x f p) (is_some (gap_of x f)) (accepts x [] (peer_finished f (peer.Read n) f.recorded.peer_last)) (answers_finish x f n)
     (λ _. passing x f (peer_finished f (peer.Read n) f.recorded.peer_last) p acts.Nothing [] tt (λ s. s) refl)
     (λ _. passing x f (peer_finished f (peer.Exchanged n) _) p _ (finished_receiving x.config.session ∷ []) (tt, tt) (λ s. s) refl)
 

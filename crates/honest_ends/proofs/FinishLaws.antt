@@ -29,7 +29,8 @@ use Rattle.honest_ends.specs.Finished.{IsLast, IsFinish, IsTold, NoneLive, NoneL
 use Rattle.honest_ends.specs.FinishLaws.{NoFinish, FinishedHolds, FinishesHold, OnlyTimeEnds, StaysKnown}
 use Rattle.honest_ends.proofs.Living as counted
 use Rattle.honest_ends.proofs.Living.{left_turns}
-use Rattle.honest_ends.proofs.Behind.{Behind, known, last_entry, last_of, there_known, to_come_some}
+use Rattle.honest_ends.proofs.Behind.{Behind, known, last_entry, last_of, there_known}
+use Rattle.honest_ends.proofs.Past.{to_come_some}
 use Rattle.honest_ends.proofs.FinishStepping.{ends_hold, past_after}
 
 pub finishes_hold : FinishesHold

@@ -49,7 +49,8 @@ use Rattle.honest_ends.specs.Knowing.{Knows, StartsKnown, goes_back}
 use Rattle.honest_ends.specs.Numbered.{Numbered, Follows, Expects, TellsNext, awaits, next_live}
 use Rattle.honest_ends.proofs.NumberLaws.{numbered_holds}
 use Rattle.honest_ends.specs.FinishLaws.{NoFinish}
-use Rattle.honest_ends.proofs.Behind.{Behind, Brings, Begins, Exact, last_entry, heard_by_reader, heard_by_writer, told_behind, kept_behind, none_late, open_not_closing}
+use Rattle.honest_ends.proofs.Behind.{Behind, Brings, Begins, Exact, last_entry, heard_by_reader, heard_by_writer, told_behind, kept_behind, none_late}
+use Rattle.honest_ends.proofs.Held.{open_not_closing}
 use Rattle.honest_ends.proofs.Meeting.{begins_behind, first_behind}
 
 -- a world that some steps have reached from the beginning
@@ -332,12 +333,12 @@ ends_step hi ha w (meets now_i now_a) holds numbers past h may = record {
   initiator = λ v is. absurd cc;
   acceptor = λ v is. absurd cc;
 }
-ends_step hi ha w (initiator_reads at now) holds numbers past h may = initiator_reading hi ha w w.homeward at now refl holds numbers past h may
-ends_step hi ha w (acceptor_reads at now) holds numbers past h may = acceptor_reading hi ha w w.outward at now refl holds numbers past h may
+ends_step hi ha w (initiator_reads at now) holds numbers past h may = initiator_reading hi ha w w.homeward at now refl holds numbers past h may.0
+ends_step hi ha w (acceptor_reads at now) holds numbers past h may = acceptor_reading hi ha w w.outward at now refl holds numbers past h may.0
 ends_step hi ha w (initiator_does call) holds numbers past h may =
     let s = w.initiator in
     let t = run s (call ∷ []) in
-    let d = does_as hi s call may.0 may.1 holds.initiator.serves in
+    let d = does_as hi s call may.0 may.1 holds.initiator.serves holds.initiator_window.opening in
     let tells = tells_as hi s call may.0 may.1 in
     let serves = serves_as hi s call may.0 may.1 in
     record {
@@ -350,7 +351,7 @@ ends_step hi ha w (initiator_does call) holds numbers past h may =
 ends_step hi ha w (acceptor_does call) holds numbers past h may =
     let s = w.acceptor in
     let t = run s (call ∷ []) in
-    let d = does_as ha s call may.0 may.1 holds.acceptor.serves in
+    let d = does_as ha s call may.0 may.1 holds.acceptor.serves holds.acceptor_window.opening in
     let tells = tells_as ha s call may.0 may.1 in
     let serves = serves_as ha s call may.0 may.1 in
     record {

@@ -6,8 +6,8 @@ use Rattle.fixp_msgs.specs.declared.numbering.Range.{Range}
 use Rattle.fixp_msgs.specs.Flow.{flow_code}
 use Rattle.fixp_msgs.specs.declared.messages.Expected.{Expected}
 use Rattle.fixp_msgs.specs.Message.{Message, negotiate, negotiation_response, negotiation_reject, establish, establishment_ack, establishment_reject, sequence, unsequenced_heartbeat, retransmit_request, retransmission, retransmit_reject, applied, not_applied, finished_sending, finished_receiving, terminate}
-use Rattle.flow_recover.specs.declared.receiver.Seen.{Seen}
-use Rattle.flow_recover.specs.declared.receiver.Seen.TheVariants.{Deliver, Gap, Repeat}
+use Rattle.flow_recover.specs.declared.numbers.Seen.{Seen}
+use Rattle.flow_recover.specs.declared.numbers.Seen.TheVariants.{Deliver, Hold, Gap, Repeat}
 use Rattle.flow_recover.specs.Receiving as receiver_is
 use Rattle.flow_retrans.specs.declared.requester.BadStart.{BadStart}
 use Rattle.flow_retrans.specs.declared.judging.RetransmitCode.{RetransmitCode}
@@ -28,7 +28,7 @@ use Rattle.fixp_replies.specs.declared.facts.OwnFinish.TheVariants as own
 use Rattle.fixp_replies.specs.declared.facts.PeerFinish.{PeerFinish}
 use Rattle.fixp_replies.specs.declared.facts.PeerFinish.TheVariants as peer
 use Rattle.fixp_replies.specs.Incoming.{application, session}
-use Rattle.fixp_replies.specs.Facts.{Around, is_own, in_phase, receiving, requesting, firm, serves, negotiated as as_negotiated, awaiting, gap_to_ask, having_asked, announced_number, peer_last, last_among, awaits_gap, is_told, expected_number, live_number, message_number, finishes_exchanged}
+use Rattle.fixp_replies.specs.Facts.{Around, is_own, in_phase, receiving, requesting, firm, serves, negotiated as as_negotiated, awaiting, gap_to_ask, having_asked, announced_number, peer_last, last_among, awaits_gap, is_told, expected_number, live_number, message_number, finishes_exchanged, gap_of, holding_too}
 use Rattle.fixp_replies.specs.Outcomes.{Outcome, Row, row, goes_on, accepts, rejects, ignores, ends_with, ends, breaks, not_in_phase, request_for, skip_of, told_skip, opening_negotiate, opening_establish}
 use Rattle.fixp_replies.specs.Announcing.{Announced, jumped_over, announced, announcement_fault, announcement_rows, refuses}
 use Rattle.fixp_replies.specs.Handshake.{awaits_client, serves_client, established, acknowledges, negotiate_rows, establish_rows, established_again_rows, acknowledged_by, negotiation_response_rows, negotiation_reject_rows, establishment_ack_rows, reached, establishment_reject_rows}
@@ -149,12 +149,12 @@ going : (x : Around) (f g : Facts) (act : Act) (written : List Message) {p : Pie
     → total sendings (said_all written) ≡ 0 → ((n : ℕ) → Learned (finishes g) n → Learned (finishes f) n ⊎ (last_in x p ≡ Some n))
     → g.recorded.finish ≡ f.recorded.finish → Moves x f p (goes_on x act written g)
 going x f g act written {p = p} r t q learns finish =
-    let same = asked_finishes g (gap_to_ask g) in
+    let same = asked_finishes g (gap_to_ask x g) in
     let e = ap (λ (k : Finishes). waiting k.theirs) same in
     let a = ap (λ (k : Finishes). awaited k.own) same in
-    let n = asking_answers x written (gap_to_ask g) in
+    let n = asking_answers x written (gap_to_ask x g) in
     record {
-      counts = record { read = omega (arith, e, n, r); told = omega (arith, a, t); quiet = asking_sends x written (gap_to_ask g) ∙ q };
+      counts = record { read = omega (arith, e, n, r); told = omega (arith, a, t); quiet = asking_sends x written (gap_to_ask x g) ∙ q };
       learns = λ k l. learns k (subst (λ (s : Finishes). Learned s k) same l);
       late = λ last found e. absurd cc;
       finish = ap (λ (k : Finishes). k.finish) same ∙ finish;
@@ -259,6 +259,9 @@ announcing x f g t next follows {p = p} same takes = announced_all (Moves x f p)
 
 taking : (x : Around) (f : Facts) (s : Seen) {p : Piece} → Moves x f p (taken_as x (counted f) s)
 taking x f (Deliver n) = passing x f (awaiting (counted f) (n + 1)) (acts.Apply n) [] refl refl refl
+taking x f (Hold n) {p = p} =
+    let k = passing (holding_too x n) f (counted f) acts.Nothing [] {p = p} refl refl refl in
+    record { counts = record { read = k.counts.read; told = k.counts.told; quiet = k.counts.quiet }; learns = k.learns; late = k.late; finish = k.finish }
 taking x f (Gap n) = passing x f (counted f) acts.Nothing [] refl refl refl
 taking x f (Repeat n) = passing x f (counted f) acts.Nothing [] refl refl refl
 
@@ -297,8 +300,8 @@ following x f g next a u v late =
     let P = Moves x f (said (sequence next)) in
     by_row P (is_past_finish x g next) (breaks x g (AfterFinish (unwrap_or (peer_last g) 0) next)) (sequence_taken x a)
     (λ past. ending x f g 2 (endings.Violation (AfterFinish (unwrap_or (peer_last g) 0) next)) u (λ _ _ _. late past))
-    (λ _. by_row P (is_filled a.facts) (answers_finish x a.facts (unwrap_or (awaits_gap a.facts.connection.peer_finish) 0)) (goes_on x (skip_of a.skipped) (told_skip a.skipped) a.facts)
-    (λ filled. let one = waits a.facts.connection.peer_finish (is_none (receiver_is.gap a.facts.connection.receiver)) filled in
+    (λ _. by_row P (is_filled x a.facts) (answers_finish x a.facts (unwrap_or (awaits_gap a.facts.connection.peer_finish) 0)) (goes_on x (skip_of a.skipped) (told_skip a.skipped) a.facts)
+    (λ filled. let one = waits a.facts.connection.peer_finish (is_none (gap_of x a.facts)) filled in
     let was = ap (λ (k : Finishes). waiting k.theirs) v in
     let first = one.0 in
     answering x f a.facts (unwrap_or (awaits_gap a.facts.connection.peer_finish) 0) (omega (arith, first, was)) v (inl (inr (sym (ap (λ (k : Finishes). last_among None k.theirs) v) ∙ one.1))) refl)
@@ -332,7 +335,7 @@ finish_late x f last l found e = by_tests (is_absent x.config.peer_flow) (is_seq
 
 finishing : (x : Around) (f : Facts) (id : List ℕ) (last : Option ℕ) → Moves x f (said (finished_sending id last)) (finished x f (finished_last x last))
 finishing x f id last =
-    by_row (Moves x f (said (finished_sending id last))) (is_some (receiver_is.gap f.connection.receiver)) (accepts x [] (peer_finished f (peer.Read (finished_last x last)) f.recorded.peer_last)) (answers_finish x f (finished_last x last))
+    by_row (Moves x f (said (finished_sending id last))) (is_some (gap_of x f)) (accepts x [] (peer_finished f (peer.Read (finished_last x last)) f.recorded.peer_last)) (answers_finish x f (finished_last x last))
     (λ _. going x f (peer_finished f (peer.Read (finished_last x last)) f.recorded.peer_last) acts.Nothing [] (omega arith) (omega arith) refl learns refl)
     (λ _. answering x f f (finished_last x last) (omega arith) refl (inr refl) refl)
   where

@@ -1,5 +1,10 @@
 -- One flow between two ends: each reply and each call of either keeps its numbers.
-use Rattle.std.proofs.Common.{◌≡◌, ℕ, ◌+◌, ◌≤◌, ◌&&◌, ◌⊎◌, inl, inr, nat_lt, nat_le, not, Bool, true, false, if◌then◌else◌, List, [], ◌∷◌, ◌++◌, length, Option, Some, None, refl, sym, ap, subst, ◌∙◌, arith, true≢false}
+use Rattle.honest_ends.proofs.Lying.{LiesSo}
+use Rattle.honest_ends.proofs.Past.{Lies, ready_past}
+use Rattle.honest_ends.proofs.Windowing.{Window}
+use Rattle.honest_ends.proofs.Phased.{Unheld}
+use Rattle.session_model.specs.Inbox.{Numbered, numbers_of}
+use Rattle.std.proofs.Common.{◌≡◌, ℕ, ◌+◌, ◌≤◌, ◌&&◌, ◌⊎◌, inl, inr, nat_lt, nat_le, not, Bool, true, false, if◌then◌else◌, List, [], ◌∷◌, ◌++◌, length, Option, Some, None, refl, sym, ap, subst, ◌∙◌, arith, true≢false, ◌<◌}
 use Rattle.std.specs.Prelude.{is_some, IsSome}
 use Rattle.std.specs.List.{AllByRecursion}
 use Rattle.std.proofs.lemmas.Bool.{ltb-true, ltb-false, and_parts}
@@ -28,7 +33,7 @@ use Rattle.fixp_replies.specs.declared.facts.Facts.{Facts}
 use Rattle.fixp_replies.specs.Facts.{Around, is_initiator, is_own, gap_to_ask}
 use Rattle.fixp_replies.specs.Outcomes.{Outcome, goes_on, accepts, ignores, ends, breaks}
 use Rattle.fixp_replies.specs.Replies.{reply_of, answer_of, terminates}
-use Rattle.fixp_machine.specs.Machine.{State}
+use Rattle.fixp_machine.specs.Machine.{State, past_held}
 use Rattle.fixp_replies.specs.Expecting.{is_newer, takes}
 use Rattle.fixp_machine.proofs.Tests.{no_gap}
 use Rattle.fixp_machine.proofs.Rows.{by_row}
@@ -39,7 +44,8 @@ use Rattle.connection_laws.proofs.Owned.{returning}
 use Rattle.connection_laws.proofs.Replied.{frame_writes}
 use Rattle.two_ends.specs.Reading.{incoming_of}
 use Rattle.two_ends.proofs.Refused.{closing_is_deaf}
-use Rattle.honest_ends.specs.Numbers.{Awaited, exactly, at_most, softly, Allows, IsAt, starts, Runs, RunsBetween, Restarts, RunsOn, ServesLater, served, Answers, Matches, Idle, Peer, IsFlowing, to_come, goes_softly}
+use Rattle.fixp_machine.specs.Sound.{Matches}
+use Rattle.honest_ends.specs.Numbers.{Awaited, exactly, at_most, softly, Allows, IsAt, starts, Runs, RunsBetween, Restarts, RunsOn, ServesLater, served, Answers, Idle, Peer, IsFlowing, to_come, goes_softly, HeldBelow}
 use Rattle.honest_ends.proofs.Running.{lower, runs_append, runs_through, silent_end, runs_top}
 use Rattle.honest_ends.proofs.Shapes.{IsFree, IsAck}
 use Rattle.honest_ends.proofs.Lining.{sequenced_of}
@@ -48,10 +54,10 @@ use Rattle.honest_ends.proofs.Finishing.{total}
 use Rattle.honest_ends.proofs.Asking.{asks, restarts, turns, unanswered, Requested, all_none, asks_of, in_closing}
 use Rattle.honest_ends.proofs.PhaseOpening.{Quiet}
 use Rattle.honest_ends.proofs.Moving.{Does}
-use Rattle.honest_ends.proofs.Serving.{Serves, by_bool, was_none}
+use Rattle.honest_ends.proofs.Serving.{Serves, by_bool, was_none, Passes, Drops}
 use Rattle.honest_ends.specs.Numbered.{next_live, awaits, awaited, Names, ToldFirst, ToldBack, TellsNext, IsSpare, ReturnsFirst}
 use Rattle.honest_ends.specs.NumberLaws.{NoNumber}
-use Rattle.honest_ends.proofs.Awaiting.{awaited_before, same_awaited, same_softly, line_same, idle_same, live_is, inbox_of, Ready, ready_live}
+use Rattle.honest_ends.proofs.Awaiting.{awaited_before, same_awaited, same_softly, line_same, idle_same, live_is, inbox_of, Ready, ready_live, not_softly}
 use Rattle.honest_ends.proofs.NumberOpening.{ending as ended, breaking}
 use Rattle.honest_ends.proofs.Reading.{Heard, reads}
 use Rattle.honest_ends.proofs.Requesting.{none_named, none_answered, asked_names, idle_names, Agrees, agrees_behind, answers_behind}
@@ -96,7 +102,7 @@ record Spared (f : Facts) (o : Outcome) : Type 0 where
   shaken : is_shaken o.next.connection.phase ≡ is_shaken f.connection.phase
 
 spared_asking : (x : Around) (f : Facts) (act : Act) → Spared f (goes_on x act [] f)
-spared_asking x f act = let u = asked_unmoved f (gap_to_ask f) in record { inbox = u.inbox; soft = u.soft; shaken = ap (λ k. is_shaken k) u.phase }
+spared_asking x f act = let u = asked_unmoved f (gap_to_ask x f) in record { inbox = u.inbox; soft = u.soft; shaken = ap (λ k. is_shaken k) u.phase }
 
 spared_here : (f : Facts) (o : Outcome) → o.next ≡ f → Spared f o
 spared_here f o e = record { inbox = ap (λ (k : Facts). k.recorded.inbox_next) e; soft = ap (λ (k : Facts). k.connection.soft) e; shaken = ap (λ (k : Facts). is_shaken k.connection.phase) e }
@@ -142,10 +148,11 @@ soft_recovers c f way k m r soft = by_flow (is_recoverable c.peer_flow) refl
 -- the reader replies to the first message under way
 pub reader_replies : (h : List Entry) (writer : Facts) (x : Around) (reader : Facts) (theirs : EndConfig) (p : Piece) (left back : List Piece) → ServesLater x.config reader → Peer x.config theirs
     → (is_shaken reader.connection.phase ≡ true → IsFlowing theirs p) → Quietly theirs p back → (is_shaken reader.connection.phase ≡ false → (is_shaken writer.connection.phase ≡ false) ⊎ (is_initiator x.config.role ≡ true))
-    → total asks back + total restarts (p ∷ left) ≤ unanswered reader → Between h writer x.config x.most reader None (p ∷ left) back
+    → total asks back + total restarts (p ∷ left) ≤ unanswered reader → (is_closing reader.connection.phase ≡ false → HeldBelow x reader) → Unheld x reader
+    → Between h writer x.config x.most reader None (p ∷ left) back
     → Between h writer x.config x.most (reply_of x reader (incoming_of p)).next (reply_of x reader (incoming_of p)).ending left (back ++ said_all (reply_of x reader (incoming_of p)).written)
     × ((v : Violation) → (reply_of x reader (incoming_of p)).ending ≡ Some (endings.Violation v) → NoNumber v)
-reader_replies h writer x reader theirs p left back later are flows quietly first once b = by_bool _ (is_closing reader.connection.phase) closing going
+reader_replies h writer x reader theirs p left back later are flows quietly first once below unheld b = by_bool _ (is_closing reader.connection.phase) closing going
   where
     o : Outcome
     o = reply_of x reader (incoming_of p)
@@ -185,7 +192,7 @@ reader_replies h writer x reader theirs p left back later are flows quietly firs
         let g = b.goes refl yet in
         let sent = b.sent in
         let most = b.most in
-        let r : Heard x.config reader p left k m o = reads x reader theirs p left k m are yet flows g.0 g.1.answers.0 (omega (arith, sent, most)) b.next in
+        let r : Heard x.config reader p left k m o = reads x reader theirs p left k m are yet flows (below yet) unheld g.0 g.1.answers.0 (omega (arith, sent, most)) b.next in
         let c = asks_of x reader p later in
         let a = agrees_behind x reader p left back o (turns p) once c g.1 in (
           record {
@@ -456,38 +463,115 @@ writer_replies h x writer theirs c limit reader over p way left later are flows 
 pub same_shaken : (s t : State) (out : List Piece) → Does s t out → (is_shaken s.facts.connection.phase ≡ false → Quiet s.facts) → is_shaken t.facts.connection.phase ≡ is_shaken s.facts.connection.phase
 same_shaken s t out d quiet = by_bool _ (is_shaken s.facts.connection.phase) (λ e. (d.done e).0 ∙ sym e) (λ e. ap (λ c. is_shaken c.phase) (d.before e (quiet e)).0)
 
+-- a number that a reader has told is none of one that holds something
+tells_past : (c : EndConfig) (f : Facts) (m : Numbered) → is_shaken f.connection.phase ≡ true → f.connection.soft ≡ false → (p : Piece) → TellsNext c f p → TellsNext c (past_held f m) p
+tells_past c f m shaken firm (said (establish id timestamp keepalive next (expects.Number k) credentials)) h = absurd (true≢false (sym shaken ∙ h.2))
+tells_past c f m shaken firm (said (establish id timestamp keepalive next expects.Absent credentials)) h = tt
+tells_past c f m shaken firm (said (establish id timestamp keepalive next expects.Null credentials)) h = tt
+tells_past c f m shaken firm (said (establishment_ack id timestamp keepalive next (expects.Number k))) h = absurd (true≢false (sym h.2 ∙ firm))
+tells_past c f m shaken firm (said (establishment_ack id timestamp keepalive next expects.Absent)) h = h
+tells_past c f m shaken firm (said (establishment_ack id timestamp keepalive next expects.Null)) h = h
+tells_past c f m shaken firm _ h = tt
+
+-- a held message that the reader's inbox awaited is applied
+reader_drops : (h : List Entry) (writer : Facts) (s t : State) (way back out : List Piece) → Window s → LiesSo s → AllByRecursion Untold out → total asks out ≡ 0 → Drops s t
+    → Between h writer s.config s.most s.facts s.ending way back → Between h writer s.config s.most t.facts t.ending way (back ++ out)
+reader_drops h writer s t way back out window lies untold none d b =
+    subst (λ (f : Facts). Between h writer s.config s.most f t.ending way (back ++ out)) (sym d.facts) (record {
+      sent = b.sent;
+      most = b.most;
+      one = λ _. omega arith;
+      next = omega (arith, low, top, live);
+      told = all_append (TellsNext s.config g) back out (all_weaker (TellsNext s.config f) (TellsNext s.config g) (tells_past s.config f m shaken firm) back b.told)
+          (all_weaker Untold (TellsNext s.config g) (untold_tells s.config g) out untold);
+      goes = λ _ _. (
+        ready_past s.config f m way k n rec shaken firm d.front.number low now.0,
+        record { asks = all_append (Names f.connection.requester) back out now.1.asks (all_none (Names f.connection.requester) asks (none_named f.connection.requester) out none); answers = now.1.answers },
+      );
+      restarts = λ _ _ soft. absurd (true≢false (sym (soft_of g soft) ∙ firm));
+    })
+  where
+    f : Facts
+    f = s.facts
+
+    m : Numbered
+    m = d.front.first
+
+    g : Facts
+    g = past_held f m
+
+    k : ℕ
+    k = writer.recorded.sent + 1
+
+    n : Option ℕ
+    n = served writer.connection.serving
+
+    some_held : {A : Type 0} → s.held ≡ [] → A
+    some_held e = absurd (cc (d.front.held_is, e))
+
+    yet : is_closing f.connection.phase ≡ false
+    yet = by_bool _ (is_closing f.connection.phase) (λ e. absurd (cc (d.front.front_is, window.closing e))) (λ e. e)
+
+    rec : is_recoverable s.config.peer_flow ≡ true
+    rec = by_bool _ (is_recoverable s.config.peer_flow) (λ e. e) (λ e. some_held (window.other e))
+
+    shaken : is_shaken f.connection.phase ≡ true
+    shaken = by_bool _ (is_shaken f.connection.phase) (λ e. e) (λ e. some_held (window.opening e))
+
+    held : Lies f s.held
+    held = lies d.going yet
+
+    firm : f.connection.soft ≡ false
+    firm = by_bool _ f.connection.soft (λ e. some_held (held.soft e)) (λ e. e)
+
+    now : Ready s.config f way k n × Agrees f.connection.requester way back
+    now = b.goes d.going yet
+
+    low : m.number < f.connection.receiver.live
+    low = (subst (λ (ms : List Numbered). AllByRecursion (λ j. j < f.connection.receiver.live) (numbers_of ms)) d.front.held_is held.below).0
+
+    top : next_live s.config f ≤ k
+    top = ready_live s.config f way k n (not_softly f firm) now.0
+
+    live : next_live s.config f ≡ f.connection.receiver.live
+    live = live_is s.config f rec
+
 -- the reader has another call
 pub reader_calls : (h own : List Entry) (writer : Facts) (s t : State) (way back out : List Piece) → is_shaken t.facts.connection.phase ≡ is_shaken s.facts.connection.phase → (IsSome s.ending → IsSome t.ending)
-    → t.config ≡ s.config → AllByRecursion Untold out → Serves own s t out → Between h writer s.config s.most s.facts s.ending way back → Between h writer t.config t.most t.facts t.ending way (back ++ out)
-reader_calls h own writer s t way back out shaken over config untold c b =
+    → t.config ≡ s.config → AllByRecursion Untold out → Window s → LiesSo s → Serves own s t out → Between h writer s.config s.most s.facts s.ending way back → Between h writer t.config t.most t.facts t.ending way (back ++ out)
+reader_calls h own writer s t way back out shaken over config untold window lies c b =
     subst (λ (e : EndConfig). Between h writer e t.most t.facts t.ending way (back ++ out)) (sym config)
-    (subst (λ (n : ℕ). Between h writer s.config n t.facts t.ending way (back ++ out)) (sym c.most) (let next = b.next in let inbox = c.inbox in record {
+    (subst (λ (n : ℕ). Between h writer s.config n t.facts t.ending way (back ++ out)) (sym c.most) (by_reader c.reader))
+  where
+    by_reader : Passes s t → Between h writer s.config s.most t.facts t.ending way (back ++ out)
+    by_reader (inr d) = reader_drops h writer s t way back out window lies untold c.asks_none d b
+    by_reader (inl still) = let next = b.next in let inbox = still.inbox in record {
       sent = b.sent;
       most = b.most;
       one = λ rec. let one = b.one rec in omega (arith, one, inbox);
       next = omega (arith, next, inbox);
-      told = all_append (TellsNext s.config t.facts) back out (all_weaker (TellsNext s.config s.facts) (TellsNext s.config t.facts) (tells_still s.config s.facts t.facts c.inbox c.soft shaken) back b.told)
+      told = all_append (TellsNext s.config t.facts) back out (all_weaker (TellsNext s.config s.facts) (TellsNext s.config t.facts) (tells_still s.config s.facts t.facts still.inbox c.soft shaken) back b.told)
           (all_weaker Untold (TellsNext s.config t.facts) (untold_tells s.config t.facts) out untold);
-      goes = λ none yet. still (b.goes (was_none s.ending t.ending over none) (c.closing yet));
-      restarts = λ none yet soft done. subst (λ (k : ℕ). ReturnsFirst k way) (sym (ap (λ (k : Receiving). k.next) c.receiver))
-          (b.restarts (was_none s.ending t.ending over none) (c.closing yet) (sym (same_softly s.facts t.facts c.receiver c.soft) ∙ soft) done);
-    }))
-  where
-    still : Ready s.config s.facts way (writer.recorded.sent + 1) (served writer.connection.serving) × Agrees s.facts.connection.requester way back
-        → Ready s.config t.facts way (writer.recorded.sent + 1) (served writer.connection.serving) × Agrees t.facts.connection.requester way (back ++ out)
-    still g = (
-      record {
-        runs = subst (λ (a : Awaited). Runs s.config.peer_flow a (to_come t.facts.connection.requester) way (writer.recorded.sent + 1) (served writer.connection.serving)) (sym (same_awaited s.config s.facts t.facts shaken c.receiver c.inbox c.soft))
-            (subst (λ (q : Request). Runs s.config.peer_flow (awaited s.config s.facts) (to_come q) way (writer.recorded.sent + 1) (served writer.connection.serving)) (sym c.requester) g.0.runs);
-        line = λ rec. line_same s.facts t.facts c.receiver c.requester c.inbox c.soft (g.0.line rec);
-        idle = λ other. idle_same s.facts t.facts c.receiver c.requester c.soft (g.0.idle other);
-        opening = λ e. idle_same s.facts t.facts c.receiver c.requester c.soft (g.0.opening (sym shaken ∙ e));
-      },
-      subst (λ (q : Request). Agrees q way (back ++ out)) (sym c.requester) (record {
-        asks = all_append (Names s.facts.connection.requester) back out g.1.asks (all_none (Names s.facts.connection.requester) asks (none_named s.facts.connection.requester) out c.asks_none);
-        answers = g.1.answers;
-      }),
-    )
+      goes = λ none yet. going (b.goes (was_none s.ending t.ending over none) (c.closing yet));
+      restarts = λ none yet soft done. subst (λ (k : ℕ). ReturnsFirst k way) (sym (ap (λ (k : Receiving). k.next) still.receiver))
+          (b.restarts (was_none s.ending t.ending over none) (c.closing yet) (sym (same_softly s.facts t.facts still.receiver c.soft) ∙ soft) done);
+    }
+      where
+        going : Ready s.config s.facts way (writer.recorded.sent + 1) (served writer.connection.serving) × Agrees s.facts.connection.requester way back
+            → Ready s.config t.facts way (writer.recorded.sent + 1) (served writer.connection.serving) × Agrees t.facts.connection.requester way (back ++ out)
+        going g = (
+          record {
+            runs = subst (λ (a : Awaited). Runs s.config.peer_flow a (to_come t.facts.connection.requester) way (writer.recorded.sent + 1) (served writer.connection.serving)) (sym (same_awaited s.config s.facts t.facts shaken still.receiver still.inbox c.soft))
+                (subst (λ (q : Request). Runs s.config.peer_flow (awaited s.config s.facts) (to_come q) way (writer.recorded.sent + 1) (served writer.connection.serving)) (sym c.requester) g.0.runs);
+            line = λ rec. line_same s.facts t.facts still.receiver c.requester still.inbox c.soft (g.0.line rec);
+            idle = λ other. idle_same s.facts t.facts still.receiver c.requester c.soft (g.0.idle other);
+            opening = λ e. idle_same s.facts t.facts still.receiver c.requester c.soft (g.0.opening (sym shaken ∙ e));
+          },
+          subst (λ (q : Request). Agrees q way (back ++ out)) (sym c.requester) (record {
+            asks = all_append (Names s.facts.connection.requester) back out g.1.asks (all_none (Names s.facts.connection.requester) asks (none_named s.facts.connection.requester) out c.asks_none);
+            answers = g.1.answers;
+          }),
+        )
 
 -- and the writer
 pub writer_calls : (h : List Entry) (s t : State) (c : EndConfig) (limit : ℕ) (reader : Facts) (over : Option Ending) (way back out : List Piece) → c.peer_flow ≡ s.config.own_flow
@@ -537,4 +621,4 @@ ready_first c f way k m r q firm before low runs = record {
         by_flow false = refl
 
     idle : Idle f
-    idle = record { even = ap (λ (k : Receiving). receiver_is.gap k) r ∙ no_gap f.recorded.inbox_next f.recorded.inbox_next refl; none = q; firm = firm }
+    idle = record { even = ap (λ (k : Receiving). receiver_is.gap None k) r ∙ no_gap f.recorded.inbox_next f.recorded.inbox_next refl; none = q; firm = firm }

@@ -1,4 +1,8 @@
 -- What each call makes of an end, and what it writes: as far as phases go.
+use Rattle.fixp_replies.specs.Incoming.{Incoming, payload_in}
+use Rattle.honest_ends.proofs.Held.{record_holds_none}
+use Rattle.fixp_machine.proofs.Windowing.{front_there}
+use Rattle.session_model.specs.Inbox.{Numbered}
 use Rattle.std.proofs.Common.{◌≡◌, ◌⊎◌, inl, inr, ℕ, ◌+◌, ◌-◌, ◌*◌, ◌==◌, ◌&&◌, nat_le, not, Bool, true, false, if◌then◌else◌, List, [], ◌∷◌, ◌++◌, length, Option, Some, None, refl, sym, ap, subst, ◌∙◌, true≢false, append-nil}
 use Rattle.std.specs.Prelude.{is_some, is_none, IsSome}
 use Rattle.std.specs.List.{AllByRecursion}
@@ -25,7 +29,7 @@ use Rattle.fixp_replies.specs.Outcomes.{Outcome}
 use Rattle.fixp_replies.specs.Replies.{reply_of}
 use Rattle.fixp_replies.specs.Serving.{own_finishing}
 use Rattle.fixp_replies.specs.Events.{Made, heartbeat, heartbeats, is_due, lateness, handshake_limit, applied_runs, closes, turn_ended, outbox_finished, tells_finish, finish_told, link_ending}
-use Rattle.fixp_machine.specs.Machine.{State, Call, begin, frame, bad_frame, did, tick, turn_done, closed, link_end, live, again, taken, reserve, around, bytes_of, wrote, made, reply_applied, done_pending, broken_by, served_again, rest_of, step, run}
+use Rattle.fixp_machine.specs.Machine.{State, Call, begin, frame, bad_frame, did, tick, turn_done, closed, link_end, live, again, taken, reserve, around, bytes_of, wrote, made, reply_applied, done_pending, broken_by, served_again, rest_of, step, run, held_done, held_until, held_with, front_of, held_applied}
 use Rattle.connection_laws.specs.Writing.{Piece, said_all, entries, said_with, said_breaking, range_closed, written_again, writes}
 use Rattle.connection_laws.specs.Standing.{MayStand}
 use Rattle.two_ends.specs.Reading.{incoming_of}
@@ -37,27 +41,36 @@ use Rattle.honest_ends.specs.Numbers.{IsFlowing}
 use Rattle.honest_ends.proofs.Deciding.{ended_by}
 
 -- a message is read: its outcome takes effect, and what it writes is written
-pub record Reads (s : State) (o : Outcome) (t : State) (out : List Piece) : Type 0 where
+pub record Reads (s : State) (i : Incoming) (o : Outcome) (t : State) (out : List Piece) : Type 0 where
   pub config : t.config ≡ s.config
   pub facts : t.facts ≡ o.next
   pub ending : t.ending ≡ o.ending
   pub writes : out ≡ said_all o.written
   pub most : t.most ≡ s.most
+  pub held : t.held ≡ held_until o.ending (held_with o.holds (payload_in i) s.held)
 
-abbrev framed : Bool → State → Outcome → ℕ → State
-framed b s o now =
+abbrev framed : Bool → State → Incoming → Outcome → ℕ → State
+framed b s i o now =
     if b then record s { moment = now; last_received = now; room = s.room - 1; pending = Some o }
-    else reply_applied (record s { moment = now; last_received = now; room = s.room - 1 }) o now
+    else reply_applied (record s { moment = now; last_received = now; room = s.room - 1; held = held_with o.holds (payload_in i) s.held }) o now
 
-pub reads_as : (s : State) (p : Piece) (at now : ℕ) → Reads s (reply_of (around s at now) s.facts (incoming_of p)) (run s (reading p at now)) (written s (reading p at now))
-reads_as s p at now = by_case (is_record o.act)
+pub reads_as : (s : State) (p : Piece) (at now : ℕ) → Reads s (incoming_of p) (reply_of (around s at now) s.facts (incoming_of p)) (run s (reading p at now)) (written s (reading p at now))
+reads_as s p at now = by_case (is_record o.act) refl
   where
+    i : Incoming
+    i = incoming_of p
+
     o : Outcome
     o = reply_of (around s at now) s.facts (incoming_of p)
 
-    by_case : (b : Bool) → Reads s o (done_pending (framed b s o now) (framed b s o now).pending now) ((if b then [] else said_all o.written) ++ (said_all (said_with (framed b s o now).pending) ++ []))
-    by_case true = record { config = refl; facts = refl; ending = refl; writes = append-nil (said_all o.written); most = refl }
-    by_case false = record { config = refl; facts = refl; ending = refl; writes = append-nil (said_all o.written); most = refl }
+    -- a record holds no message
+    unheld : is_record o.act ≡ true → s.held ≡ held_with o.holds (payload_in i) s.held
+    unheld is = sym (ap (λ (n : Option ℕ). held_with n (payload_in i) s.held) (record_holds_none (around s at now) s.facts i is))
+
+    by_case : (b : Bool) → is_record o.act ≡ b
+        → Reads s i o (done_pending (framed b s i o now) (framed b s i o now).pending now) ((if b then [] else said_all o.written) ++ (said_all (said_with (framed b s i o now).pending) ++ []))
+    by_case true is = record { config = refl; facts = refl; ending = refl; writes = append-nil (said_all o.written); most = refl; held = ap (λ (ms : List Numbered). held_until o.ending ms) (unheld is) }
+    by_case false is = record { config = refl; facts = refl; ending = refl; writes = append-nil (said_all o.written); most = refl; held = refl }
 
 -- a violation that ended a connection ended it before, or is of time
 abbrev pub EndsNewly : State → State → Type 0
@@ -294,7 +307,7 @@ cut : (s : State) → Does s (step s link_end) []
 cut s = by_end (is_some s.ending) refl
   where
     ended : State
-    ended = record s { ending = Some (link_ending (around s 0 s.moment) s.facts); pending = None }
+    ended = record s { ending = Some (link_ending (around s 0 s.moment) s.facts); pending = None; held = [] }
 
     no_violation : (b : Bool) (v : Violation) → Some (if b then endings.Finished else endings.LinkEnded) ≡ Some (endings.Violation v) → IsOfTime v
     no_violation true v e = absurd cc
@@ -336,24 +349,39 @@ resending s (Some r) range payloads now same e serves = record {
   ends = λ v e. inl e;
 }
 
--- each call that may come
+-- a held message is applied, which is so once the handshake is done alone
+applying : (s : State) → (is_shaken s.facts.connection.phase ≡ false → s.held ≡ []) → IsSome (front_of s) → Does s (step s held_done) []
+applying s unheld some =
+    let k = front_there s.facts.recorded.inbox_next s.held some in
+    subst (λ (m : Option Numbered). Does s (held_applied s m) []) (sym k.front_is) (record {
+      config = refl;
+      before = λ n _. absurd (cc (k.held_is, unheld n));
+      done = λ t. (t, tt);
+      accepts = λ _. refl;
+      serves = λ _ none. none;
+      over = λ over. over;
+      ends = λ v e. inl e;
+    })
+
+-- each call that may come, where nothing is held before the handshake is done
 does_call : (h : List Entry) (s : State) (call : Call) → IsOther h call → MayStand h s call → (is_recoverable s.config.own_flow ≡ false → s.facts.connection.serving ≡ None)
-    → Does s (step s call) (writes s call)
-does_call h s (begin now) other may serves = absurd other
-does_call h s (frame incoming at now) other may serves = absurd other
-does_call h s (bad_frame at now) other may serves = absurd other
-does_call h s (did now) other may serves = absurd other
-does_call h s (tick now) other may serves = ticking s now
-does_call h s (turn_done now) other may serves = turning s now
-does_call h s (closed last now) other may serves = finishing s last now
-does_call h s link_end other may serves = cut s
-does_call h s (live payloads now) other may serves =
+    → (is_shaken s.facts.connection.phase ≡ false → s.held ≡ []) → Does s (step s call) (writes s call)
+does_call h s (begin now) other may serves unheld = absurd other
+does_call h s (frame incoming at now) other may serves unheld = absurd other
+does_call h s (bad_frame at now) other may serves unheld = absurd other
+does_call h s (did now) other may serves unheld = absurd other
+does_call h s (tick now) other may serves unheld = ticking s now
+does_call h s (turn_done now) other may serves unheld = turning s now
+does_call h s (closed last now) other may serves unheld = finishing s last now
+does_call h s link_end other may serves unheld = cut s
+does_call h s (live payloads now) other may serves unheld =
     does_flowing s (step s (live payloads now)) (entries payloads) (is_done s.facts.connection.phase may.comes.established) refl (is_done s.facts.connection.phase may.comes.established) (λ _. refl) (λ _ n. n)
     (entries_flow s.config payloads may.comes.flow) (λ k. k) (λ v e. inl e)
-does_call h s (again payloads now) other may serves = resending s s.facts.connection.serving may.comes.range payloads now refl may.comes.serves serves
-does_call h s (taken count) other may serves = does_free s (step s (taken count)) [] refl refl tt (λ k. k) (λ v e. inl e)
-does_call h s reserve other may serves = does_free s (step s reserve) [] refl refl tt (λ k. k) (λ v e. inl e)
+does_call h s (again payloads now) other may serves unheld = resending s s.facts.connection.serving may.comes.range payloads now refl may.comes.serves serves
+does_call h s (taken count) other may serves unheld = does_free s (step s (taken count)) [] refl refl tt (λ k. k) (λ v e. inl e)
+does_call h s reserve other may serves unheld = does_free s (step s reserve) [] refl refl tt (λ k. k) (λ v e. inl e)
+does_call h s held_done other may serves unheld = applying s unheld may.may_call.1
 
 pub does_as : (h : List Entry) (s : State) (call : Call) → IsOther h call → MayStand h s call → (is_recoverable s.config.own_flow ≡ false → s.facts.connection.serving ≡ None)
-    → Does s (run s (call ∷ [])) (written s (call ∷ []))
-does_as h s call other may serves = subst (λ (out : List Piece). Does s (step s call) out) (sym (append-nil (writes s call))) (does_call h s call other may serves)
+    → (is_shaken s.facts.connection.phase ≡ false → s.held ≡ []) → Does s (run s (call ∷ [])) (written s (call ∷ []))
+does_as h s call other may serves unheld = subst (λ (out : List Piece). Does s (step s call) out) (sym (append-nil (writes s call))) (does_call h s call other may serves unheld)

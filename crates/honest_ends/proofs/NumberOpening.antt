@@ -1,5 +1,5 @@
 -- What a reader makes of each message before the handshake is done: nothing of its numbers, or it takes the announcement.
-use Rattle.std.proofs.Common.{◌≡◌, ℕ, ◌+◌, ◌-◌, ◌≤◌, ◌&&◌, ◌||◌, min, max, nat_lt, not, Bool, true, false, if◌then◌else◌, List, [], ◌∷◌, ◌++◌, Option, Some, None, refl, sym, ap, subst, ◌∙◌, arith, true≢false}
+use Rattle.std.proofs.Common.{◌≡◌, ℕ, ◌+◌, ◌-◌, ◌≤◌, ◌&&◌, ◌||◌, min, max, nat_lt, not, Bool, true, false, if◌then◌else◌, List, [], ◌∷◌, ◌++◌, Option, Some, None, refl, sym, ap, subst, ◌∙◌, arith, true≢false, ◌<◌}
 use Rattle.std.specs.Prelude.{⊤, is_some, is_none, unwrap_or, IfSome, IsSome}
 use Rattle.fixp_msgs.specs.declared.numbering.Range.{Range}
 use Rattle.fixp_msgs.specs.declared.flow.Flow.{Flow}
@@ -35,9 +35,10 @@ use Rattle.fixp_machine.proofs.Tests.{some-none}
 use Rattle.connection_laws.specs.Writing.{Piece, said, entry}
 use Rattle.two_ends.specs.Reading.{incoming_of}
 use Rattle.honest_ends.proofs.Deciding.{ended_so}
-use Rattle.honest_ends.specs.Numbers.{Awaited, exactly, at_most, softly, announces, live_after, awaited_after, left_after, Fits, Answers, NotNumber, Matches, Line, Idle, Rests, to_come, goes_softly, expecting}
+use Rattle.fixp_machine.specs.Sound.{Matches}
+use Rattle.honest_ends.specs.Numbers.{Awaited, exactly, at_most, softly, announces, live_after, awaited_after, left_after, Fits, Answers, NotNumber, Line, Idle, Rests, to_come, goes_softly, expecting, lowest}
 use Rattle.honest_ends.proofs.Replying.{asked_phase}
-use Rattle.honest_ends.proofs.PhaseOpening.{asks_none}
+use Rattle.honest_ends.proofs.PhaseOpening.{asks_unheld}
 use Rattle.honest_ends.proofs.Moving.{not_over}
 use Rattle.honest_ends.proofs.Lining.{rests, line_asked, announced_is, announced_rests, number_fault, not_less, other_sequenced, sequenced_of}
 use Rattle.honest_ends.specs.Numbered.{next_live, awaits, awaited}
@@ -65,17 +66,18 @@ breaking x f p code v h = ending x f p _ (endings.Violation v) (λ w e. let same
 -- what a message before the handshake is done stands for
 record Unheard (x : Around) (f : Facts) (p : Piece) : Type 0 where
   before : is_shaken f.connection.phase ≡ false
+  none : x.held ≡ None
   idle : Idle f
   line : is_recoverable x.config.peer_flow ≡ true → Line f
   fits : Fits x.config.peer_flow p (at_most (next_live x.config f)) None
   top : live_after x.config.peer_flow p (next_live x.config f) None ≤ x.most + 1
 
-keeping : (x : Around) (f g : Facts) (p : Piece) (act : Act) (written : List Message) → Idle f → is_shaken g.connection.phase ≡ false → g.connection.receiver ≡ f.connection.receiver → g.connection.requester ≡ f.connection.requester
+keeping : (x : Around) (f g : Facts) (p : Piece) (act : Act) (written : List Message) → x.held ≡ None → Idle f → is_shaken g.connection.phase ≡ false → g.connection.receiver ≡ f.connection.receiver → g.connection.requester ≡ f.connection.requester
     → g.recorded.inbox_next ≡ f.recorded.inbox_next → g.connection.soft ≡ f.connection.soft → left_after p None ≡ None → Opens x.config f p (goes_on x act written g)
-keeping x f g p act written idle before r q n t none = record {
+keeping x f g p act written unheld idle before r q n t none = record {
   fine = λ v e. absurd cc;
   over = λ some. not_over {A = Ending} None refl some;
-  next = λ _. subst (λ (k : Option Range). Hears x.config p f (having_asked g k)) (sym (asks_none g (ap (λ k. receiver_is.gap k) r ∙ idle.even))) (still before r q n t none);
+  next = λ _. subst (λ (k : Option Range). Hears x.config p f (having_asked g k)) (sym (asks_unheld x g unheld (ap (λ k. receiver_is.gap None k) r ∙ idle.even))) (still before r q n t none);
 }
 
 rejecting : (x : Around) (f : Facts) (p : Piece) (written : List Message) → is_shaken f.connection.phase ≡ false → left_after p None ≡ None → Opens x.config f p (rejects written f)
@@ -188,7 +190,7 @@ taking x f m next act written g d u t some = record { fine = λ w e. absurd cc; 
     no_left = ap to_come u.idle.none
 
     shaken_then : is_shaken o.next.connection.phase ≡ true
-    shaken_then = ap (λ k. is_shaken k) (asked_phase g (gap_to_ask g)) ∙ d.shaken
+    shaken_then = ap (λ k. is_shaken k) (asked_phase g (gap_to_ask x g)) ∙ d.shaken
 
     waits : awaited x.config f ≡ at_most (next_live x.config f)
     waits = awaited_before x.config f u.idle.firm u.before
@@ -223,7 +225,7 @@ taking x f m next act written g d u t some = record { fine = λ w e. absurd cc; 
         receiver = d.receiver ∙ ap (λ (a : Announced). a.facts.connection.receiver) is
 
         same : Unmoved g o.next
-        same = asked_unmoved g (gap_to_ask g)
+        same = asked_unmoved g (gap_to_ask x g)
 
         live_then : o.next.connection.receiver.live ≡ n
         live_then = ap (λ r. r.live) (same.receiver ∙ receiver)
@@ -244,14 +246,14 @@ taking x f m next act written g d u t some = record { fine = λ w e. absurd cc; 
         }
 
         both : Line o.next × (to_come o.next.connection.requester ≡ to_come g.connection.requester)
-        both = line_asked g line
+        both = line_asked x g (subst (λ (h : Option ℕ). IfSome h (λ n. n < lowest g)) (sym u.none) tt) line
 
     rested : is_recoverable flow ≡ false → Rests g (live_after flow (said m) f.recorded.inbox_next None)
     rested other =
         let r = announced_rests x f next (live_after flow (said m) f.recorded.inbox_next None) other u.idle
         (λ e. sym (live_untold x m next f.recorded.inbox_next t (other_sequenced flow false other e)))
         (λ e. let numbered = other_sequenced flow true other e in sym (live_told x f m next f.recorded.inbox_next t numbered (some numbered))) in
-        record { idle = record { even = ap (λ k. receiver_is.gap k) d.receiver ∙ r.idle.even; none = d.requester ∙ r.idle.none; firm = d.firm other r.idle.firm }; next = d.inbox_next ∙ r.next }
+        record { idle = record { even = ap (λ k. receiver_is.gap None k) d.receiver ∙ r.idle.even; none = d.requester ∙ r.idle.none; firm = d.firm other r.idle.firm }; next = d.inbox_next ∙ r.next }
 
     after : awaited_after flow (said m) (awaited x.config f) l ≡ awaits (is_sequenced flow && is_shaken o.next.connection.phase) (live_after flow (said m) (next_live x.config f) l)
     after = ap (λ (a : Awaited). awaited_after flow (said m) a l) waits ∙ (after_at_most flow (said m) (next_live x.config f) l (is_sequenced flow) (some_told flow m next t some)
@@ -260,7 +262,7 @@ taking x f m next act written g d u t some = record { fine = λ w e. absurd cc; 
 
     by_flow : (b : Bool) → is_recoverable flow ≡ b → Moves x.config (said m) f o.next
     by_flow true rec = recovers rec
-    by_flow false other = other_moves x f (said m) ⊤ o other u.idle (t.plain f.connection.requester) after (rests x ⊤ f g act written (live_after flow (said m) f.recorded.inbox_next None) (rested other)) refl
+    by_flow false other = other_moves x f (said m) ⊤ o other u.idle (t.plain f.connection.requester) after (rests x ⊤ f g act written (live_after flow (said m) f.recorded.inbox_next None) other (rested other)) refl
 
 announcing : (x : Around) (f : Facts) (m : Message) (t : ℕ) (next : Option ℕ) (follows : Announced → Outcome) → Unheard x f (said m) → Tells x.config.peer_flow m next
     → ((is_sequenced x.config.peer_flow ≡ true → is_some next ≡ true) → Opens x.config f (said m) (follows (announced x f next))) → AllRows (Opens x.config f (said m)) (announcement_rows x f t next follows)
@@ -342,7 +344,7 @@ session_opens x f (negotiate id timestamp flow credentials) u =
           λ _. rejecting x f p _ u.before refl,
           λ _. (
             λ _. rejecting x f p _ u.before refl,
-            λ _. (λ _. keeping x f (as_negotiated f) p _ (negotiation_response x.config.session timestamp (flow_code x.config.own_flow) [] ∷ []) u.idle u.before refl refl refl refl refl, λ _. tt),
+            λ _. (λ _. keeping x f (as_negotiated f) p _ (negotiation_response x.config.session timestamp (flow_code x.config.own_flow) [] ∷ []) u.none u.idle u.before refl refl refl refl refl, λ _. tt),
           ),
         ),
       ),
@@ -351,12 +353,12 @@ session_opens x f (negotiation_response id timestamp flow credentials) u =
     let p = said (negotiation_response id timestamp flow credentials) in
     in_session x f p 2 id _ (all_within (Opens x.config f p) (is_negotiating f.connection.phase) (negotiation_response_rows x f flow) (λ _. (
       λ _. breaking x f p 2 (OtherSession 2) tt,
-      λ _. (λ _. keeping x f (in_phase (as_negotiated f) phases.Establishing) p _ (opening_establish x f ∷ []) u.idle refl refl refl refl refl refl, λ _. tt),
+      λ _. (λ _. keeping x f (in_phase (as_negotiated f) phases.Establishing) p _ (opening_establish x f ∷ []) u.none u.idle refl refl refl refl refl refl, λ _. tt),
     )))
 session_opens x f (negotiation_reject id timestamp code reason) u =
     let p = said (negotiation_reject id timestamp code reason) in
     in_session x f p 3 id _ (all_within (Opens x.config f p) (is_negotiating f.connection.phase) (negotiation_reject_rows x f code) (λ _. (
-      λ _. keeping x f (in_phase (as_negotiated f) phases.Establishing) p _ (opening_establish x f ∷ []) u.idle refl refl refl refl refl refl,
+      λ _. keeping x f (in_phase (as_negotiated f) phases.Establishing) p _ (opening_establish x f ∷ []) u.none u.idle refl refl refl refl refl refl,
       λ _. (λ _. ending x f p [] (endings.Rejected 3 code) (rejected_fine 3 code), λ _. tt),
     )))
 session_opens x f (establish id timestamp keepalive next expected credentials) u =
@@ -384,20 +386,20 @@ session_opens x f (establishment_ack id timestamp keepalive next expected) u =
 session_opens x f (establishment_reject id timestamp code reason) u =
     let p = said (establishment_reject id timestamp code reason) in
     in_session x f p 6 id _ (all_within (Opens x.config f p) (is_establishing f.connection.phase) (establishment_reject_rows x f code) (λ _. (
-      λ _. keeping x f (in_phase f phases.Negotiating) p _ (opening_negotiate x ∷ []) u.idle refl refl refl refl refl refl,
+      λ _. keeping x f (in_phase f phases.Negotiating) p _ (opening_negotiate x ∷ []) u.none u.idle refl refl refl refl refl refl,
       λ _. (λ _. ending x f p [] (endings.Rejected 6 code) (rejected_fine 6 code), λ _. tt),
     )))
 session_opens x f (sequence next) u = not_yet (Opens x.config f (said (sequence next))) f _ u.before
-session_opens x f unsequenced_heartbeat u = (λ _. keeping x f f (said unsequenced_heartbeat) _ [] u.idle u.before refl refl refl refl refl, λ _. tt)
+session_opens x f unsequenced_heartbeat u = (λ _. keeping x f f (said unsequenced_heartbeat) _ [] u.none u.idle u.before refl refl refl refl refl, λ _. tt)
 session_opens x f (retransmit_request id timestamp first count) u = not_yet (Opens x.config f (said (retransmit_request id timestamp first count))) f _ u.before
 session_opens x f (retransmission id next timestamp count) u =
     let p = said (retransmission id next timestamp count) in in_session x f p 10 id _ (not_yet (Opens x.config f p) f _ u.before)
 session_opens x f (retransmit_reject id timestamp code reason) u =
     let p = said (retransmit_reject id timestamp code reason) in in_session x f p 11 id _ (not_yet (Opens x.config f p) f _ u.before)
-session_opens x f (applied first count) u = (λ _. keeping x f f (said (applied first count)) _ [] u.idle u.before refl refl refl refl refl, λ _. tt)
+session_opens x f (applied first count) u = (λ _. keeping x f f (said (applied first count)) _ [] u.none u.idle u.before refl refl refl refl refl, λ _. tt)
 session_opens x f (not_applied first count) u =
     let p = said (not_applied first count) in
-    (λ _. keeping x f f p _ [] u.idle u.before refl refl refl refl refl, λ _. (λ _. keeping x f f p _ [] u.idle u.before refl refl refl refl refl, λ _. tt))
+    (λ _. keeping x f f p _ [] u.none u.idle u.before refl refl refl refl refl, λ _. (λ _. keeping x f f p _ [] u.none u.idle u.before refl refl refl refl refl, λ _. tt))
 session_opens x f (finished_sending id last) u = let p = said (finished_sending id last) in in_session x f p 14 id _ (not_yet (Opens x.config f p) f _ u.before)
 session_opens x f (finished_receiving id) u = let p = said (finished_receiving id) in in_session x f p 15 id _ (not_yet (Opens x.config f p) f _ u.before)
 session_opens x f (terminate id code reason) u =
@@ -408,13 +410,13 @@ rows_open x f (said m) u = session_opens x f m u
 rows_open x f (entry payload) u = not_yet (Opens x.config f (entry payload)) f _ u.before
 
 -- the reply to a message before the handshake is done
-pub opening_reply : (x : Around) (f : Facts) (p : Piece) → is_shaken f.connection.phase ≡ false → Idle f → (is_recoverable x.config.peer_flow ≡ true → Line f)
+pub opening_reply : (x : Around) (f : Facts) (p : Piece) → is_shaken f.connection.phase ≡ false → x.held ≡ None → Idle f → (is_recoverable x.config.peer_flow ≡ true → Line f)
     → Fits x.config.peer_flow p (at_most (next_live x.config f)) None → live_after x.config.peer_flow p (next_live x.config f) None ≤ x.most + 1 → Opens x.config f p (reply_of x f (incoming_of p))
-opening_reply x f p before idle line fits top =
+opening_reply x f p before none idle line fits top =
     by_row (Opens x.config f p) (is_closing f.connection.phase && not (terminates x (incoming_of p))) (ignores f) (answer_of x f (incoming_of p))
     (λ e. absurd (closes (is_established f.connection.phase) (is_closing f.connection.phase) (not (terminates x (incoming_of p))) before e))
     (λ _. all_rows (Opens x.config f p) (not_in_phase x f (template_of (incoming_of p))) (rows_of x f (incoming_of p)) (breaking x f p 2 _ tt)
-    (rows_open x f p (record { before = before; idle = idle; line = line; fits = fits; top = top })))
+    (rows_open x f p (record { before = before; none = none; idle = idle; line = line; fits = fits; top = top })))
   where
     closes : (a b c : Bool) → (a || b) ≡ false → (b && c) ≡ true → ⊥
     closes true b c n e = true≢false n

@@ -21,7 +21,7 @@ use Rattle.fixp_replies.specs.declared.act.Act.{Act}
 use Rattle.fixp_replies.specs.declared.act.Act.TheVariants as acts
 use Rattle.fixp_replies.specs.declared.facts.Facts.{Facts}
 use Rattle.fixp_replies.specs.declared.facts.OwnFinish.TheVariants as own
-use Rattle.fixp_replies.specs.Facts.{Around, is_own, in_phase, negotiated as as_negotiated, gap_to_ask, having_asked, finishes_exchanged}
+use Rattle.fixp_replies.specs.Facts.{Around, is_own, in_phase, negotiated as as_negotiated, gap_to_ask, having_asked, finishes_exchanged, gap_of}
 use Rattle.fixp_replies.specs.Incoming.{Incoming, session}
 use Rattle.fixp_replies.specs.Outcomes.{Outcome, Row, goes_on, accepts, ignores, request_for, told_skip, opening_negotiate, opening_establish}
 use Rattle.fixp_replies.specs.Announcing.{Announced, announced, announcement_fault, refuses}
@@ -41,20 +41,29 @@ use Rattle.honest_ends.specs.Numbers.{IsFlowing, Peer}
 
 -- before the handshake is done nothing is asked for or sent again, and no finish was told
 pub record Quiet (f : Facts) : Type 0 where
-  pub even : receiver_is.gap f.connection.receiver ≡ None
+  pub even : receiver_is.gap None f.connection.receiver ≡ None
   pub free : f.connection.serving ≡ None
   pub untold : f.connection.own_finish ≡ own.Open
 
-pub asks_none : (f : Facts) → receiver_is.gap f.connection.receiver ≡ None → gap_to_ask f ≡ None
-asks_none f e = by_tests f.connection.soft (is_some (request_is.outstanding f.connection.requester))
+-- where there is no gap, none is to be asked for
+pub asks_none : (x : Around) (f : Facts) → gap_of x f ≡ None → gap_to_ask x f ≡ None
+asks_none x f e = by_tests f.connection.soft (is_some (request_is.outstanding f.connection.requester))
   where
-    by_tests : (a b : Bool) → (if a || b then None else receiver_is.gap f.connection.receiver) ≡ None
+    by_tests : (a b : Bool) → (if a || b then None else gap_of x f) ≡ None
     by_tests false false = e
     by_tests false true = refl
     by_tests true b = refl
 
+-- nor where nothing is held, and the number awaited is the live one
+pub asks_unheld : (x : Around) (f : Facts) → x.held ≡ None → receiver_is.gap None f.connection.receiver ≡ None → gap_to_ask x f ≡ None
+asks_unheld x f none e = asks_none x f (by_flow (is_recoverable x.config.peer_flow))
+  where
+    by_flow : (b : Bool) → (if b then receiver_is.gap x.held f.connection.receiver else None) ≡ None
+    by_flow true = ap (λ (h : Option ℕ). receiver_is.gap h f.connection.receiver) none ∙ e
+    by_flow false = refl
+
 pub quiet_same : (f g : Facts) → g.connection ≡ f.connection → Quiet f → Quiet g
-quiet_same f g e q = record { even = ap (λ c. receiver_is.gap c.receiver) e ∙ q.even; free = ap (λ c. c.serving) e ∙ q.free; untold = ap (λ c. c.own_finish) e ∙ q.untold }
+quiet_same f g e q = record { even = ap (λ c. receiver_is.gap None c.receiver) e ∙ q.even; free = ap (λ c. c.serving) e ∙ q.free; untold = ap (λ c. c.own_finish) e ∙ q.untold }
 
 -- nothing of the connection changes, and no message is written that some phase would not take
 pub record Spares (cfg : EndConfig) (f : Facts) (o : Outcome) : Type 0 where
@@ -62,14 +71,14 @@ pub record Spares (cfg : EndConfig) (f : Facts) (o : Outcome) : Type 0 where
   pub writes : AllByRecursion (IsFree cfg) (said_all o.written)
   pub ends : Left o
 
-sparing : (x : Around) (f : Facts) (act : Act) → receiver_is.gap f.connection.receiver ≡ None → Spares x.config f (goes_on x act [] f)
-sparing x f act e = record {
-  same = ap (λ (g : Option Range). having_asked f g) (asks_none f e);
-  writes = subst (λ (g : Option Range). AllByRecursion (IsFree x.config) (said_all (request_for x g))) (sym (asks_none f e)) tt;
+sparing : (x : Around) (f : Facts) (act : Act) → gap_to_ask x f ≡ None → Spares x.config f (goes_on x act [] f)
+sparing x f act none = record {
+  same = ap (λ (g : Option Range). having_asked f g) none;
+  writes = subst (λ (g : Option Range). AllByRecursion (IsFree x.config) (said_all (request_for x g))) (sym none) tt;
   ends = none_left;
 }
 
-answered_free : (x : Around) (f : Facts) (theirs : EndConfig) (p : Piece) → Peer x.config theirs → receiver_is.gap f.connection.receiver ≡ None → IsFree theirs p → Spares x.config f (answer_of x f (incoming_of p))
+answered_free : (x : Around) (f : Facts) (theirs : EndConfig) (p : Piece) → Peer x.config theirs → gap_to_ask x f ≡ None → IsFree theirs p → Spares x.config f (answer_of x f (incoming_of p))
 answered_free x f theirs (entry payload) are even free = absurd free
 answered_free x f theirs (said (negotiate id timestamp flow credentials)) are even free = absurd free
 answered_free x f theirs (said (negotiation_response id timestamp flow credentials)) are even free = absurd free
@@ -92,11 +101,11 @@ answered_free x f theirs (said (terminate id code reason)) are even free =
     heard (Spares x.config f) x f (session (terminate id code reason)) (foreign x id (free ∙ are.session), λ _. (λ _. record { same = refl; writes = (refl, tt); ends = λ w same. terminated_left (finishes_exchanged x f) code w same }, λ e. absurd (true≢false e)))
 
 -- a free message, before the handshake is done
-pub free_reply : (x : Around) (f : Facts) (theirs : EndConfig) (p : Piece) → Peer x.config theirs → Quiet f → IsFree theirs p → Spares x.config f (reply_of x f (incoming_of p))
-free_reply x f theirs p are quiet free =
+pub free_reply : (x : Around) (f : Facts) (theirs : EndConfig) (p : Piece) → Peer x.config theirs → x.held ≡ None → Quiet f → IsFree theirs p → Spares x.config f (reply_of x f (incoming_of p))
+free_reply x f theirs p are none quiet free =
     by_row (Spares x.config f) (is_closing f.connection.phase && not (terminates x (incoming_of p))) (ignores f) (answer_of x f (incoming_of p))
     (λ _. record { same = refl; writes = tt; ends = none_left })
-    (λ _. answered_free x f theirs p are quiet.even free)
+    (λ _. answered_free x f theirs p are (asks_unheld x f none quiet.even) free)
 
 -- before the handshake is done nothing is ignored
 open_before : (P : Outcome → Type 0) (x : Around) (f : Facts) (i : Incoming) → is_shaken f.connection.phase ≡ false → P (answer_of x f i) → P (reply_of x f i)
@@ -123,16 +132,16 @@ pub data Asked (cfg : EndConfig) (ph : Phase) (f : Facts) (o : Outcome) : Type 0
   acknowledged : ph ≡ phases.Establishing → o.next.connection.phase ≡ phases.Established → AckFirst cfg (said_all o.written) → Left o → Asked cfg ph f o
 
 -- the connection goes on, and this alone is written
-writes_alone : (x : Around) (g : Facts) (P : Piece → Type 0) (m : Message) → Quiet g → P (said m) → OneAtMost x.config P (said_all (m ∷ request_for x (gap_to_ask g)))
-writes_alone x g P m quiet h = subst (λ (r : Option Range). OneAtMost x.config P (said_all (m ∷ request_for x r))) (sym (asks_none g quiet.even)) (inl (h, tt))
+writes_alone : (x : Around) (g : Facts) (P : Piece → Type 0) (m : Message) → x.held ≡ None → Quiet g → P (said m) → OneAtMost x.config P (said_all (m ∷ request_for x (gap_to_ask x g)))
+writes_alone x g P m none quiet h = subst (λ (r : Option Range). OneAtMost x.config P (said_all (m ∷ request_for x r))) (sym (asks_unheld x g none quiet.even)) (inl (h, tt))
 
-still_quiet : (g : Facts) → Quiet g → Quiet (having_asked g (gap_to_ask g))
-still_quiet g quiet = subst (λ (r : Option Range). Quiet (having_asked g r)) (sym (asks_none g quiet.even)) quiet
+still_quiet : (x : Around) (g : Facts) → x.held ≡ None → Quiet g → Quiet (having_asked g (gap_to_ask x g))
+still_quiet x g none quiet = subst (λ (r : Option Range). Quiet (having_asked g r)) (sym (asks_unheld x g none quiet.even)) quiet
 
 -- where the handshake is answered by Establish and by Negotiate
-negotiate_asked : (x : Around) (f : Facts) (theirs : EndConfig) (id : List ℕ) (timestamp flow : ℕ) (credentials : List ℕ) → Peer x.config theirs → theirs.credentials ≡ x.config.credentials → Quiet f
+negotiate_asked : (x : Around) (f : Facts) (theirs : EndConfig) (id : List ℕ) (timestamp flow : ℕ) (credentials : List ℕ) → Peer x.config theirs → theirs.credentials ≡ x.config.credentials → x.held ≡ None → Quiet f
     → IsAsk theirs phases.Negotiating (said (negotiate id timestamp flow credentials)) → Decides (Asked x.config phases.Negotiating f) (negotiate_rows x f id timestamp flow credentials)
-negotiate_asked x f theirs id timestamp flow credentials are same quiet asks = (
+negotiate_asked x f theirs id timestamp flow credentials are same none quiet asks = (
   λ n. never (is_own x id) (same_bytes id x.config.session (asks.0 ∙ are.session)) n,
   λ _. (
     λ n. never (bytes_eq credentials x.config.credentials) (same_bytes credentials x.config.credentials (asks.2 ∙ same)) n,
@@ -141,8 +150,8 @@ negotiate_asked x f theirs id timestamp flow credentials are same quiet asks = (
       λ _. (
         λ _. answers refl quiet (inl ((asks.0 ∙ are.session, refl), tt)) none_left,
         λ _. (
-          λ _. answers (asked_phase g (gap_to_ask g)) (still_quiet g (record { even = quiet.even; free = quiet.free; untold = quiet.untold }))
-              (writes_alone x g (IsAnswer x.config phases.Negotiating) (negotiation_response x.config.session timestamp (flow_code x.config.own_flow) []) (record { even = quiet.even; free = quiet.free; untold = quiet.untold }) (refl, refl)) none_left,
+          λ _. answers (asked_phase g (gap_to_ask x g)) (still_quiet x g none (record { even = quiet.even; free = quiet.free; untold = quiet.untold }))
+              (writes_alone x g (IsAnswer x.config phases.Negotiating) (negotiation_response x.config.session timestamp (flow_code x.config.own_flow) []) none (record { even = quiet.even; free = quiet.free; untold = quiet.untold }) (refl, refl)) none_left,
           λ e. absurd (true≢false e),
         ),
       ),
@@ -180,8 +189,8 @@ establish_asked x f theirs id timestamp keepalive next expected credentials are 
     acknowledging a =
         let k : Facts = returned x a.facts expected in
         let g : Facts = established (softened x expected k) keepalive in
-        acknowledged refl (asked_phase g (gap_to_ask g))
-        (inl ((refl, λ n. number_given (is_sequenced x.config.own_flow) (k.recorded.sent + 1) n), asked_flows x (told_skip a.skipped) (gap_to_ask g) (skip_flows x.config a.skipped)))
+        acknowledged refl (asked_phase g (gap_to_ask x g))
+        (inl ((refl, λ n. number_given (is_sequenced x.config.own_flow) (k.recorded.sent + 1) n), asked_flows x (told_skip a.skipped) (gap_to_ask x g) (skip_flows x.config a.skipped)))
         none_left
 
 decides_first : (P : Outcome → Type 0) (b : Bool) (first second : List Row) → b ≡ true → Decides P first → Decides P (if b then first else second)
@@ -190,15 +199,15 @@ decides_first P false first second e d = absurd (true≢false (sym e))
 
 -- an acceptor that waits for its client reads what this asks for
 pub ask_reply : (x : Around) (f : Facts) (theirs : EndConfig) (ph : Phase) (p : Piece) → Peer x.config theirs → theirs.credentials ≡ x.config.credentials
-    → (100 ≤ theirs.keepalive) × (theirs.keepalive ≤ 60000) → awaits_client x f ≡ true → is_shaken f.connection.phase ≡ false → Quiet f → IsAsk theirs ph p → Asked x.config ph f (reply_of x f (incoming_of p))
-ask_reply x f theirs phases.Negotiating (said (negotiate id timestamp flow credentials)) are same range waits before quiet asks =
+    → (100 ≤ theirs.keepalive) × (theirs.keepalive ≤ 60000) → awaits_client x f ≡ true → is_shaken f.connection.phase ≡ false → x.held ≡ None → Quiet f → IsAsk theirs ph p → Asked x.config ph f (reply_of x f (incoming_of p))
+ask_reply x f theirs phases.Negotiating (said (negotiate id timestamp flow credentials)) are same range waits before none quiet asks =
     open_before (Asked x.config phases.Negotiating f) x f (session (negotiate id timestamp flow credentials)) before (heard (Asked x.config phases.Negotiating f) x f (session (negotiate id timestamp flow credentials))
-    (decides_within (Asked x.config phases.Negotiating f) (awaits_client x f) (negotiate_rows x f id timestamp flow credentials) waits (negotiate_asked x f theirs id timestamp flow credentials are same quiet asks)))
-ask_reply x f theirs phases.Establishing (said (establish id timestamp keepalive next expected credentials)) are same range waits before quiet asks =
+    (decides_within (Asked x.config phases.Negotiating f) (awaits_client x f) (negotiate_rows x f id timestamp flow credentials) waits (negotiate_asked x f theirs id timestamp flow credentials are same none quiet asks)))
+ask_reply x f theirs phases.Establishing (said (establish id timestamp keepalive next expected credentials)) are same range waits before none quiet asks =
     open_before (Asked x.config phases.Establishing f) x f (session (establish id timestamp keepalive next expected credentials)) before (heard (Asked x.config phases.Establishing f) x f (session (establish id timestamp keepalive next expected credentials))
     (decides_first (Asked x.config phases.Establishing f) (awaits_client x f) (establish_rows x f id timestamp keepalive next expected credentials) _ waits
     (establish_asked x f theirs id timestamp keepalive next expected credentials are same range quiet asks)))
-ask_reply x f theirs _ _ are same range waits before quiet asks = absurd asks
+ask_reply x f theirs _ _ are same range waits before none quiet asks = absurd asks
 
 -- what an initiator makes of an answer: it asks again, in this phase
 pub record AsksAgain (cfg : EndConfig) (o : Outcome) : Type 0 where
@@ -207,11 +216,12 @@ pub record AsksAgain (cfg : EndConfig) (o : Outcome) : Type 0 where
   pub writes : OneAtMost cfg (IsAsk cfg o.next.connection.phase) (said_all o.written)
   pub ends : Left o
 
-asking : (x : Around) (g : Facts) (act : Act) (m : Message) → is_shaken g.connection.phase ≡ false → Quiet g → IsAsk x.config g.connection.phase (said m) → AsksAgain x.config (goes_on x act (m ∷ []) g)
-asking x g act m before quiet asks = record {
-  before = ap (λ p. is_shaken p) (asked_phase g (gap_to_ask g)) ∙ before;
-  quiet = still_quiet g quiet;
-  writes = subst (λ (p : Phase). OneAtMost x.config (IsAsk x.config p) (said_all (m ∷ request_for x (gap_to_ask g)))) (sym (asked_phase g (gap_to_ask g))) (writes_alone x g (IsAsk x.config g.connection.phase) m quiet asks);
+asking : (x : Around) (g : Facts) (act : Act) (m : Message) → is_shaken g.connection.phase ≡ false → x.held ≡ None → Quiet g → IsAsk x.config g.connection.phase (said m)
+    → AsksAgain x.config (goes_on x act (m ∷ []) g)
+asking x g act m before none quiet asks = record {
+  before = ap (λ p. is_shaken p) (asked_phase g (gap_to_ask x g)) ∙ before;
+  quiet = still_quiet x g none quiet;
+  writes = subst (λ (p : Phase). OneAtMost x.config (IsAsk x.config p) (said_all (m ∷ request_for x (gap_to_ask x g)))) (sym (asked_phase g (gap_to_ask x g))) (writes_alone x g (IsAsk x.config g.connection.phase) m none quiet asks);
   ends = none_left;
 }
 
@@ -223,9 +233,9 @@ newer_tells x f = by_test (is_newer x.config)
     by_test true e = refl
     by_test false e = absurd (true≢false (sym e))
 
-establishing : (x : Around) (f : Facts) → Quiet f → AsksAgain x.config (shaken x f)
-establishing x f quiet =
-    asking x (in_phase (as_negotiated f) phases.Establishing) _ (opening_establish x f) refl (record { even = quiet.even; free = quiet.free; untold = quiet.untold })
+establishing : (x : Around) (f : Facts) → x.held ≡ None → Quiet f → AsksAgain x.config (shaken x f)
+establishing x f none quiet =
+    asking x (in_phase (as_negotiated f) phases.Establishing) _ (opening_establish x f) refl none (record { even = quiet.even; free = quiet.free; untold = quiet.untold })
     (refl, refl, (λ n. number_given (is_sequenced x.config.own_flow) (f.recorded.sent + 1) n), refl, newer_tells x f)
 
 negotiating : (p : Phase) → p ≡ phases.Negotiating → is_negotiating p ≡ true
@@ -234,33 +244,33 @@ negotiating p e = ap (λ q. is_negotiating q) e
 is_it_establishing : (p : Phase) → p ≡ phases.Establishing → is_establishing p ≡ true
 is_it_establishing p e = ap (λ q. is_establishing q) e
 
-pub answer_reply : (x : Around) (f : Facts) (theirs : EndConfig) (ph : Phase) (p : Piece) → Peer x.config theirs → f.connection.phase ≡ ph → is_shaken f.connection.phase ≡ false → Quiet f → IsAnswer theirs ph p
+pub answer_reply : (x : Around) (f : Facts) (theirs : EndConfig) (ph : Phase) (p : Piece) → Peer x.config theirs → f.connection.phase ≡ ph → is_shaken f.connection.phase ≡ false → x.held ≡ None → Quiet f → IsAnswer theirs ph p
     → AsksAgain x.config (reply_of x f (incoming_of p))
-answer_reply x f theirs phases.Negotiating (said (negotiation_response id timestamp flow credentials)) are is before quiet answer =
+answer_reply x f theirs phases.Negotiating (said (negotiation_response id timestamp flow credentials)) are is before none quiet answer =
     open_before (AsksAgain x.config) x f (session (negotiation_response id timestamp flow credentials)) before (heard (AsksAgain x.config) x f (session (negotiation_response id timestamp flow credentials)) (
       foreign x id (answer.0 ∙ are.session),
       λ _. (decides_within (AsksAgain x.config) (is_negotiating f.connection.phase) (negotiation_response_rows x f flow) (negotiating f.connection.phase is) (
         λ n. never (flow == flow_code x.config.peer_flow) (eq-eqb flow (flow_code x.config.peer_flow) (answer.1 ∙ ap (λ k. flow_code k) (sym are.flow))) n,
-        λ _. (λ _. establishing x f quiet, λ e. absurd (true≢false e)),
+        λ _. (λ _. establishing x f none quiet, λ e. absurd (true≢false e)),
       )),
     ))
-answer_reply x f theirs phases.Negotiating (said (negotiation_reject id timestamp code reason)) are is before quiet answer =
+answer_reply x f theirs phases.Negotiating (said (negotiation_reject id timestamp code reason)) are is before none quiet answer =
     open_before (AsksAgain x.config) x f (session (negotiation_reject id timestamp code reason)) before (heard (AsksAgain x.config) x f (session (negotiation_reject id timestamp code reason)) (
       foreign x id (answer.0 ∙ are.session),
       λ _. (decides_within (AsksAgain x.config) (is_negotiating f.connection.phase) (negotiation_reject_rows x f code) (negotiating f.connection.phase is) (
-        λ _. establishing x f quiet,
+        λ _. establishing x f none quiet,
         λ n. absurd (true≢false (sym (eq-eqb code 4 answer.1) ∙ n)),
       )),
     ))
-answer_reply x f theirs phases.Establishing (said (establishment_reject id timestamp code reason)) are is before quiet answer =
+answer_reply x f theirs phases.Establishing (said (establishment_reject id timestamp code reason)) are is before none quiet answer =
     open_before (AsksAgain x.config) x f (session (establishment_reject id timestamp code reason)) before (heard (AsksAgain x.config) x f (session (establishment_reject id timestamp code reason)) (
       foreign x id (answer.0 ∙ are.session),
       λ _. (decides_within (AsksAgain x.config) (is_establishing f.connection.phase) (establishment_reject_rows x f code) (is_it_establishing f.connection.phase is) (
-        λ _. asking x (in_phase f phases.Negotiating) acts.Nothing (opening_negotiate x) refl (record { even = quiet.even; free = quiet.free; untold = quiet.untold }) (refl, refl, refl),
+        λ _. asking x (in_phase f phases.Negotiating) acts.Nothing (opening_negotiate x) refl none (record { even = quiet.even; free = quiet.free; untold = quiet.untold }) (refl, refl, refl),
         λ n. absurd (true≢false (sym (eq-eqb code 2 answer.1) ∙ n)),
       )),
     ))
-answer_reply x f theirs _ _ are is before quiet answer = absurd answer
+answer_reply x f theirs _ _ are is before none quiet answer = absurd answer
 
 -- what it makes of an acknowledgement: the handshake is done, or the announcement is refused
 pub data Acknowledged (cfg : EndConfig) (f : Facts) (o : Outcome) : Type 0 where
@@ -292,7 +302,7 @@ ack_reply x f theirs (said (establishment_ack id timestamp keepalive next expect
     standing : (a : Announced) → Acknowledged x.config f (reached x keepalive expected a)
     standing a =
         let g : Facts = established (returned x a.facts expected) (min 60000 (max 100 keepalive)) in
-        stands (asked_phase g (gap_to_ask g)) (asked_flows x (told_skip a.skipped ++ told_return x a.facts expected) (gap_to_ask g)
+        stands (asked_phase g (gap_to_ask x g)) (asked_flows x (told_skip a.skipped ++ told_return x a.facts expected) (gap_to_ask x g)
         (subst (λ (ps : List Piece). AllByRecursion (IsFlowing x.config) ps) (sym (said_behind (told_skip a.skipped) (told_return x a.facts expected)))
         (all_append (IsFlowing x.config) (said_all (told_skip a.skipped)) (said_all (told_return x a.facts expected)) (skip_flows x.config a.skipped) (starts_flow a)))) none_left
 ack_reply x f theirs _ are is before ack = absurd ack

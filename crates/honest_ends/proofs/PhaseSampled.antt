@@ -16,9 +16,9 @@ may_lose : AllMayStep outbox [] beginning lost
 may_lose = (
   tt,
   (
-    record { begun = refl; going = refl; done = refl },
+    (record { begun = refl; going = refl; done = refl }, refl),
     (
-      record { begun = refl; going = refl; done = refl },
+      (record { begun = refl; going = refl; done = refl }, refl),
       (
         (
           tt,
@@ -43,11 +43,11 @@ may_repair : AllMayStep outbox [] after_loss again_sent
 may_repair = (
   tt,
   (
-    record { begun = refl; going = refl; done = refl },
+    (record { begun = refl; going = refl; done = refl }, refl),
     (
-      record { begun = refl; going = refl; done = refl },
+      (record { begun = refl; going = refl; done = refl }, refl),
       (
-        record { begun = refl; going = refl; done = refl },
+        (record { begun = refl; going = refl; done = refl }, refl),
         (
           (
             tt,
@@ -63,8 +63,8 @@ may_repair = (
             },
           ),
           (
-            record { begun = refl; going = refl; done = refl },
-            (record { begun = refl; going = refl; done = refl }, (record { begun = refl; going = refl; done = refl }, tt)),
+            (record { begun = refl; going = refl; done = refl }, refl),
+            ((record { begun = refl; going = refl; done = refl }, refl), ((record { begun = refl; going = refl; done = refl }, refl), tt)),
           ),
         ),
       ),
@@ -74,20 +74,20 @@ may_repair = (
 
 may_finish : AllMayStep outbox [] after_repair finished
 may_finish = (
-  (refl, record { may_call = refl; comes = tt }),
+  (refl, record { may_call = (refl, refl); comes = tt }),
   (
-    record { begun = refl; going = refl; done = refl },
+    (record { begun = refl; going = refl; done = refl }, refl),
     (
-      record { begun = refl; going = refl; done = refl },
+      (record { begun = refl; going = refl; done = refl }, refl),
       (
-        (refl, record { may_call = refl; comes = tt }),
+        (refl, record { may_call = (refl, refl); comes = tt }),
         (
-          record { begun = refl; going = refl; done = refl },
+          (record { begun = refl; going = refl; done = refl }, refl),
           (
-            record { begun = refl; going = refl; done = refl },
+            (record { begun = refl; going = refl; done = refl }, refl),
             (
-              (tt, record { may_call = refl; comes = tt }),
-              (record { begun = refl; going = refl; done = refl }, (record { begun = refl; going = refl; done = refl }, tt)),
+              (tt, record { may_call = (refl, refl); comes = tt }),
+              ((record { begun = refl; going = refl; done = refl }, refl), ((record { begun = refl; going = refl; done = refl }, refl), tt)),
             ),
           ),
         ),
@@ -112,9 +112,9 @@ newer_loses : AllMayStep outbox [] (versioned 1 1) lost
 newer_loses = (
   tt,
   (
-    record { begun = refl; going = refl; done = refl },
+    (record { begun = refl; going = refl; done = refl }, refl),
     (
-      record { begun = refl; going = refl; done = refl },
+      (record { begun = refl; going = refl; done = refl }, refl),
       (
         (
           tt,
@@ -139,9 +139,9 @@ may_begin_anew : AllMayStep outbox [] newer_lost begun_anew
 may_begin_anew = (
   tt,
   (
-    record { begun = refl; going = refl; done = refl },
+    (record { begun = refl; going = refl; done = refl }, refl),
     (
-      record { begun = refl; going = refl; done = refl },
+      (record { begun = refl; going = refl; done = refl }, refl),
       (
         (
           tt,
@@ -156,7 +156,7 @@ may_begin_anew = (
             };
           },
         ),
-        (record { begun = refl; going = refl; done = refl }, (record { begun = refl; going = refl; done = refl }, tt)),
+        ((record { begun = refl; going = refl; done = refl }, refl), ((record { begun = refl; going = refl; done = refl }, refl), tt)),
       ),
     ),
   ),
@@ -167,11 +167,11 @@ initiator_newer : AllMayStep outbox [] (world_after (versioned 1 0) lost) again_
 initiator_newer = (
   tt,
   (
-    record { begun = refl; going = refl; done = refl },
+    (record { begun = refl; going = refl; done = refl }, refl),
     (
-      record { begun = refl; going = refl; done = refl },
+      (record { begun = refl; going = refl; done = refl }, refl),
       (
-        record { begun = refl; going = refl; done = refl },
+        (record { begun = refl; going = refl; done = refl }, refl),
         (
           (
             tt,
@@ -187,8 +187,8 @@ initiator_newer = (
             },
           ),
           (
-            record { begun = refl; going = refl; done = refl },
-            (record { begun = refl; going = refl; done = refl }, (record { begun = refl; going = refl; done = refl }, tt)),
+            (record { begun = refl; going = refl; done = refl }, refl),
+            ((record { begun = refl; going = refl; done = refl }, refl), ((record { begun = refl; going = refl; done = refl }, refl), tt)),
           ),
         ),
       ),
@@ -200,11 +200,11 @@ acceptor_newer : AllMayStep outbox [] (world_after (versioned 0 1) lost) again_s
 acceptor_newer = (
   tt,
   (
-    record { begun = refl; going = refl; done = refl },
+    (record { begun = refl; going = refl; done = refl }, refl),
     (
-      record { begun = refl; going = refl; done = refl },
+      (record { begun = refl; going = refl; done = refl }, refl),
       (
-        record { begun = refl; going = refl; done = refl },
+        (record { begun = refl; going = refl; done = refl }, refl),
         (
           (
             tt,
@@ -220,8 +220,8 @@ acceptor_newer = (
             },
           ),
           (
-            record { begun = refl; going = refl; done = refl },
-            (record { begun = refl; going = refl; done = refl }, (record { begun = refl; going = refl; done = refl }, tt)),
+            (record { begun = refl; going = refl; done = refl }, refl),
+            ((record { begun = refl; going = refl; done = refl }, refl), ((record { begun = refl; going = refl; done = refl }, refl), tt)),
           ),
         ),
       ),

@@ -1,4 +1,6 @@
 -- The phases of the two ends and what is under way between them, over any steps.
+use Rattle.honest_ends.proofs.Windowing.{Window, window_empty, least_none, window_does, window_reads}
+use Rattle.honest_ends.proofs.Held.{closing_done}
 use Rattle.std.proofs.Common.{◌≡◌, ◌⊎◌, inl, inr, ℕ, ◌+◌, ◌≤◌, ◌&&◌, not, Bool, true, false, if◌then◌else◌, List, [], ◌∷◌, ◌++◌, Option, Some, None, refl, sym, ap, subst, ◌∙◌, arith, true≢false}
 use Rattle.std.specs.Prelude.{is_some, IsSome}
 use Rattle.flow_retrans.specs.Requests.{is_coming}
@@ -12,7 +14,7 @@ use Rattle.fixp_shake.specs.declared.phase.Phase.{Phase}
 use Rattle.fixp_shake.specs.declared.phase.Phase.TheVariants as phases
 use Rattle.fixp_shake.specs.declared.violation.Violation.{Violation}
 use Rattle.fixp_shake.specs.Flows.{is_recoverable, is_sequenced}
-use Rattle.fixp_shake.specs.Phases.{is_idle, is_shaken}
+use Rattle.fixp_shake.specs.Phases.{is_idle, is_shaken, is_closing}
 use Rattle.fixp_replies.specs.declared.act.Ending.{Ending}
 use Rattle.fixp_replies.specs.declared.act.Ending.TheVariants as endings
 use Rattle.fixp_replies.specs.declared.facts.EndState.{EndState}
@@ -22,7 +24,7 @@ use Rattle.fixp_replies.specs.Incoming.{Incoming}
 use Rattle.fixp_replies.specs.Outcomes.{Outcome, opening_negotiate, opening_establish}
 use Rattle.fixp_replies.specs.Replies.{reply_of}
 use Rattle.fixp_replies.specs.Events.{Made, begun}
-use Rattle.fixp_machine.specs.Machine.{State, around, step, run}
+use Rattle.fixp_machine.specs.Machine.{State, around, step, run, begin}
 use Rattle.fixp_machine.proofs.Tests.{no_gap}
 use Rattle.connection_laws.specs.Writing.{Piece, said, said_all, WritesOwn, nothing, shakes, returns, resends}
 use Rattle.connection_laws.specs.Standing.{IsOpen}
@@ -72,6 +74,8 @@ pub record Holds (w : World) : Type 0 where
   pub outward_requests : Requests w.initiator.facts w.acceptor.facts w.acceptor.ending w.outward w.homeward
   pub homeward_requests : Requests w.acceptor.facts w.initiator.facts w.initiator.ending w.homeward w.outward
   pub newer : w.acceptor.facts.connection.soft ≡ true → is_newer w.initiator.config ≡ true
+  pub initiator_window : Window w.initiator
+  pub acceptor_window : Window w.acceptor
 
 -- what each end is before its handshake is done
 pub unshaken_not : (b : Bool) → b ≡ false → b ≡ true → ⊥
@@ -145,31 +149,38 @@ softened_newer ci x fi ei fa p left homeward (acknowledging e qi est free first)
 softened_newer ci x fi ei fa p left homeward (standing done est out home) before (inr s) = absurd (established_not fa.connection.phase est s.0)
 softened_newer ci x fi ei fa p left homeward (refusing over bi qi est free) before (inr s) = absurd (free_untold ci p free.0 s.2)
 
+-- before the handshake is done nothing is held
+abbrev pub Unheld : Around → Facts → Type 0
+Unheld x f = is_shaken f.connection.phase ≡ false → x.held ≡ None
+
+pub unheld_in : (s : State) (at now : ℕ) → Window s → Unheld (around s at now) s.facts
+unheld_in s at now w before = least_none s (w.opening before)
+
 -- The acceptor reads the first message under way to it
 abbrev Replied : EndConfig → Facts → Option Ending → List Piece → List Piece → EndConfig → Outcome → Type 0
 Replied ci fi ei left homeward ca o = Shaking ci ca fi ei o.next left (homeward ++ said_all o.written) × Left o
 
 acceptor_hears : (ci : EndConfig) (fi : Facts) (ei : Option Ending) (x : Around) (fa : Facts) (p : Piece) (left homeward : List Piece) → Match ci x.config → answer_count p ≤ tells fa → (1 ≤ asks p → is_serving fa ≡ false)
-    → Shaking ci x.config fi ei fa (p ∷ left) homeward → Replied ci fi ei left homeward x.config (reply_of x fa (incoming_of p))
-acceptor_hears ci fi ei x fa p left homeward m told unserved (opens bi qi idle qa (inl one) free) =
-    by_reply (ask_reply x fa ci fi.connection.phase p (to_acceptor ci x.config m) (sym m.credentials) m.keepalive (waits_for_client x.config.role fa.connection.phase m.accepts idle) (unshaken fa.connection.phase phases.Idle idle refl) qa one.0)
+    → Unheld x fa → Shaking ci x.config fi ei fa (p ∷ left) homeward → Replied ci fi ei left homeward x.config (reply_of x fa (incoming_of p))
+acceptor_hears ci fi ei x fa p left homeward m told unserved none (opens bi qi idle qa (inl one) free) =
+    by_reply (ask_reply x fa ci fi.connection.phase p (to_acceptor ci x.config m) (sym m.credentials) m.keepalive (waits_for_client x.config.role fa.connection.phase m.accepts idle) (unshaken fa.connection.phase phases.Idle idle refl) (none (unshaken fa.connection.phase phases.Idle idle refl)) qa one.0)
   where
     by_reply : Asked x.config fi.connection.phase fa (reply_of x fa (incoming_of p)) → Replied ci fi ei left homeward x.config (reply_of x fa (incoming_of p))
     by_reply (answers same quiet some l) = (answering bi qi (same ∙ idle) quiet one.1 (one_behind x.config (IsAnswer x.config fi.connection.phase) homeward _ free some), l)
     by_reply (acknowledged e now first l) = (acknowledging e qi now one.1 (ack_behind x.config homeward _ free first), l)
-acceptor_hears ci fi ei x fa p left homeward m told unserved (opens bi qi idle qa (inr more) free) =
-    let r = free_reply x fa ci p (to_acceptor ci x.config m) qa more.0 in
+acceptor_hears ci fi ei x fa p left homeward m told unserved none (opens bi qi idle qa (inr more) free) =
+    let r = free_reply x fa ci p (to_acceptor ci x.config m) (none (unshaken fa.connection.phase phases.Idle idle refl)) qa more.0 in
     (opens bi qi (ap (λ f. f.connection.phase) r.same ∙ idle) (subst (λ (f : Facts). Quiet f) (sym r.same) qa) more.1 (all_append (IsFree x.config) homeward _ free r.writes), r.ends)
-acceptor_hears ci fi ei x fa p left homeward m told unserved (answering bi qi idle qa free one) =
-    let r = free_reply x fa ci p (to_acceptor ci x.config m) qa free.0 in
+acceptor_hears ci fi ei x fa p left homeward m told unserved none (answering bi qi idle qa free one) =
+    let r = free_reply x fa ci p (to_acceptor ci x.config m) (none (unshaken fa.connection.phase phases.Idle idle refl)) qa free.0 in
     (answering bi qi (ap (λ f. f.connection.phase) r.same ∙ idle) (subst (λ (f : Facts). Quiet f) (sym r.same) qa) free.1 (one_before x.config (IsAnswer x.config fi.connection.phase) homeward _ one r.writes), r.ends)
-acceptor_hears ci fi ei x fa p left homeward m told unserved (acknowledging e qi est free first) =
+acceptor_hears ci fi ei x fa p left homeward m told unserved none (acknowledging e qi est free first) =
     let r = shaken_reply x fa ci p (to_acceptor ci x.config m) told unserved (ap (λ q. is_shaken q) est) (free_flows ci p free.0) in
     (acknowledging e qi (r.phase ∙ est) free.1 (ack_before x.config homeward _ first r.writes), r.ends)
-acceptor_hears ci fi ei x fa p left homeward m told unserved (standing done est out home) =
+acceptor_hears ci fi ei x fa p left homeward m told unserved none (standing done est out home) =
     let r = shaken_reply x fa ci p (to_acceptor ci x.config m) told unserved (ap (λ q. is_shaken q) est) out.0 in
     (standing done (r.phase ∙ est) out.1 (all_append (IsFlowing x.config) homeward _ home r.writes), r.ends)
-acceptor_hears ci fi ei x fa p left homeward m told unserved (refusing over bi qi est free) =
+acceptor_hears ci fi ei x fa p left homeward m told unserved none (refusing over bi qi est free) =
     let r = shaken_reply x fa ci p (to_acceptor ci x.config m) told unserved (ap (λ q. is_shaken q) est) (free_flows ci p free.0) in
     (refusing over bi qi (r.phase ∙ est) free.1, r.ends)
 
@@ -182,35 +193,71 @@ no_ending None same h = true≢false (sym h)
 no_ending (Some a) same h = cc same
 
 initiator_hears : (x : Around) (fi : Facts) (ei : Option Ending) (ca : EndConfig) (fa : Facts) (p : Piece) (outward left : List Piece) → Match x.config ca → answer_count p ≤ tells fi → (1 ≤ asks p → is_serving fi ≡ false) → ei ≡ None
-    → Shaking x.config ca fi ei fa outward (p ∷ left) → Resolved ca fa outward left x.config (reply_of x fi (incoming_of p))
-initiator_hears x fi ei ca fa p outward left m told unserved going (opens bi qi idle qa one free) =
-    let r = free_reply x fi ca p (to_initiator x.config ca m) qi free.0 in (
+    → Unheld x fi → Shaking x.config ca fi ei fa outward (p ∷ left) → Resolved ca fa outward left x.config (reply_of x fi (incoming_of p))
+initiator_hears x fi ei ca fa p outward left m told unserved going none (opens bi qi idle qa one free) =
+    let r = free_reply x fi ca p (to_initiator x.config ca m) (none bi) qi free.0 in (
       opens (ap (λ f. is_shaken f.connection.phase) r.same ∙ bi) (subst (λ (f : Facts). Quiet f) (sym r.same) qi) idle qa
           (subst (λ (f : Facts). OneAtMost x.config (IsAsk x.config f.connection.phase) (outward ++ said_all (reply_of x fi (incoming_of p)).written)) (sym r.same) (one_before x.config (IsAsk x.config fi.connection.phase) outward _ one r.writes)) free.1,
       r.ends,
     )
-initiator_hears x fi ei ca fa p outward left m told unserved going (answering bi qi idle qa free (inl one)) =
-    let r = answer_reply x fi ca fi.connection.phase p (to_initiator x.config ca m) refl bi qi one.0 in
+initiator_hears x fi ei ca fa p outward left m told unserved going none (answering bi qi idle qa free (inl one)) =
+    let r = answer_reply x fi ca fi.connection.phase p (to_initiator x.config ca m) refl bi (none bi) qi one.0 in
     (opens r.before r.quiet idle qa (one_behind x.config _ outward _ free r.writes) one.1, r.ends)
-initiator_hears x fi ei ca fa p outward left m told unserved going (answering bi qi idle qa free (inr more)) =
-    let r = free_reply x fi ca p (to_initiator x.config ca m) qi more.0 in (
+initiator_hears x fi ei ca fa p outward left m told unserved going none (answering bi qi idle qa free (inr more)) =
+    let r = free_reply x fi ca p (to_initiator x.config ca m) (none bi) qi more.0 in (
       answering (ap (λ f. is_shaken f.connection.phase) r.same ∙ bi) (subst (λ (f : Facts). Quiet f) (sym r.same) qi) idle qa (all_append (IsFree x.config) outward _ free r.writes)
           (subst (λ (f : Facts). OneAtMost ca (IsAnswer ca f.connection.phase) left) (sym r.same) more.1),
       r.ends,
     )
-initiator_hears x fi ei ca fa p outward left m told unserved going (acknowledging e qi est free (inl first)) =
+initiator_hears x fi ei ca fa p outward left m told unserved going none (acknowledging e qi est free (inl first)) =
     by_reply (ack_reply x fi ca p (to_initiator x.config ca m) e (unshaken fi.connection.phase phases.Establishing e refl) first.0)
   where
     by_reply : Acknowledged x.config fi (reply_of x fi (incoming_of p)) → Resolved ca fa outward left x.config (reply_of x fi (incoming_of p))
     by_reply (stands now w l) = (standing (ap (λ q. is_shaken q) now) est (all_append (IsFlowing x.config) outward _ (all_free_flow x.config outward free) w) first.1, l)
     by_reply (lost over same w l) = (refusing over (ap (λ f. is_shaken f.connection.phase) same ∙ unshaken fi.connection.phase phases.Establishing e refl) (subst (λ (f : Facts). Quiet f) (sym same) qi) est (all_append (IsFree x.config) outward _ free w), l)
-initiator_hears x fi ei ca fa p outward left m told unserved going (acknowledging e qi est free (inr more)) =
-    let r = free_reply x fi ca p (to_initiator x.config ca m) qi more.0 in
+initiator_hears x fi ei ca fa p outward left m told unserved going none (acknowledging e qi est free (inr more)) =
+    let r = free_reply x fi ca p (to_initiator x.config ca m) (none (unshaken fi.connection.phase phases.Establishing e refl)) qi more.0 in
     (acknowledging (ap (λ f. f.connection.phase) r.same ∙ e) (subst (λ (f : Facts). Quiet f) (sym r.same) qi) est (all_append (IsFree x.config) outward _ free r.writes) more.1, r.ends)
-initiator_hears x fi ei ca fa p outward left m told unserved going (standing done est out home) =
+initiator_hears x fi ei ca fa p outward left m told unserved going none (standing done est out home) =
     let r = shaken_reply x fi ca p (to_initiator x.config ca m) told unserved done home.0 in
     (standing (ap (λ q. is_shaken q) r.phase ∙ done) est (all_append (IsFlowing x.config) outward _ out r.writes) home.1, r.ends)
-initiator_hears x fi ei ca fa p outward left m told unserved going (refusing over bi qi est free) = absurd (no_ending ei going over)
+initiator_hears x fi ei ca fa p outward left m told unserved going none (refusing over bi qi est free) = absurd (no_ending ei going over)
+
+-- with a message that it reads no end begins to close its connection
+abbrev Closes : Facts → Outcome → Type 0
+Closes f o = is_closing o.next.connection.phase ≡ true → is_closing f.connection.phase ≡ true
+
+closes_same : (f g : Facts) → g ≡ f → is_closing g.connection.phase ≡ true → is_closing f.connection.phase ≡ true
+closes_same f g e c = ap (λ (k : Facts). is_closing k.connection.phase) (sym e) ∙ c
+
+initiator_closes : (x : Around) (fi : Facts) (ei : Option Ending) (ca : EndConfig) (fa : Facts) (p : Piece) (outward left : List Piece) → Match x.config ca → answer_count p ≤ tells fi → (1 ≤ asks p → is_serving fi ≡ false) → ei ≡ None
+    → Unheld x fi → Shaking x.config ca fi ei fa outward (p ∷ left) → Closes fi (reply_of x fi (incoming_of p))
+initiator_closes x fi ei ca fa p outward left m told unserved going none (opens bi qi idle qa one free) c =
+    closes_same fi (reply_of x fi (incoming_of p)).next (free_reply x fi ca p (to_initiator x.config ca m) (none bi) qi free.0).same c
+initiator_closes x fi ei ca fa p outward left m told unserved going none (answering bi qi idle qa free (inl one)) c =
+    let r = answer_reply x fi ca fi.connection.phase p (to_initiator x.config ca m) refl bi (none bi) qi one.0 in
+    absurd (unshaken_not (is_shaken (reply_of x fi (incoming_of p)).next.connection.phase) r.before (closing_done (reply_of x fi (incoming_of p)).next.connection.phase c))
+initiator_closes x fi ei ca fa p outward left m told unserved going none (answering bi qi idle qa free (inr more)) c =
+    closes_same fi (reply_of x fi (incoming_of p)).next (free_reply x fi ca p (to_initiator x.config ca m) (none bi) qi more.0).same c
+initiator_closes x fi ei ca fa p outward left m told unserved going none (acknowledging e qi est free (inl first)) c =
+    by_reply (ack_reply x fi ca p (to_initiator x.config ca m) e (unshaken fi.connection.phase phases.Establishing e refl) first.0)
+  where
+    by_reply : Acknowledged x.config fi (reply_of x fi (incoming_of p)) → is_closing fi.connection.phase ≡ true
+    by_reply (stands now w l) = absurd (true≢false (sym c ∙ ap (λ q. is_closing q) now))
+    by_reply (lost over same w l) = closes_same fi (reply_of x fi (incoming_of p)).next same c
+initiator_closes x fi ei ca fa p outward left m told unserved going none (acknowledging e qi est free (inr more)) c =
+    closes_same fi (reply_of x fi (incoming_of p)).next (free_reply x fi ca p (to_initiator x.config ca m) (none (unshaken fi.connection.phase phases.Establishing e refl)) qi more.0).same c
+initiator_closes x fi ei ca fa p outward left m told unserved going none (standing done est out home) c =
+    ap (λ q. is_closing q) (sym (shaken_reply x fi ca p (to_initiator x.config ca m) told unserved done home.0).phase) ∙ c
+initiator_closes x fi ei ca fa p outward left m told unserved going none (refusing over bi qi est free) c = absurd (no_ending ei going over)
+
+-- an acceptor never does
+acceptor_never : (ci ca : EndConfig) (fi : Facts) (ei : Option Ending) (fa : Facts) (outward homeward : List Piece) → Shaking ci ca fi ei fa outward homeward → is_closing fa.connection.phase ≡ false
+acceptor_never ci ca fi ei fa outward homeward (opens bi qi idle qa one free) = ap (λ q. is_closing q) idle
+acceptor_never ci ca fi ei fa outward homeward (answering bi qi idle qa free one) = ap (λ q. is_closing q) idle
+acceptor_never ci ca fi ei fa outward homeward (acknowledging e qi est free first) = ap (λ q. is_closing q) est
+acceptor_never ci ca fi ei fa outward homeward (standing shaken est out home) = ap (λ q. is_closing q) est
+acceptor_never ci ca fi ei fa outward homeward (refusing over bi qi est free) = ap (λ q. is_closing q) est
 
 -- the initiator has another call
 initiator_does_so : (s t : State) (out : List Piece) (ca : EndConfig) (fa : Facts) (outward homeward : List Piece) → Does s t out → Shaking s.config ca s.facts s.ending fa outward homeward
@@ -329,6 +376,8 @@ holds_meeting w now_i now_a h =
     record {
       matches = h.matches;
       newer = λ soft. absurd (true≢false (sym soft ∙ a.firm));
+      initiator_window = window_empty (step w.initiator (begin now_i)) refl;
+      acceptor_window = window_empty (step w.acceptor (begin now_a)) refl;
       initiator = record { serves = λ _. i.quiet.free; ends = no_violation None refl };
       acceptor = record { serves = λ _. a.quiet.free; ends = no_violation None refl };
       shaking = opens i.before i.quiet a.idle a.quiet i.asks a.silent;
@@ -356,11 +405,15 @@ initiator_reading w (p ∷ left) at now e h going =
     let home_way = subst (λ (way : List Piece). Awaits w.acceptor.facts s.facts way w.outward) e h.homeward_finish in
     let later : ServesLater s.config s.facts = λ _ before. (initiator_quiet s.config w.acceptor.config s.facts s.ending w.acceptor.facts w.outward w.homeward h.shaking before).free in
     let c = counts (around s at now) s.facts p in
-    let r = initiator_hears (around s at now) s.facts s.ending w.acceptor.config w.acceptor.facts p w.outward left h.matches (due s.facts w.acceptor.facts p w.outward left out_way) (free_for s.facts w.acceptor.facts w.acceptor.ending p w.outward left out_asks) going.going sh in
+    let none = unheld_in s at now h.initiator_window in
+    let r = initiator_hears (around s at now) s.facts s.ending w.acceptor.config w.acceptor.facts p w.outward left h.matches (due s.facts w.acceptor.facts p w.outward left out_way) (free_for s.facts w.acceptor.facts w.acceptor.ending p w.outward left out_asks) going.going none sh in
+    let closes = initiator_closes (around s at now) s.facts s.ending w.acceptor.config w.acceptor.facts p w.outward left h.matches (due s.facts w.acceptor.facts p w.outward left out_way) (free_for s.facts w.acceptor.facts w.acceptor.ending p w.outward left out_asks) going.going none sh in
     let k = keeps_replying (around s at now) s.facts s.ending (incoming_of p) h.initiator r.1 in
     record {
       matches = subst (λ (c : EndConfig). Match c w.acceptor.config) (sym rd.config) h.matches;
       newer = λ soft. ap is_newer rd.config ∙ h.newer soft;
+      initiator_window = window_reads s p at now closes h.initiator_window;
+      acceptor_window = h.acceptor_window;
       initiator = carried (λ c f g out. Keeps c f g) rd.config rd.facts rd.ending rd.writes k;
       acceptor = h.acceptor;
       shaking = carried (λ c f g out. Shaking c w.acceptor.config f g w.acceptor.facts (w.outward ++ out) left) rd.config rd.facts rd.ending rd.writes r.0;
@@ -385,12 +438,16 @@ acceptor_reading w (p ∷ left) at now e h going =
     let home_way = subst (λ (way : List Piece). Awaits s.facts w.initiator.facts w.homeward way) e h.homeward_finish in
     let later : ServesLater s.config s.facts = λ _ before. (acceptor_quiet w.initiator.config s.config w.initiator.facts w.initiator.ending s.facts w.outward w.homeward h.shaking before).free in
     let c = counts (around s at now) s.facts p in
-    let r = acceptor_hears w.initiator.config w.initiator.facts w.initiator.ending (around s at now) s.facts p left w.homeward h.matches (due s.facts w.initiator.facts p w.homeward left home_way) (free_for s.facts w.initiator.facts w.initiator.ending p w.homeward left home_asks) sh in
+    let none = unheld_in s at now h.acceptor_window in
+    let r = acceptor_hears w.initiator.config w.initiator.facts w.initiator.ending (around s at now) s.facts p left w.homeward h.matches (due s.facts w.initiator.facts p w.homeward left home_way) (free_for s.facts w.initiator.facts w.initiator.ending p w.homeward left home_asks) none sh in
     let k = keeps_replying (around s at now) s.facts s.ending (incoming_of p) h.acceptor r.1 in
     record {
       matches = subst (λ (c : EndConfig). Match w.initiator.config c) (sym rd.config) h.matches;
       newer = λ soft. softened_newer w.initiator.config (around s at now) w.initiator.facts w.initiator.ending s.facts p left w.homeward sh h.newer
           ((marks (around s at now) s.facts p).soft (sym (ap (λ (f : Facts). f.connection.soft) rd.facts) ∙ soft));
+      initiator_window = h.initiator_window;
+      acceptor_window = window_reads s p at now
+          (λ t. absurd (true≢false (sym t ∙ acceptor_never w.initiator.config s.config w.initiator.facts w.initiator.ending o.next left (w.homeward ++ said_all o.written) r.0))) h.acceptor_window;
       initiator = h.initiator;
       acceptor = carried (λ c f g out. Keeps c f g) rd.config rd.facts rd.ending rd.writes k;
       shaking = carried (λ c f g out. Shaking w.initiator.config c w.initiator.facts w.initiator.ending f left (w.homeward ++ out)) rd.config rd.facts rd.ending rd.writes r.0;
@@ -404,14 +461,16 @@ acceptor_reading w (p ∷ left) at now e h going =
 
 pub holds_step : (hi ha : List Entry) (w : World) (step : Step) → Holds w → MayStep hi ha w step → Holds (after w step)
 holds_step hi ha w (meets now_i now_a) h may = holds_meeting w now_i now_a h
-holds_step hi ha w (initiator_reads at now) h may = initiator_reading w w.homeward at now refl h may
-holds_step hi ha w (acceptor_reads at now) h may = acceptor_reading w w.outward at now refl h may
+holds_step hi ha w (initiator_reads at now) h may = initiator_reading w w.homeward at now refl h may.0
+holds_step hi ha w (acceptor_reads at now) h may = acceptor_reading w w.outward at now refl h may.0
 holds_step hi ha w (initiator_does call) h may =
-    let d = does_as hi w.initiator call may.0 may.1 h.initiator.serves in
+    let d = does_as hi w.initiator call may.0 may.1 h.initiator.serves h.initiator_window.opening in
     let t = run w.initiator (call ∷ []) in
     record {
       matches = subst (λ (c : EndConfig). Match c w.acceptor.config) (sym d.config) h.matches;
       newer = λ soft. ap is_newer d.config ∙ h.newer soft;
+      initiator_window = window_does w.initiator t (written w.initiator (call ∷ [])) d (serves_as hi w.initiator call may.0 may.1) h.initiator_window;
+      acceptor_window = h.acceptor_window;
       initiator = subst (λ (c : EndConfig). Keeps c t.facts t.ending) (sym d.config) (record { serves = λ n. d.serves n (h.initiator.serves n); ends = ends_still IsLeft w.initiator t d.ends time_left h.initiator.ends });
       acceptor = h.acceptor;
       shaking = subst (λ (c : EndConfig). Shaking c w.acceptor.config t.facts t.ending w.acceptor.facts (w.outward ++ written w.initiator (call ∷ [])) w.homeward) (sym d.config)
@@ -422,11 +481,13 @@ holds_step hi ha w (initiator_does call) h may =
       homeward_requests = served_by_reader w.acceptor.facts w.initiator t w.homeward w.outward (written w.initiator (call ∷ [])) d.over h.homeward_requests (serves_as hi w.initiator call may.0 may.1);
     }
 holds_step hi ha w (acceptor_does call) h may =
-    let d = does_as ha w.acceptor call may.0 may.1 h.acceptor.serves in
+    let d = does_as ha w.acceptor call may.0 may.1 h.acceptor.serves h.acceptor_window.opening in
     let t = run w.acceptor (call ∷ []) in
     record {
       matches = subst (λ (c : EndConfig). Match w.initiator.config c) (sym d.config) h.matches;
       newer = λ soft. h.newer (sym (serves_as ha w.acceptor call may.0 may.1).soft ∙ soft);
+      initiator_window = h.initiator_window;
+      acceptor_window = window_does w.acceptor t (written w.acceptor (call ∷ [])) d (serves_as ha w.acceptor call may.0 may.1) h.acceptor_window;
       initiator = h.initiator;
       acceptor = subst (λ (c : EndConfig). Keeps c t.facts t.ending) (sym d.config) (record { serves = λ n. d.serves n (h.acceptor.serves n); ends = ends_still IsLeft w.acceptor t d.ends time_left h.acceptor.ends });
       shaking = subst (λ (c : EndConfig). Shaking w.initiator.config c w.initiator.facts w.initiator.ending t.facts w.outward (w.homeward ++ written w.acceptor (call ∷ []))) (sym d.config)
@@ -458,6 +519,8 @@ holds_at_first w st =
     record {
       matches = st.matches;
       newer = λ soft. absurd (true≢false (sym soft ∙ ap (λ c. c.soft) fa));
+      initiator_window = window_empty w.initiator (ap (λ (s : State). s.held) st.initiator);
+      acceptor_window = window_empty w.acceptor (ap (λ (s : State). s.held) st.acceptor);
       initiator = record { serves = λ _. qi.free; ends = no_violation w.initiator.ending (ap (λ (s : State). s.ending) st.initiator) };
       acceptor = record { serves = λ _. qa.free; ends = no_violation w.acceptor.ending (ap (λ (s : State). s.ending) st.acceptor) };
       shaking = opens (ap (λ c. is_shaken c.phase) fi) qi (ap (λ c. c.phase) fa) qa

@@ -1,4 +1,6 @@
 -- A reader that expects what is under way expects the rest of it behind its first message.
+use Rattle.honest_ends.proofs.Phased.{Unheld}
+use Rattle.honest_ends.proofs.Windowing.{stays_shaken}
 use Rattle.std.proofs.Common.{◌≡◌, ℕ, ◌+◌, ◌≤◌, ◌&&◌, ◌||◌, nat_lt, Bool, true, false, if◌then◌else◌, List, ◌∷◌, Option, Some, None, refl, sym, ap, subst, ◌∙◌, arith, true≢false}
 use Rattle.std.specs.Prelude.{IsSome}
 use Rattle.fixp_shake.specs.declared.config.EndConfig.{EndConfig}
@@ -11,11 +13,9 @@ use Rattle.fixp_replies.specs.declared.facts.Facts.{Facts}
 use Rattle.fixp_replies.specs.Facts.{Around}
 use Rattle.fixp_replies.specs.Outcomes.{Outcome}
 use Rattle.fixp_replies.specs.Replies.{reply_of}
-use Rattle.connection_laws.specs.Writing.{Piece, WritesOwn, nothing, shakes, returns, resends}
-use Rattle.connection_laws.proofs.Owned.{returning}
-use Rattle.connection_laws.proofs.Replied.{frame_writes}
+use Rattle.connection_laws.specs.Writing.{Piece}
 use Rattle.two_ends.specs.Reading.{incoming_of}
-use Rattle.honest_ends.specs.Numbers.{Awaited, exactly, at_most, softly, starts, live_after, awaited_after, left_after, Fits, Runs, Answers, Idle, Before, After, BeforeOther, AfterOther, Peer, IsFlowing, to_come, goes_softly, expecting, lowest}
+use Rattle.honest_ends.specs.Numbers.{Awaited, exactly, at_most, softly, starts, live_after, awaited_after, left_after, Fits, Runs, Answers, Idle, Before, After, BeforeOther, AfterOther, Peer, IsFlowing, to_come, goes_softly, expecting, lowest, HeldBelow}
 use Rattle.fixp_msgs.specs.declared.flow.Flow.{Flow}
 use Rattle.honest_ends.proofs.Expected.{reader_expects}
 use Rattle.honest_ends.proofs.Running.{Below, fits_below, lower, number_after, number_started, grows, runs_top}
@@ -58,16 +58,6 @@ pub record Heard (c : EndConfig) (f : Facts) (p : Piece) (left : List Piece) (k 
 by_ending : (P : Type 0) (e : Option Ending) → (e ≡ None → P) → (IsSome e → P) → P
 by_ending P None f g = f refl
 by_ending P (Some e) f g = g refl
-
--- a handshake that is done stays done
-stays_shaken : (x : Around) (f : Facts) (p : Piece) → is_shaken f.connection.phase ≡ true → is_shaken (reply_of x f (incoming_of p)).next.connection.phase ≡ true
-stays_shaken x f p e = by_case (frame_writes x f (incoming_of p))
-  where
-    by_case : WritesOwn x f (reply_of x f (incoming_of p)) → is_shaken (reply_of x f (incoming_of p)).next.connection.phase ≡ true
-    by_case (nothing n s) = s.stays e
-    by_case (shakes s) = absurd (true≢false (sym e ∙ s.before))
-    by_case (returns r) = (returning x f (reply_of x f (incoming_of p)).next r.may).done
-    by_case (resends r) = r.stays
 
 heard_of : (c : EndConfig) (f : Facts) (p : Piece) (left : List Piece) (k : ℕ) (m : Option ℕ) (o : Outcome) → f.recorded.inbox_next ≤ k → ((v : Violation) → o.ending ≡ Some (endings.Violation v) → NoNumber v)
     → (IsSome o.ending → o.next.recorded.inbox_next ≡ f.recorded.inbox_next)
@@ -122,10 +112,25 @@ below_it : (b : Bool) (n : ℕ) → Below (at_most n) (awaits b n)
 below_it true n = omega arith
 below_it false n = omega arith
 
+-- by what is under way to it a reader of a recoverable flow expects the first message
+pub expected : (x : Around) (f : Facts) (p : Piece) (left : List Piece) (k : ℕ) (m : Option ℕ) → is_shaken f.connection.phase ≡ true → is_recoverable x.config.peer_flow ≡ true → HeldBelow x f
+    → Ready x.config f (p ∷ left) k m → k ≤ x.most + 1 → Before x f p
+expected x f p left k m shaken rec below r high =
+    let flow : Flow = x.config.peer_flow in
+    let l : Option ℕ = to_come f.connection.requester in
+    let runs : Runs flow (expecting f) l (p ∷ left) k m = subst (λ (a : Awaited). Runs flow a l (p ∷ left) k m) (awaited_expecting x.config f rec shaken) r.runs in
+    record {
+      recoverable = rec;
+      line = r.line rec;
+      fits = fits_below flow p (at_most (lowest f)) (expecting f) l (lowest_below f (r.line rec).low) runs.0;
+      held = below;
+      top = λ start. let top = started_within flow p f l left k m runs start in omega (arith, top, high);
+    }
+
 -- in Established
 established_reads : (x : Around) (f : Facts) (theirs : EndConfig) (p : Piece) (left : List Piece) (k : ℕ) (m : Option ℕ) → Peer x.config theirs → is_established f.connection.phase ≡ true → is_shaken f.connection.phase ≡ true
-    → IsFlowing theirs p → Ready x.config f (p ∷ left) k m → Answers f.connection.requester p → k ≤ x.most + 1 → f.recorded.inbox_next ≤ k → Heard x.config f p left k m (reply_of x f (incoming_of p))
-established_reads x f theirs p left k m are now shaken flows r answers high top = by_flow (is_recoverable c.peer_flow) refl
+    → IsFlowing theirs p → HeldBelow x f → Ready x.config f (p ∷ left) k m → Answers f.connection.requester p → k ≤ x.most + 1 → f.recorded.inbox_next ≤ k → Heard x.config f p left k m (reply_of x f (incoming_of p))
+established_reads x f theirs p left k m are now shaken flows below r answers high top = by_flow (is_recoverable c.peer_flow) refl
   where
     c : EndConfig
     c = x.config
@@ -144,13 +149,7 @@ established_reads x f theirs p left k m are now shaken flows r answers high top 
 
     recovers : is_recoverable c.peer_flow ≡ true → Heard c f p left k m o
     recovers rec =
-        let runs : Runs c.peer_flow (expecting f) l (p ∷ left) k m = subst (λ (a : Awaited). Runs c.peer_flow a l (p ∷ left) k m) (awaited_expecting c f rec shaken) r.runs in
-        let h : After x f p o = both.0 (record {
-          recoverable = rec;
-          line = r.line rec;
-          fits = fits_below c.peer_flow p (at_most (lowest f)) (expecting f) l (lowest_below f (r.line rec).low) runs.0;
-          top = λ start. let top = started_within c.peer_flow p f l left k m runs start in omega (arith, top, high);
-        }) in
+        let h : After x f p o = both.0 (expected x f p left k m shaken rec below r high) in
         heard_of c f p left k m o top (λ v e. not_number (Answers f.connection.requester p) v answers (h.fine v e)) h.over
         (λ e. let v = lined_moves x f p (Answers f.connection.requester p) o rec shaken shaken_then h e in (ready_moved c f o.next p left k m v shaken_then r, v.rises))
         (λ _ e soft. waits_on c p f o.next l (h.next e).reach soft)
@@ -184,9 +183,9 @@ established_reads x f theirs p left k m are now shaken flows r answers high top 
     by_flow false other = passes other
 
 -- before the handshake is done
-opening_reads : (x : Around) (f : Facts) (p : Piece) (left : List Piece) (k : ℕ) (m : Option ℕ) → is_shaken f.connection.phase ≡ false → Ready x.config f (p ∷ left) k m → k ≤ x.most + 1 → f.recorded.inbox_next ≤ k
+opening_reads : (x : Around) (f : Facts) (p : Piece) (left : List Piece) (k : ℕ) (m : Option ℕ) → is_shaken f.connection.phase ≡ false → x.held ≡ None → Ready x.config f (p ∷ left) k m → k ≤ x.most + 1 → f.recorded.inbox_next ≤ k
     → Heard x.config f p left k m (reply_of x f (incoming_of p))
-opening_reads x f p left k m before r high top =
+opening_reads x f p left k m before unheld r high top =
     heard_of c f p left k m o top h.fine h.over (λ e. by_hearing (h.next e)) (λ done _ _. absurd (true≢false (sym done ∙ before)))
   where
     c : EndConfig
@@ -214,7 +213,7 @@ opening_reads x f p left k m before r high top =
         subst (λ (l : Option ℕ). live_after c.peer_flow p (next_live c f) l ≤ x.most + 1) none (omega (arith, top, high))
 
     h : Opens c f p o
-    h = opening_reply x f p before idle r.line fits within
+    h = opening_reply x f p before unheld idle r.line fits within
 
     more : Runs c.peer_flow (awaited_after c.peer_flow p (at_most (next_live c f)) None) (left_after p None) left k m
     more = subst (λ (l : Option ℕ). Runs c.peer_flow (awaited_after c.peer_flow p (at_most (next_live c f)) l) (left_after p l) left k m) none
@@ -240,12 +239,12 @@ opening_reads x f p left k m before r high top =
 
 -- the reply of a reader that has not begun to close its connection
 pub reads : (x : Around) (f : Facts) (theirs : EndConfig) (p : Piece) (left : List Piece) (k : ℕ) (m : Option ℕ) → Peer x.config theirs → is_closing f.connection.phase ≡ false
-    → (is_shaken f.connection.phase ≡ true → IsFlowing theirs p) → Ready x.config f (p ∷ left) k m → Answers f.connection.requester p → k ≤ x.most + 1 → f.recorded.inbox_next ≤ k
+    → (is_shaken f.connection.phase ≡ true → IsFlowing theirs p) → HeldBelow x f → Unheld x f → Ready x.config f (p ∷ left) k m → Answers f.connection.requester p → k ≤ x.most + 1 → f.recorded.inbox_next ≤ k
     → Heard x.config f p left k m (reply_of x f (incoming_of p))
-reads x f theirs p left k m are yet flows r answers high top = by_phase (is_established f.connection.phase) refl
+reads x f theirs p left k m are yet flows below unheld r answers high top = by_phase (is_established f.connection.phase) refl
   where
     by_phase : (b : Bool) → is_established f.connection.phase ≡ b → Heard x.config f p left k m (reply_of x f (incoming_of p))
     by_phase true now =
         let shaken : is_shaken f.connection.phase ≡ true = ap (λ b. b || is_closing f.connection.phase) now in
-        established_reads x f theirs p left k m are now shaken (flows shaken) r answers high top
-    by_phase false not_now = opening_reads x f p left k m (ap (λ b. b || is_closing f.connection.phase) not_now ∙ yet) r high top
+        established_reads x f theirs p left k m are now shaken (flows shaken) below r answers high top
+    by_phase false not_now = let before = ap (λ b. b || is_closing f.connection.phase) not_now ∙ yet in opening_reads x f p left k m before (unheld before) r high top

@@ -4,8 +4,8 @@ use Rattle.std.specs.Prelude.{is_some, is_none, unwrap_or, Result, Ok, Err}
 use Rattle.std.specs.List.{AllByRecursion}
 use Rattle.fixp_msgs.specs.declared.numbering.Range.{Range}
 use Rattle.fixp_msgs.specs.Message.{Message, negotiate, negotiation_response, negotiation_reject, establish, establishment_ack, establishment_reject, sequence, unsequenced_heartbeat, retransmit_request, retransmission, retransmit_reject, applied, not_applied, finished_sending, finished_receiving, terminate}
-use Rattle.flow_recover.specs.declared.receiver.Seen.{Seen}
-use Rattle.flow_recover.specs.declared.receiver.Seen.TheVariants.{Deliver, Gap, Repeat}
+use Rattle.flow_recover.specs.declared.numbers.Seen.{Seen}
+use Rattle.flow_recover.specs.declared.numbers.Seen.TheVariants.{Deliver, Hold, Gap, Repeat}
 use Rattle.flow_recover.specs.Receiving as receiver_is
 use Rattle.flow_retrans.specs.declared.requester.BadStart.{BadStart}
 use Rattle.flow_retrans.specs.declared.judging.RetransmitCode.{RetransmitCode}
@@ -26,7 +26,7 @@ use Rattle.fixp_replies.specs.declared.facts.PeerFinish.TheVariants as peer
 use Rattle.fixp_replies.specs.declared.facts.OwnFinish.{OwnFinish}
 use Rattle.fixp_replies.specs.declared.facts.OwnFinish.TheVariants as own
 use Rattle.fixp_replies.specs.Incoming.{Incoming, application, session}
-use Rattle.fixp_replies.specs.Facts.{Around, is_own, receiving, requesting, firm, serves, awaiting, gap_to_ask, having_asked, expected_number, peer_last, awaits_gap, finishes_exchanged, live_number, is_told}
+use Rattle.fixp_replies.specs.Facts.{Around, is_own, receiving, requesting, firm, serves, awaiting, gap_to_ask, having_asked, expected_number, peer_last, awaits_gap, finishes_exchanged, live_number, is_told, gap_of, holding_too}
 use Rattle.fixp_replies.specs.Outcomes.{Outcome, goes_on, accepts, ignores, ends, breaks, not_in_phase, request_for, skip_of, told_skip}
 use Rattle.fixp_replies.specs.Announcing.{Announced, jumped_over, announced, announcement_fault, refuses, announcement_rows}
 use Rattle.fixp_replies.specs.Flowing.{bad_retransmission, counted, taken_as, finish_act, peer_finished, answers_finish, is_filled, is_past_finish, sequence_follows, sequence_taken, restarted, finished_last, finish_fault, finished, is_last, application_rows, sequence_rows, retransmission_rows, retransmit_reject_rows, finished_sending_rows}
@@ -70,8 +70,8 @@ none_left v e = absurd cc
 going : (x : Around) (f g : Facts) (act : Act) (written : List Message) → g.connection.phase ≡ f.connection.phase → AllByRecursion (IsFlowing x.config) (said_all written)
     → Plain x.config f (goes_on x act written g)
 going x f g act written e a = record {
-  phase = asked_phase g (gap_to_ask g) ∙ e;
-  writes = asked_flows x written (gap_to_ask g) a;
+  phase = asked_phase g (gap_to_ask x g) ∙ e;
+  writes = asked_flows x written (gap_to_ask x g) a;
   ends = none_left;
 }
 
@@ -145,6 +145,7 @@ answering x f g last e = going x f (peer_finished g (peer.Exchanged last) (Some 
 
 taking : (x : Around) (f : Facts) (s : Seen) → Plain x.config f (taken_as x (counted f) s)
 taking x f (Deliver n) = going x f (awaiting (counted f) (n + 1)) (acts.Apply n) [] refl tt
+taking x f (Hold n) = let k = going (holding_too x n) f (counted f) acts.Nothing [] refl tt in record { phase = k.phase; writes = k.writes; ends = k.ends }
 taking x f (Gap n) = going x f (counted f) acts.Nothing [] refl tt
 taking x f (Repeat n) = going x f (counted f) acts.Nothing [] refl tt
 
@@ -152,7 +153,7 @@ following : (x : Around) (f g : Facts) (next : ℕ) (a : Announced) → g.connec
 following x f g next a e same =
     by_row (Plain x.config f) (is_past_finish x g next) (breaks x g (AfterFinish (unwrap_or (peer_last g) 0) next)) (sequence_taken x a)
     (λ _. breaking x f g 2 (AfterFinish (unwrap_or (peer_last g) 0) next) e tt)
-    (λ _. by_row (Plain x.config f) (is_filled a.facts) (answers_finish x a.facts (unwrap_or (awaits_gap a.facts.connection.peer_finish) 0)) (goes_on x (skip_of a.skipped) (told_skip a.skipped) a.facts)
+    (λ _. by_row (Plain x.config f) (is_filled x a.facts) (answers_finish x a.facts (unwrap_or (awaits_gap a.facts.connection.peer_finish) 0)) (goes_on x (skip_of a.skipped) (told_skip a.skipped) a.facts)
     (λ _. answering x f a.facts (unwrap_or (awaits_gap a.facts.connection.peer_finish) 0) same)
     (λ _. going x f a.facts (skip_of a.skipped) (told_skip a.skipped) same (skip_flows x.config a.skipped)))
 
@@ -176,7 +177,7 @@ finish_left x f last flow given v e =
     by_tests false false missing other a m e = absurd cc
 
 finishing : (x : Around) (f : Facts) (n : ℕ) → Plain x.config f (finished x f n)
-finishing x f n = by_row (Plain x.config f) (is_some (receiver_is.gap f.connection.receiver)) (accepts x [] (peer_finished f (peer.Read n) f.recorded.peer_last)) (answers_finish x f n)
+finishing x f n = by_row (Plain x.config f) (is_some (gap_of x f)) (accepts x [] (peer_finished f (peer.Read n) f.recorded.peer_last)) (answers_finish x f n)
     (λ _. going x f (peer_finished f (peer.Read n) f.recorded.peer_last) acts.Nothing [] refl tt)
     (λ _. answering x f f n refl)
 

@@ -110,7 +110,7 @@ request_reply x f theirs q id timestamp first count are flows rec below names =
     resends now = subst (λ (r : Result Range RetransmitCode). Answered q (request_answered x f id timestamp r))
         (sym (is_judged (is_own x id) (is_recoverable x.config.own_flow) first count f.recorded.sent
         (same_bytes id x.config.session (flows (ap (λ b. b || is_closing f.connection.phase) now) ∙ are.session)) rec names.1 names.2 names.3 below))
-        ((names.0, names.2), requests_answer x q (gap_to_ask (serves f (Some (record { from = first; count = count })))))
+        ((names.0, names.2), requests_answer x q (gap_to_ask x (serves f (Some (record { from = first; count = count })))))
 
 -- whatever the writer replies
 pub answers_behind : (x : Around) (f : Facts) (theirs : EndConfig) (q : Request) (p : Piece) (turn : Bool → Bool) → Peer x.config theirs → (is_shaken f.connection.phase ≡ true → IsFlowing theirs p)

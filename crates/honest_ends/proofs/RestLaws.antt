@@ -1,22 +1,26 @@
 -- The laws of two ends at rest.
+use Rattle.honest_ends.proofs.Past.{Lies, least_above}
+use Rattle.honest_ends.proofs.Lying.{LiesSo}
+use Rattle.honest_ends.proofs.PhaseOpening.{asks_unheld}
+use Rattle.flow_window.specs.Window.{front, least}
 use Rattle.std.proofs.Common.{◌≡◌, inl, inr, ℕ, ◌+◌, ◌≤◌, ◌&&◌, ◌||◌, nat_lt, Bool, true, false, if◌then◌else◌, List, [], ◌++◌, length, Option, Some, None, refl, sym, ap, subst, ◌∙◌, arith, append-nil, length-append, true≢false}
 use Rattle.std.specs.Prelude.{is_some, IfSome}
 use Rattle.std.proofs.lemmas.Bool.{ltb-false, and_parts}
 use Rattle.std.proofs.lemmas.List.{length-map, nil_from_length}
 use Rattle.session_model.specs.Journal.{Entry}
-use Rattle.session_model.specs.Inbox.{applied, payloads_of}
+use Rattle.session_model.specs.Inbox.{applied, payloads_of, Numbered}
 use Rattle.session_model.proofs.Inboxes.{length-payloads_of}
 use Rattle.session_model.proofs.Recoverable.{next_of_counted}
 use Rattle.fixp_msgs.specs.declared.flow.Flow.{Flow}
 use Rattle.fixp_msgs.specs.declared.flow.Flow.TheVariants as flows
-use Rattle.flow_recover.specs.Receiving as receiver_is
 use Rattle.flow_retrans.specs.declared.request.Request.{Request}
 use Rattle.flow_retrans.specs.declared.request.Request.TheVariants as requests
-use Rattle.flow_retrans.specs.Requests.{outstanding}
+use Rattle.flow_retrans.specs.Requests.{outstanding, is_coming}
 use Rattle.fixp_shake.specs.Flows.{is_recoverable, is_sequenced, is_absent}
 use Rattle.fixp_shake.specs.Phases.{is_shaken}
+use Rattle.fixp_shake.specs.declared.phase.Phase.TheVariants as phases
 use Rattle.fixp_replies.specs.declared.facts.Facts.{Facts}
-use Rattle.fixp_replies.specs.Facts.{gap_to_ask, finishes_exchanged, own_is_exchanged, peer_is_exchanged}
+use Rattle.fixp_replies.specs.Facts.{gap_to_ask, finishes_exchanged, own_is_exchanged, peer_is_exchanged, Around, connecting, gap_of}
 use Rattle.fixp_machine.specs.Machine.{State, around, fresh}
 use Rattle.fixp_machine.proofs.Tests.{no_gap}
 use Rattle.fixp_machine.proofs.Tests.{is_done}
@@ -28,27 +32,34 @@ use Rattle.honest_ends.specs.Numbered.{Expects, Follows, ReturnsFirst, awaits, a
 use Rattle.honest_ends.proofs.Awaiting.{awaited_then, live_is, inbox_of}
 use Rattle.honest_ends.proofs.Numbering.{counted_at_first, counted_after, numbered_of}
 use Rattle.honest_ends.specs.Finished.{IsLast, Tells}
-use Rattle.honest_ends.proofs.Behind.{open_not_closing}
+use Rattle.honest_ends.proofs.Held.{open_not_closing}
 use Rattle.honest_ends.proofs.FinishLaws.{finished_holds}
 use Rattle.honest_ends.specs.Resting.{IsIdle, HasAll, EndsLast}
 use Rattle.honest_ends.specs.RestLaws.{QuietHasAll, OverHasAll, RestHasAll, StaysEnded, AllIsEqual}
-use Rattle.honest_ends.proofs.Returning.{no_gap_live}
 use Rattle.honest_ends.proofs.Serving.{by_bool}
-use Rattle.honest_ends.proofs.Settling.{Ends}
-use Rattle.honest_ends.proofs.RestStepping.{first_ends, past_last, keep_after}
+use Rattle.honest_ends.proofs.Settling.{Ends, gap_reached, recoverable_gap}
+use Rattle.honest_ends.proofs.RestStepping.{first_ends, past_last, keep_after, gap_in}
 
 -- a machine that is fresh has no gap
-first_gap : (s : State) → s ≡ fresh s.config s.facts.recorded s.most → gap_to_ask s.facts ≡ None
-first_gap s new = ap (λ (t : State). gap_to_ask t.facts) new ∙ no_gap s.facts.recorded.inbox_next s.facts.recorded.inbox_next refl
+first_gap : (s : State) → s ≡ fresh s.config s.facts.recorded s.most → gap_in s ≡ None
+first_gap s new = ap (λ (t : State). gap_in t) new ∙ asks_unheld (around (fresh s.config s.facts.recorded s.most) 0 0) (connecting s.facts.recorded phases.Idle) refl (no_gap s.facts.recorded.inbox_next s.facts.recorded.inbox_next refl)
 
 -- where nothing is asked for, a gap would be to be asked for
-unasked_gap : (f : Facts) → f.connection.soft ≡ false → f.connection.requester ≡ requests.Nothing → gap_to_ask f ≡ None → receiver_is.gap f.connection.receiver ≡ None
-unasked_gap f firm e none = subst (λ (q : Request). (if is_some (outstanding q) then None else receiver_is.gap f.connection.receiver) ≡ None) e
-    (subst (λ (b : Bool). (if b || is_some (outstanding f.connection.requester) then None else receiver_is.gap f.connection.receiver) ≡ None) firm none)
+unasked_gap : (x : Around) (f : Facts) → f.connection.soft ≡ false → f.connection.requester ≡ requests.Nothing → gap_to_ask x f ≡ None → gap_of x f ≡ None
+unasked_gap x f firm e none = subst (λ (q : Request). (if is_some (outstanding q) then None else gap_of x f) ≡ None) e
+    (subst (λ (b : Bool). (if b || is_some (outstanding f.connection.requester) then None else gap_of x f) ≡ None) firm none)
+
+-- and no message waits to be applied that is held, as none comes again
+none_ready : (s : State) → Lies s.facts s.held → s.facts.connection.requester ≡ requests.Nothing → front s.facts.recorded.inbox_next s.held ≡ None
+none_ready s lies idle = by_front (front s.facts.recorded.inbox_next s.held) refl
+  where
+    by_front : (m : Option Numbered) → front s.facts.recorded.inbox_next s.held ≡ m → front s.facts.recorded.inbox_next s.held ≡ None
+    by_front None e = e
+    by_front (Some m) e = absurd (true≢false (sym (lies.coming (ap (λ (k : Option Numbered). is_some k) e)) ∙ ap (λ (q : Request). is_coming q) idle))
 
 -- one flow whose reader is idle, where nothing is under way to it
-quiet_one : (own h : List Entry) (writer reader : State) (way back : List Piece) → Follows h writer reader way back → way ≡ [] → IsIdle h writer → IsIdle own reader → gap_to_ask reader.facts ≡ None → HasAll h reader
-quiet_one own h writer reader way back follows none sends idle gap numbered = by_flow (is_recoverable reader.config.peer_flow) refl
+quiet_one : (own h : List Entry) (writer reader : State) (way back : List Piece) → Follows h writer reader way back → way ≡ [] → IsIdle h writer → IsIdle own reader → LiesSo reader → gap_in reader ≡ None → HasAll h reader
+quiet_one own h writer reader way back follows none sends idle so gap numbered = by_flow (is_recoverable reader.config.peer_flow) refl
   where
     f : Facts
     f = reader.facts
@@ -73,17 +84,22 @@ quiet_one own h writer reader way back follows none sends idle gap numbered = by
     live = subst (λ (a : Awaited). IsAt a k) exact
         (subst (λ (ps : List Piece). Runs writer.config.own_flow (awaited reader.config f) (to_come f.connection.requester) ps k (served writer.facts.connection.serving)) none expects.runs).0
 
-    reached : f.connection.receiver.live ≤ f.connection.receiver.next
-    reached = by_bool (f.connection.receiver.live ≤ f.connection.receiver.next) f.connection.soft
+    lies : Lies f reader.held
+    lies = so idle.going (open_not_closing f.connection.phase idle.established)
+
+    reached : is_recoverable reader.config.peer_flow ≡ true → f.connection.receiver.live ≤ f.connection.receiver.next
+    reached rec = by_bool (f.connection.receiver.live ≤ f.connection.receiver.next) f.connection.soft
         (λ soft. ltb-false f.connection.receiver.next f.connection.receiver.live (sym (ap (λ b. b && nat_lt f.connection.receiver.next f.connection.receiver.live) soft) ∙ never_soft))
-        (λ firm. no_gap_live f.connection.receiver (unasked_gap f firm idle.unasked gap))
+        (λ firm. gap_reached (least reader.held) f.connection.receiver f.recorded.inbox_next (expects.line rec).waits
+        (least_above f.recorded.inbox_next reader.held lies.reach (none_ready reader lies idle.unasked))
+        (sym (recoverable_gap (around reader 0 0) f rec) ∙ unasked_gap (around reader 0 0) f firm idle.unasked gap))
 
     by_flow : (r : Bool) → is_recoverable reader.config.peer_flow ≡ r → f.recorded.inbox_next ≡ length h + 1
     by_flow true rec =
         let line = expects.line rec in
         let waits = line.waits in
         let low = line.low in
-        let high = reached in
+        let high = reached rec in
         let is = live_is reader.config f rec in
         let all = live in
         omega (arith, waits, low, high, is, all, sent)
@@ -96,10 +112,11 @@ pub quiet_has_all : QuietHasAll
 quiet_has_all hi ha w steps known may quiet =
     let n = counted_at_first hi ha w known in
     let now = world_after w steps in
-    let numbers = numbered_of hi ha now (counted_after hi ha w steps n may) in
+    let counted = counted_after hi ha w steps n may in
+    let numbers = numbered_of hi ha now counted in
     let keeps = keep_after hi ha w steps n may in (
-      quiet_one hi ha now.acceptor now.initiator now.homeward now.outward numbers.homeward quiet.homeward quiet.acceptor quiet.initiator (keeps.initiator.asked (λ _. first_gap w.initiator known.0.initiator) quiet.initiator.going),
-      quiet_one ha hi now.initiator now.acceptor now.outward now.homeward numbers.outward quiet.outward quiet.initiator quiet.acceptor (keeps.acceptor.asked (λ _. first_gap w.acceptor known.0.acceptor) quiet.acceptor.going),
+      quiet_one hi ha now.acceptor now.initiator now.homeward now.outward numbers.homeward quiet.homeward quiet.acceptor quiet.initiator counted.initiator_lies (keeps.initiator.asked (λ _. first_gap w.initiator known.0.initiator) quiet.initiator.going),
+      quiet_one ha hi now.initiator now.acceptor now.outward now.homeward numbers.outward quiet.outward quiet.initiator quiet.acceptor counted.acceptor_lies (keeps.acceptor.asked (λ _. first_gap w.acceptor known.0.acceptor) quiet.acceptor.going),
     )
 
 -- what holds of one flow, where a finish that was recorded at first came behind all of it

@@ -77,7 +77,7 @@ asked_unmoved g None = record { receiver = refl; inbox = refl; soft = refl; phas
 asked_unmoved g (Some r) = record { receiver = refl; inbox = refl; soft = refl; phase = refl }
 
 -- a receiver with no gap has come to the live number
-pub no_gap_live : (r : Receiving) → receiver_is.gap r ≡ None → r.live ≤ r.next
+pub no_gap_live : (r : Receiving) → receiver_is.gap None r ≡ None → r.live ≤ r.next
 no_gap_live r e = by_test (nat_lt r.next r.live) refl e
   where
     missing : Range

@@ -1,5 +1,7 @@
 -- The requests and retransmissions under way between two ends, and how each call of an end moves them.
-use Rattle.std.proofs.Common.{◌≡◌, ◌⊎◌, inl, inr, ℕ, zero, suc, ◌+◌, ◌-◌, ◌≤◌, ◌==◌, ◌&&◌, Bool, true, false, if◌then◌else◌, List, [], ◌∷◌, ◌++◌, length, Option, Some, None, refl, sym, ap, subst, ◌∙◌, arith, true≢false, append-nil, eqb-true}
+use Rattle.fixp_machine.proofs.Windowing.{IsFront, front_there}
+use Rattle.session_model.specs.Inbox.{Numbered}
+use Rattle.std.proofs.Common.{◌≡◌, ◌⊎◌, inl, inr, ℕ, zero, suc, ◌+◌, ◌-◌, ◌≤◌, ◌==◌, ◌&&◌, Bool, true, false, if◌then◌else◌, List, [], ◌∷◌, ◌++◌, length, Option, Some, None, refl, sym, ap, subst, ◌∙◌, arith, true≢false, append-nil, eqb-true, drop}
 use Rattle.std.specs.Prelude.{is_some, is_none, unwrap_or, IfSome, IsSome}
 use Rattle.session_model.specs.Journal.{Entry}
 use Rattle.fixp_msgs.specs.declared.numbering.Range.{Range}
@@ -18,7 +20,7 @@ use Rattle.fixp_replies.specs.Facts.{Around}
 use Rattle.fixp_replies.specs.Outcomes.{Outcome}
 use Rattle.fixp_replies.specs.Replies.{reply_of}
 use Rattle.fixp_replies.specs.Events.{Made, heartbeat, heartbeats, is_due, lateness, applied_runs, closes, turn_ended, outbox_finished, tells_finish, finish_told, link_ending}
-use Rattle.fixp_machine.specs.Machine.{State, Call, begin, frame, bad_frame, did, tick, turn_done, closed, link_end, live, again, taken, reserve, around, bytes_of, wrote, made, broken_by, served_again, rest_of, step, run}
+use Rattle.fixp_machine.specs.Machine.{State, Call, begin, frame, bad_frame, did, tick, turn_done, closed, link_end, live, again, taken, reserve, around, bytes_of, wrote, made, broken_by, served_again, rest_of, step, run, held_done, past_held, held_applied, front_of, IsDrained}
 use Rattle.connection_laws.specs.Writing.{Piece, said, said_all, entries, said_breaking, range_closed, written_again, writes}
 use Rattle.two_ends.specs.Reading.{incoming_of}
 use Rattle.two_ends.proofs.Refused.{closing_is_deaf}
@@ -126,15 +128,35 @@ asked_by_writer x writer reader over p way left later a =
       even = λ none yet. inside_append (coming reader) way (said_all o.written) ∙ (ap (λ b. inside b (said_all o.written)) (a.even none yet) ∙ c.serves);
     }
 
--- any other call asks for nothing and begins no retransmission, and sends no more than the outbox has
+abbrev pub Remains : State → State → Type 0
+Remains s t = (t.held ≡ s.held) ⊎ ((t.held ≡ []) × IsSome t.ending)
+
+-- the numbers of a reader stay, and so does what it holds, or its connection ends and it holds nothing any more
+pub record Still (s t : State) : Type 0 where
+  pub receiver : t.facts.connection.receiver ≡ s.facts.connection.receiver
+  pub inbox : t.facts.recorded.inbox_next ≡ s.facts.recorded.inbox_next
+  pub held : Remains s t
+
+-- a held message that its inbox awaited was applied, on an open connection
+pub record Drops (s t : State) : Type 0 where
+  pub going : s.ending ≡ None
+  pub front : IsFront s.facts.recorded.inbox_next s.held
+  pub facts : t.facts ≡ past_held s.facts front.first
+  pub held : t.held ≡ front.later
+
+abbrev pub Passes : State → State → Type 0
+Passes s t = Still s t ⊎ Drops s t
+
+-- any other call asks for nothing and begins no retransmission, and sends no more than the outbox has; a connection begins to close where no
+-- held message is to be applied
 pub record Serves (h : List Entry) (s t : State) (out : List Piece) : Type 0 where
   pub asks_none : total asks out ≡ 0
   pub begins_none : total restarts out ≡ 0
   pub serves : inside (is_serving s.facts) out ≡ is_serving t.facts
   pub requester : t.facts.connection.requester ≡ s.facts.connection.requester
   pub closing : is_closing t.facts.connection.phase ≡ false → is_closing s.facts.connection.phase ≡ false
-  pub receiver : t.facts.connection.receiver ≡ s.facts.connection.receiver
-  pub inbox : t.facts.recorded.inbox_next ≡ s.facts.recorded.inbox_next
+  pub reader : Passes s t
+  pub drains : is_closing t.facts.connection.phase ≡ true → (is_closing s.facts.connection.phase ≡ true) ⊎ IsDrained s
   pub soft : t.facts.connection.soft ≡ s.facts.connection.soft
   pub runs : RunsBetween s.config.own_flow s.facts out t.facts
   pub most : t.most ≡ s.most
@@ -199,15 +221,15 @@ still : Plain []
 still flow b l = (refl, refl)
 
 serves_silent : (h : List Entry) (s t : State) (out : List Piece) → t.most ≡ s.most → (s.facts.recorded.sent ≤ length h → t.facts.recorded.sent ≤ length h) → t.facts.connection ≡ s.facts.connection → t.facts.recorded.inbox_next ≡ s.facts.recorded.inbox_next
-    → RunsBetween s.config.own_flow s.facts out t.facts → Silent out → Serves h s t out
-serves_silent h s t out most sent e n r a = record {
+    → Remains s t → RunsBetween s.config.own_flow s.facts out t.facts → Silent out → Serves h s t out
+serves_silent h s t out most sent e n held r a = record {
   asks_none = a.no_request;
   begins_none = a.no_restart;
   serves = a.no_turn (is_serving s.facts) ∙ sym (ap (λ c. is_some c.serving) e);
   requester = ap (λ c. c.requester) e;
   closing = λ n. ap (λ c. is_closing c.phase) (sym e) ∙ n;
-  receiver = ap (λ c. c.receiver) e;
-  inbox = n;
+  reader = inl (record { receiver = ap (λ c. c.receiver) e; inbox = n; held = held });
+  drains = λ t. inl (ap (λ c. is_closing c.phase) (sym e) ∙ t);
   soft = ap (λ c. c.soft) e;
   runs = r;
   most = most;
@@ -264,9 +286,10 @@ breaks_plain : (s : State) (v : Option Violation) (now : ℕ) → Plain (said_al
 breaks_plain s None now flow b l = (refl, refl)
 breaks_plain s (Some v) now flow b l = ((tt, tt), (refl, refl))
 
-broken_same : (s : State) (v : Option Violation) (now : ℕ) → ((broken_by s v now).facts ≡ s.facts) × ((broken_by s v now).most ≡ s.most)
-broken_same s None now = (refl, refl)
-broken_same s (Some v) now = (refl, refl)
+broken_same : (s : State) (v : Option Violation) (now : ℕ)
+    → ((broken_by s v now).facts ≡ s.facts) × ((broken_by s v now).most ≡ s.most) × Remains s (broken_by s v now)
+broken_same s None now = (refl, refl, inl refl)
+broken_same s (Some v) now = (refl, refl, inr (refl, refl))
 
 ticking : (h : List Entry) (s : State) (now : ℕ) → Serves h s (step s (tick now)) (writes s (tick now))
 ticking h s now = by_end (is_some s.ending)
@@ -297,8 +320,8 @@ ticking h s now = by_end (is_some s.ending)
               ∙ (r.no_turn (inside (is_serving s.facts) (said_all h)) ∙ (b.stays ∙ sym (ap (λ f. is_serving f) same))));
           requester = ap (λ f. f.connection.requester) same;
           closing = λ n. ap (λ f. is_closing f.connection.phase) (sym same) ∙ n;
-          receiver = ap (λ f. f.connection.receiver) same;
-          inbox = ap (λ f. f.recorded.inbox_next) same;
+          reader = inl (record { receiver = ap (λ f. f.connection.receiver) same; inbox = ap (λ f. f.recorded.inbox_next) same; held = (broken_same beat v now).2 });
+          drains = λ t. inl (ap (λ f. is_closing f.connection.phase) (sym same) ∙ t);
           soft = ap (λ f. f.connection.soft) same;
           runs = subst (λ (g : Facts). RunsBetween s.config.own_flow s.facts (said_all (h ++ q)) g) (sym same)
               (subst (λ (ps : List Piece). RunsBetween s.config.own_flow s.facts ps s.facts) (sym (map_more h q))
@@ -309,7 +332,7 @@ ticking h s now = by_end (is_some s.ending)
         }
 
     by_end : (b : Bool) → Serves h s (if b then record s { moment = now } else broken_by beat v now) (if b then [] else said_all (heartbeats x s.facts s.last_sent s.unsent ++ said_breaking s v now))
-    by_end true = serves_silent h s (record s { moment = now }) [] refl (λ k. k) refl refl (refl, refl) none_silent
+    by_end true = serves_silent h s (record s { moment = now }) [] refl (λ k. k) refl refl (inl refl) (refl, refl) none_silent
     by_end false = going
 
 applied_silent : (runs : List Range) → Silent (said_all (applied_runs runs))
@@ -325,8 +348,8 @@ closing_plain : (ms : List Message) (m : Message) → Plain (said_all ms) → Pl
 closing_plain ms m a c flow b l =
     subst (λ (ps : List Piece). Runs flow (exactly b) l ps b l) (sym (map_more ms (m ∷ []))) (runs_append flow (exactly b) l (said_all ms) (said m ∷ []) b l b l (a flow b l) (c flow b l))
 
-turning : (h : List Entry) (s : State) (now : ℕ) → Serves h s (step s (turn_done now)) (writes s (turn_done now))
-turning h s now = by_end (is_some s.ending)
+turning : (h : List Entry) (s : State) (now : ℕ) → IsDrained s → Serves h s (step s (turn_done now)) (writes s (turn_done now))
+turning h s now drained = by_end (is_some s.ending)
   where
     x : Around
     x = around s 0 now
@@ -343,17 +366,17 @@ turning h s now = by_end (is_some s.ending)
           serves = q.no_turn (is_serving s.facts);
           requester = refl;
           closing = λ n. absurd (true≢false n);
-          receiver = refl;
-          inbox = refl;
+          reader = inl (record { receiver = refl; inbox = refl; held = inl refl });
+          drains = λ _. inr drained;
           soft = refl;
           runs = closing_plain (applied_runs (runs_of s.untold)) (terminate s.config.session 1 []) (applied_plain (runs_of s.untold)) (λ flow b l. ((tt, tt), (refl, refl))) s.config.own_flow (s.facts.recorded.sent + 1) (served s.facts.connection.serving);
           most = refl;
           sent = λ k. k;
         }
-    by_close false = serves_silent h s (behind (turned false x s.facts (runs_of s.untold))) _ refl (λ k. k) refl refl (applied_plain (runs_of s.untold) s.config.own_flow (s.facts.recorded.sent + 1) (served s.facts.connection.serving)) (applied_silent (runs_of s.untold))
+    by_close false = serves_silent h s (behind (turned false x s.facts (runs_of s.untold))) _ refl (λ k. k) refl refl (inl refl) (applied_plain (runs_of s.untold) s.config.own_flow (s.facts.recorded.sent + 1) (served s.facts.connection.serving)) (applied_silent (runs_of s.untold))
 
     by_end : (b : Bool) → Serves h s (if b then record s { moment = now } else behind (turn_ended x s.facts (runs_of s.untold))) (if b then [] else said_all (turn_ended x s.facts (runs_of s.untold)).written)
-    by_end true = serves_silent h s (record s { moment = now }) [] refl (λ k. k) refl refl (refl, refl) none_silent
+    by_end true = serves_silent h s (record s { moment = now }) [] refl (λ k. k) refl refl (inl refl) (refl, refl) none_silent
     by_end false = by_close (closes x s.facts)
 
 finishing : (h : List Entry) (s : State) (last now : ℕ) → Serves h s (step s (closed last now)) (writes s (closed last now))
@@ -366,20 +389,20 @@ finishing h s last now = by_end (is_some s.ending)
     behind m = made (record s { moment = now }) m now
 
     by_test : (b : Bool) → Serves h s (behind (told b x s.facts last)) (said_all (told b x s.facts last).written)
-    by_test true = record { asks_none = refl; begins_none = refl; serves = refl; requester = refl; closing = λ n. n; receiver = refl; inbox = refl; soft = refl; runs = ((tt, tt), (refl, refl)); most = refl; sent = λ k. k }
-    by_test false = serves_silent h s (behind (told false x s.facts last)) [] refl (λ k. k) refl refl (refl, refl) none_silent
+    by_test true = record { asks_none = refl; begins_none = refl; serves = refl; requester = refl; closing = λ n. n; reader = inl (record { receiver = refl; inbox = refl; held = inl refl }); drains = inl; soft = refl; runs = ((tt, tt), (refl, refl)); most = refl; sent = λ k. k }
+    by_test false = serves_silent h s (behind (told false x s.facts last)) [] refl (λ k. k) refl refl (inl refl) (refl, refl) none_silent
 
     by_end : (b : Bool)
         → Serves h s (if b then record s { moment = now; facts = outbox_finished s.facts last } else behind (finish_told x s.facts last)) (if b then [] else said_all (finish_told x s.facts last).written)
-    by_end true = serves_silent h s (record s { moment = now; facts = outbox_finished s.facts last }) [] refl (λ k. k) refl refl (refl, refl) none_silent
+    by_end true = serves_silent h s (record s { moment = now; facts = outbox_finished s.facts last }) [] refl (λ k. k) refl refl (inl refl) (refl, refl) none_silent
     by_end false = by_test (tells_finish x s.facts last)
 
 cut : (h : List Entry) (s : State) → Serves h s (step s link_end) []
 cut h s = by_end (is_some s.ending)
   where
-    by_end : (b : Bool) → Serves h s (if b then s else record s { ending = Some (link_ending (around s 0 s.moment) s.facts); pending = None }) []
-    by_end true = serves_silent h s s [] refl (λ k. k) refl refl (refl, refl) none_silent
-    by_end false = serves_silent h s (record s { ending = Some (link_ending (around s 0 s.moment) s.facts); pending = None }) [] refl (λ k. k) refl refl (refl, refl) none_silent
+    by_end : (b : Bool) → Serves h s (if b then s else record s { ending = Some (link_ending (around s 0 s.moment) s.facts); pending = None; held = [] }) []
+    by_end true = serves_silent h s s [] refl (λ k. k) refl refl (inl refl) (refl, refl) none_silent
+    by_end false = serves_silent h s (record s { ending = Some (link_ending (around s 0 s.moment) s.facts); pending = None; held = [] }) [] refl (λ k. k) refl refl (inr (refl, refl)) (refl, refl) none_silent
 
 entries_silent : (payloads : List (List ℕ)) → Silent (entries payloads)
 entries_silent [] = none_silent
@@ -407,7 +430,7 @@ again_closed flow f r n h = by_test (r.count == n) refl
     by_test false e = (refl, refl)
 
 resending : (h : List Entry) (s : State) (r : Option Range) (payloads : List (List ℕ)) (now : ℕ) → ((k : Range) → r ≡ Some k → length payloads ≤ k.count) → s.facts.connection.serving ≡ r → Serves h s (served_again s r payloads now) (written_again s.facts r payloads)
-resending h s None payloads now within same = serves_silent h s s [] refl (λ k. k) refl refl (refl, refl) none_silent
+resending h s None payloads now within same = serves_silent h s s [] refl (λ k. k) refl refl (inl refl) (refl, refl) none_silent
 resending h s (Some r) payloads now within same =
     let rest = rest_of r (length payloads) in
     let a = entries_silent payloads in let b = closing_range s.facts rest in
@@ -420,8 +443,8 @@ resending h s (Some r) payloads now within same =
           ∙ (inside_append true (entries payloads) (range_closed s.facts rest) ∙ (ap (λ c. inside c (range_closed s.facts rest)) (a.no_turn true) ∙ b.ends));
       requester = refl;
       closing = λ n. n;
-      receiver = refl;
-      inbox = refl;
+      reader = inl (record { receiver = refl; inbox = refl; held = inl refl });
+      drains = inl;
       soft = refl;
       runs = subst (λ (k : Option Range). Runs s.config.own_flow (exactly (s.facts.recorded.sent + 1)) (served k) (entries payloads ++ range_closed s.facts rest) (s.facts.recorded.sent + 1) (served rest)) (sym same)
           (runs_append s.config.own_flow (exactly (s.facts.recorded.sent + 1)) (Some r.count) (entries payloads) (range_closed s.facts rest) (s.facts.recorded.sent + 1) (Some (r.count - length payloads))
@@ -439,19 +462,38 @@ live_runs s payloads free =
     subst (λ (k : Option Range). Runs s.config.own_flow (exactly (s.facts.recorded.sent + 1)) (served k) (entries payloads) (s.facts.recorded.sent + length payloads + 1) (served k)) (sym free)
     (subst (λ (n : ℕ). Runs s.config.own_flow (exactly (s.facts.recorded.sent + 1)) None (entries payloads) n None) (omega arith) (live_run s.config.own_flow (s.facts.recorded.sent + 1) payloads))
 
+-- a held message is applied
+applying : (h : List Entry) (s : State) → s.ending ≡ None → IsSome (front_of s) → Serves h s (step s held_done) []
+applying h s going some =
+    let k = front_there s.facts.recorded.inbox_next s.held some in
+    subst (λ (m : Option Numbered). Serves h s (held_applied s m) []) (sym k.front_is) (record {
+      asks_none = refl;
+      begins_none = refl;
+      serves = refl;
+      requester = refl;
+      closing = λ n. n;
+      reader = inr (record { going = going; front = k; facts = refl; held = ap (λ (ms : List Numbered). drop 1 ms) k.held_is });
+      drains = inl;
+      soft = refl;
+      runs = (refl, refl);
+      most = refl;
+      sent = λ n. n;
+    })
+
 serves_call : (h : List Entry) (s : State) (call : Call) → IsOther h call → MayStand h s call → Serves h s (step s call) (writes s call)
 serves_call h s (begin now) other may = absurd other
 serves_call h s (frame incoming at now) other may = absurd other
 serves_call h s (bad_frame at now) other may = absurd other
 serves_call h s (did now) other may = absurd other
 serves_call h s (tick now) other may = ticking h s now
-serves_call h s (turn_done now) other may = turning h s now
+serves_call h s (turn_done now) other may = turning h s now may.may_call.1
 serves_call h s (closed last now) other may = finishing h s last now
 serves_call h s link_end other may = cut h s
-serves_call h s (live payloads now) other may = serves_silent h s (step s (live payloads now)) (entries payloads) refl (λ k. entries_reach h s.facts.recorded.sent payloads k may.comes.entries) refl refl (live_runs s payloads may.comes.free) (entries_silent payloads)
+serves_call h s (live payloads now) other may = serves_silent h s (step s (live payloads now)) (entries payloads) refl (λ k. entries_reach h s.facts.recorded.sent payloads k may.comes.entries) refl refl (inl refl) (live_runs s payloads may.comes.free) (entries_silent payloads)
 serves_call h s (again payloads now) other may = resending h s s.facts.connection.serving payloads now (range_within s.facts.connection.serving may.comes.range (length payloads) may.comes.serves may.comes.within) refl
-serves_call h s (taken count) other may = serves_silent h s (step s (taken count)) [] refl (λ k. k) refl refl (refl, refl) none_silent
-serves_call h s reserve other may = serves_silent h s (step s reserve) [] refl (λ k. k) refl refl (refl, refl) none_silent
+serves_call h s (taken count) other may = serves_silent h s (step s (taken count)) [] refl (λ k. k) refl refl (inl refl) (refl, refl) none_silent
+serves_call h s reserve other may = serves_silent h s (step s reserve) [] refl (λ k. k) refl refl (inl refl) (refl, refl) none_silent
+serves_call h s held_done other may = applying h s may.comes.going may.may_call.1
 
 pub serves_as : (h : List Entry) (s : State) (call : Call) → IsOther h call → MayStand h s call → Serves h s (run s (call ∷ [])) (written s (call ∷ []))
 serves_as h s call other may = subst (λ (out : List Piece). Serves h s (step s call) out) (sym (append-nil (writes s call))) (serves_call h s call other may)

@@ -1,14 +1,14 @@
 -- How a reply leaves an end, row by row: a gap is asked for at once, and what is recorded of a finish comes behind all of its flow.
-use Rattle.std.proofs.Common.{◌||◌, ◌≡◌, ℕ, ◌+◌, ◌-◌, ◌≤◌, ◌==◌, ◌&&◌, min, max, not, Bool, true, false, if◌then◌else◌, List, [], ◌∷◌, ◌++◌, Option, Some, None, refl, sym, subst, ◌∙◌, arith, true≢false, eqb-true}
+use Rattle.std.proofs.Common.{◌||◌, ◌≡◌, ℕ, ◌+◌, ◌-◌, ◌≤◌, ◌==◌, ◌&&◌, min, max, not, Bool, true, false, if◌then◌else◌, List, [], ◌∷◌, ◌++◌, Option, Some, None, refl, sym, subst, ◌∙◌, arith, true≢false, eqb-true, ◌<◌, nat_lt, ap}
 use Rattle.std.specs.Prelude.{is_some, is_none, unwrap_or, IfSome, Result, Ok, Err}
-use Rattle.std.proofs.lemmas.Bool.{and_parts}
+use Rattle.std.proofs.lemmas.Bool.{and_parts, ltb-false}
 use Rattle.fixp_msgs.specs.declared.numbering.Range.{Range}
 use Rattle.fixp_msgs.specs.declared.flow.Flow.{Flow}
 use Rattle.fixp_msgs.specs.Flow.{flow_code}
 use Rattle.fixp_msgs.specs.declared.messages.Expected.{Expected}
 use Rattle.fixp_msgs.specs.Message.{Message, negotiate, negotiation_response, negotiation_reject, establish, establishment_ack, establishment_reject, sequence, unsequenced_heartbeat, retransmit_request, retransmission, retransmit_reject, applied, not_applied, finished_sending, finished_receiving, terminate}
-use Rattle.flow_recover.specs.declared.receiver.Seen.{Seen}
-use Rattle.flow_recover.specs.declared.receiver.Seen.TheVariants.{Deliver, Gap, Repeat}
+use Rattle.flow_recover.specs.declared.numbers.Seen.{Seen}
+use Rattle.flow_recover.specs.declared.numbers.Seen.TheVariants.{Deliver, Hold, Gap, Repeat}
 use Rattle.flow_recover.specs.Receiving as receiver_is
 use Rattle.flow_recover.specs.Receiving.{Receiving}
 use Rattle.flow_retrans.specs.declared.requester.BadStart.{BadStart}
@@ -29,7 +29,7 @@ use Rattle.fixp_replies.specs.declared.facts.OwnFinish.TheVariants as own
 use Rattle.fixp_replies.specs.declared.facts.PeerFinish.{PeerFinish}
 use Rattle.fixp_replies.specs.declared.facts.PeerFinish.TheVariants as peer
 use Rattle.fixp_replies.specs.Incoming.{Incoming, application, session, wrong_order, too_short, unknown}
-use Rattle.fixp_replies.specs.Facts.{Around, is_own, in_phase, receiving, requesting, firm, serves, negotiated as as_negotiated, awaiting, gap_to_ask, having_asked, live_number, peer_last, last_among, awaits_gap, announced_number, peer_is_exchanged}
+use Rattle.fixp_replies.specs.Facts.{Around, is_own, in_phase, receiving, requesting, firm, serves, negotiated as as_negotiated, awaiting, gap_to_ask, having_asked, live_number, peer_last, last_among, awaits_gap, announced_number, peer_is_exchanged, gap_of, holding_too}
 use Rattle.fixp_replies.specs.Outcomes.{Outcome, Row, row, within, goes_on, accepts, rejects, ignores, ends_with, ends, breaks, not_in_phase, skip_of, told_skip, opening_negotiate, opening_establish}
 use Rattle.fixp_replies.specs.Announcing.{Announced, jumped_over, announced, announcement_fault, refuses}
 use Rattle.fixp_replies.specs.Handshake.{awaits_client, serves_client, established, acknowledged_by, acknowledges, establish_rows, established_again_rows, establish_rows_in, shaken, reached}
@@ -52,16 +52,21 @@ pub record Ended (numbered : Bool) (last : Option ℕ) (inbox : ℕ) (finish : P
 abbrev pub Ends : Flow → Facts → Type 0
 Ends flow f = Ended (is_sequenced flow) f.recorded.peer_last f.recorded.inbox_next f.connection.peer_finish
 
--- a reader of a recoverable flow waits for what its inbox awaits
-abbrev pub Waits : Flow → Facts → Type 0
-Waits flow f = is_recoverable flow ≡ true → f.connection.receiver.next ≡ f.recorded.inbox_next
+-- a reader of a recoverable flow waits for what its inbox awaits, past which all lies that it holds
+abbrev pub Waits : Around → Facts → Type 0
+Waits x f = is_recoverable x.config.peer_flow ≡ true → (f.connection.receiver.next ≡ f.recorded.inbox_next) × IfSome x.held (λ n. f.recorded.inbox_next < n)
+
+-- what stands around it, with the message that is held, if one is
+abbrev pub holding_so : Around → Option ℕ → Around
+holding_so x None = x
+holding_so x (Some n) = holding_too x n
 
 -- what an outcome keeps: where the connection goes on, no gap is left to be asked for
 pub record Settles (x : Around) (f : Facts) (o : Outcome) : Type 0 where
-  pub asked : gap_to_ask f ≡ None → o.ending ≡ None → gap_to_ask o.next ≡ None
-  pub ends : Waits x.config.peer_flow f → Ends x.config.peer_flow f → Ends x.config.peer_flow o.next
+  pub asked : gap_to_ask x f ≡ None → o.ending ≡ None → gap_to_ask (holding_so x o.holds) o.next ≡ None
+  pub ends : Waits x f → Ends x.config.peer_flow f → Ends x.config.peer_flow o.next
 
-rise : (t : Bool) (l : Option ℕ) (a b : ℕ) (q : PeerFinish) → a ≤ b → Ended t l a q → Ended t l b q
+pub rise : (t : Bool) (l : Option ℕ) (a b : ℕ) (q : PeerFinish) → a ≤ b → Ended t l a q → Ended t l b q
 rise t l a b q h e = record { reached = λ s. more l (e.reached s); recorded = e.recorded }
   where
     more : (k : Option ℕ) → IfSome k (λ n. n + 1 ≤ a) → IfSome k (λ n. n + 1 ≤ b)
@@ -69,14 +74,14 @@ rise t l a b q h e = record { reached = λ s. more l (e.reached s); recorded = e
     more (Some n) g = omega (arith, g, h)
 
 -- once it is asked for, a gap is not to be asked for
-asked_once : (g : Facts) → gap_to_ask (having_asked g (gap_to_ask g)) ≡ None
-asked_once g = by_gap (gap_to_ask g) refl
+asked_once : (x : Around) (g : Facts) → gap_to_ask x (having_asked g (gap_to_ask x g)) ≡ None
+asked_once x g = by_gap (gap_to_ask x g) refl
   where
-    by_test : (b : Bool) → (if b || true then None else receiver_is.gap g.connection.receiver) ≡ None
+    by_test : (b : Bool) → (if b || true then None else gap_of x g) ≡ None
     by_test true = refl
     by_test false = refl
 
-    by_gap : (r : Option Range) → gap_to_ask g ≡ r → gap_to_ask (having_asked g r) ≡ None
+    by_gap : (r : Option Range) → gap_to_ask x g ≡ r → gap_to_ask x (having_asked g r) ≡ None
     by_gap None e = e
     by_gap (Some r) e = by_test g.connection.soft
 
@@ -86,10 +91,10 @@ having_ends flow g (Some r) e = e
 
 -- the connection goes on
 going : (x : Around) (f g : Facts) (act : Act) (written : List Message)
-    → (Waits x.config.peer_flow f → Ends x.config.peer_flow f → Ends x.config.peer_flow g) → Settles x f (goes_on x act written g)
+    → (Waits x f → Ends x.config.peer_flow f → Ends x.config.peer_flow g) → Settles x f (goes_on x act written g)
 going x f g act written h = record {
-  asked = λ _ _. asked_once g;
-  ends = λ w e. having_ends x.config.peer_flow g (gap_to_ask g) (h w e);
+  asked = λ _ _. asked_once x g;
+  ends = λ w e. having_ends x.config.peer_flow g (gap_to_ask x g) (h w e);
 }
 
 -- it stays as it was
@@ -143,14 +148,18 @@ taking x f (Deliver n) rec is = going x f (awaiting (counted f) (n + 1)) (acts.A
     let d = delivers f.connection.receiver.next (receiver_is.number f.connection.receiver) n is in
     let d0 = d.0 in
     let d1 = d.1 in
-    let waits = w rec in
+    let waits = (w rec).0 in
     rise (is_sequenced x.config.peer_flow) f.recorded.peer_last f.recorded.inbox_next (n + 1) f.connection.peer_finish (omega (arith, d0, d1, waits)) e)
+taking x f (Hold n) rec is = record {
+  asked = λ _ _. asked_once (holding_too x n) (counted f);
+  ends = λ _ e. having_ends x.config.peer_flow (counted f) (gap_to_ask (holding_too x n) (counted f)) e;
+}
 taking x f (Gap n) rec is = going x f (counted f) acts.Nothing [] (λ _ e. e)
 taking x f (Repeat n) rec is = going x f (counted f) acts.Nothing [] (λ _ e. e)
 
 -- the finish is answered where the inbox has come past its last number
-answering : (x : Around) (f g : Facts) (last : ℕ) → (Waits x.config.peer_flow f → Ends x.config.peer_flow f → Ends x.config.peer_flow g)
-    → (Waits x.config.peer_flow f → is_sequenced x.config.peer_flow ≡ true → last + 1 ≤ g.recorded.inbox_next) → Settles x f (answers_finish x g last)
+answering : (x : Around) (f g : Facts) (last : ℕ) → (Waits x f → Ends x.config.peer_flow f → Ends x.config.peer_flow g)
+    → (Waits x f → is_sequenced x.config.peer_flow ≡ true → last + 1 ≤ g.recorded.inbox_next) → Settles x f (answers_finish x g last)
 answering x f g last h past = going x f (peer_finished g (peer.Exchanged last) (Some (unwrap_or g.recorded.peer_last last))) (finish_act g.recorded.peer_last last) (finished_receiving x.config.session ∷ []) (λ w e. let k = h w e in
     record { reached = λ t. recorded_as g.recorded.peer_last (k.reached t) (past w t); recorded = λ _. refl })
   where
@@ -173,19 +182,38 @@ last_is_live x f last none numbered =
     by_tests false true false false t e = absurd (true≢false e)
     by_tests false false missing right t e = absurd (true≢false (sym t))
 
-live_reached : (x : Around) (f : Facts) → receiver_is.gap f.connection.receiver ≡ None → Waits x.config.peer_flow f → live_number x f ≤ f.recorded.inbox_next
+-- no gap is left of a recoverable flow, where the number awaited is the live one
+pub gap_reached : (h : Option ℕ) (r : Receiving) (inbox : ℕ) → r.next ≡ inbox → IfSome h (λ n. inbox < n) → receiver_is.gap h r ≡ None → r.live ≤ r.next
+gap_reached None r inbox w held e = no_gap_live r e
+gap_reached (Some n) r inbox w held e = by_test (nat_lt r.next n) refl e
+  where
+    missing : Range
+    missing = record { from = r.next; count = n - r.next }
+
+    by_test : (b : Bool) → nat_lt r.next n ≡ b → (if b then Some missing else None) ≡ None → r.live ≤ r.next
+    by_test true t e = absurd cc
+    by_test false t e = let low = ltb-false r.next n t in absurd (omega (arith, w, held, low))
+
+pub recoverable_gap : (x : Around) (f : Facts) → is_recoverable x.config.peer_flow ≡ true → gap_of x f ≡ receiver_is.gap x.held f.connection.receiver
+recoverable_gap x f rec = ap (λ (b : Bool). if b then receiver_is.gap x.held f.connection.receiver else None) rec
+
+live_reached : (x : Around) (f : Facts) → gap_of x f ≡ None → Waits x f → live_number x f ≤ f.recorded.inbox_next
 live_reached x f none waits = by_flow (is_recoverable x.config.peer_flow) refl
   where
     by_flow : (r : Bool) → is_recoverable x.config.peer_flow ≡ r → (if r then f.connection.receiver.live else f.recorded.inbox_next) ≤ f.recorded.inbox_next
-    by_flow true rec = let low = no_gap_live f.connection.receiver none in let w = waits rec in omega (arith, low, w)
+    by_flow true rec =
+        let w = waits rec in
+        let same = w.0 in
+        let low = gap_reached x.held f.connection.receiver f.recorded.inbox_next w.0 w.1 (sym (recoverable_gap x f rec) ∙ none) in
+        omega (arith, low, same)
     by_flow false rec = omega arith
 
 finishing : (x : Around) (f : Facts) (last : Option ℕ) → is_some (finish_fault x f last) ≡ false → Settles x f (finished x f (finished_last x last))
 finishing x f last none =
     let n = finished_last x last in
-    by_row (Settles x f) (is_some (receiver_is.gap f.connection.receiver)) (accepts x [] (peer_finished f (peer.Read n) f.recorded.peer_last)) (answers_finish x f n)
+    by_row (Settles x f) (is_some (gap_of x f)) (accepts x [] (peer_finished f (peer.Read n) f.recorded.peer_last)) (answers_finish x f n)
     (λ _. going x f (peer_finished f (peer.Read n) f.recorded.peer_last) acts.Nothing [] (λ _ e. record { reached = e.reached; recorded = λ t. absurd (true≢false (sym t)) }))
-    (λ whole. answering x f f n (λ _ e. e) (λ w s. let is = last_is_live x f last none s in let low = live_reached x f (some-none (receiver_is.gap f.connection.receiver) whole) w in omega (arith, is, low)))
+    (λ whole. answering x f f n (λ _ e. e) (λ w s. let is = last_is_live x f last none s in let low = live_reached x f (some-none (gap_of x f) whole) w in omega (arith, is, low)))
 
 -- a Sequence that is not past a finish which waits announces the number behind its last one
 not_past : (s : Bool) (recorded : Option ℕ) (q : PeerFinish) (next : ℕ) → s ≡ true → is_some (awaits_gap q) ≡ true
@@ -200,16 +228,18 @@ none_so None e = refl
 none_so (Some a) e = absurd (true≢false (sym e))
 
 -- so the inbox has come past it, where the gap is filled
-filled_past : (x : Around) (f : Facts) (next : ℕ) → Waits x.config.peer_flow f → is_past_finish x f next ≡ false → is_sequenced x.config.peer_flow ≡ true → is_filled (announced x f (Some next)).facts ≡ true
+filled_past : (x : Around) (f : Facts) (next : ℕ) → Waits x f → is_past_finish x f next ≡ false → is_sequenced x.config.peer_flow ≡ true → is_filled x (announced x f (Some next)).facts ≡ true
     → unwrap_or (awaits_gap (announced x f (Some next)).facts.connection.peer_finish) 0 + 1 ≤ (announced x f (Some next)).facts.recorded.inbox_next
 filled_past x f next waits early numbered filled =
-    by_announced (λ a. is_filled a.facts ≡ true → unwrap_or (awaits_gap a.facts.connection.peer_finish) 0 + 1 ≤ a.facts.recorded.inbox_next) x f (Some next)
-    (λ rec full. let two = and_parts (is_some (awaits_gap f.connection.peer_finish)) (is_none (receiver_is.gap (receiver_is.announced f.connection.receiver next))) full in
+    by_announced (λ a. is_filled x a.facts ≡ true → unwrap_or (awaits_gap a.facts.connection.peer_finish) 0 + 1 ≤ a.facts.recorded.inbox_next) x f (Some next)
+    (λ rec full. let a : Facts = firm (receiving f (receiver_is.announced f.connection.receiver next)) in
+    let two = and_parts (is_some (awaits_gap f.connection.peer_finish)) (is_none (gap_of x a)) full in
     let is = named two.0 in
-    let low = no_gap_live (receiver_is.announced f.connection.receiver next) (none_so (receiver_is.gap (receiver_is.announced f.connection.receiver next)) two.1) in
     let w = waits rec in
-    omega (arith, is, low, w))
-    (λ rec idem full. let is = named (and_parts (is_some (awaits_gap f.connection.peer_finish)) (is_none (receiver_is.gap f.connection.receiver)) full).0 in omega (arith, is))
+    let same = w.0 in
+    let low = gap_reached x.held (receiver_is.announced f.connection.receiver next) f.recorded.inbox_next w.0 w.1 (sym (recoverable_gap x a rec) ∙ none_so (gap_of x a) two.1) in
+    omega (arith, is, low, same))
+    (λ rec idem full. let is = named (and_parts (is_some (awaits_gap f.connection.peer_finish)) (is_none (gap_of x (awaiting f next))) full).0 in omega (arith, is))
     (λ rec idem full. absurd (true≢false (sym numbered ∙ other_sequenced x.config.peer_flow false rec idem)))
     filled
   where
@@ -226,7 +256,7 @@ following x f next none =
     let a = announced x g (Some next) in
     by_row (Settles x f) (is_past_finish x g next) (breaks x g (AfterFinish (unwrap_or (peer_last g) 0) next)) (sequence_taken x a)
     (λ _. ending x f g 2 _ (λ k. k))
-    (λ early. by_row (Settles x f) (is_filled a.facts) (answers_finish x a.facts (unwrap_or (awaits_gap a.facts.connection.peer_finish) 0)) (goes_on x (skip_of a.skipped) (told_skip a.skipped) a.facts)
+    (λ early. by_row (Settles x f) (is_filled x a.facts) (answers_finish x a.facts (unwrap_or (awaits_gap a.facts.connection.peer_finish) 0)) (goes_on x (skip_of a.skipped) (told_skip a.skipped) a.facts)
     (λ filled. answering x f a.facts (unwrap_or (awaits_gap a.facts.connection.peer_finish) 0) (λ _ e. announced_ends x g 7 (Some next) none e) (λ w s. filled_past x g next w early s filled))
     (λ _. going x f a.facts (skip_of a.skipped) (told_skip a.skipped) (λ _ e. announced_ends x g 7 (Some next) none e)))
 

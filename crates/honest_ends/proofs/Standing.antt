@@ -19,7 +19,7 @@ use Rattle.honest_ends.specs.Worlds.{Match}
 use Rattle.honest_ends.specs.Numbers.{IsFlowing}
 use Rattle.honest_ends.proofs.Shapes.{IsFree, IsAck, all_free_flow}
 use Rattle.honest_ends.proofs.PhaseOpening.{free_reply, answer_reply}
-use Rattle.honest_ends.proofs.Phased.{Shaking, opens, answering, acknowledging, standing, refusing, unshaken_not, established_not, no_ending, to_acceptor, to_initiator}
+use Rattle.honest_ends.proofs.Phased.{Shaking, opens, answering, acknowledging, standing, refusing, unshaken_not, established_not, no_ending, to_acceptor, to_initiator, Unheld}
 
 no_two : (p q : Phase) → p ≡ q → is_shaken q ≡ false → is_shaken p ≡ true → ⊥
 no_two p q e n h = true≢false (sym h ∙ (ap (λ k. is_shaken k) e ∙ n))
@@ -89,24 +89,24 @@ not_done : (f g : Facts) → g ≡ f → is_shaken f.connection.phase ≡ false 
 not_done f g same before done = true≢false (sym done ∙ (ap (λ (k : Facts). is_shaken k.connection.phase) same ∙ before))
 
 pub initiator_opening : (x : Around) (ca : EndConfig) (fi : Facts) (ei : Option Ending) (fa : Facts) (p : Piece) (outward left : List Piece) → Match x.config ca → ei ≡ None → (fa.connection.soft ≡ true → is_newer x.config ≡ true)
-    → Shaking x.config ca fi ei fa outward (p ∷ left) → is_shaken fi.connection.phase ≡ false → is_shaken (reply_of x fi (incoming_of p)).next.connection.phase ≡ true → Opening x.config ca fa p outward
-initiator_opening x ca fi ei fa p outward left m going newer (opens bi qi idle qa one free) before done =
-    absurd (not_done fi (reply_of x fi (incoming_of p)).next (free_reply x fi ca p (to_initiator x.config ca m) qi free.0).same before done)
-initiator_opening x ca fi ei fa p outward left m going newer (answering bi qi idle qa free (inl one)) before done =
-    absurd (true≢false (sym done ∙ (answer_reply x fi ca fi.connection.phase p (to_initiator x.config ca m) refl bi qi one.0).before))
-initiator_opening x ca fi ei fa p outward left m going newer (answering bi qi idle qa free (inr more)) before done =
-    absurd (not_done fi (reply_of x fi (incoming_of p)).next (free_reply x fi ca p (to_initiator x.config ca m) qi more.0).same before done)
-initiator_opening x ca fi ei fa p outward left m going newer (acknowledging e qi est free (inl first)) before done = (free, inr (first.0, newer))
-initiator_opening x ca fi ei fa p outward left m going newer (acknowledging e qi est free (inr more)) before done =
-    absurd (not_done fi (reply_of x fi (incoming_of p)).next (free_reply x fi ca p (to_initiator x.config ca m) qi more.0).same before done)
-initiator_opening x ca fi ei fa p outward left m going newer (standing shaken est out home) before done = absurd (unshaken_not (is_shaken fi.connection.phase) before shaken)
-initiator_opening x ca fi ei fa p outward left m going newer (refusing over bi qi est free) before done = absurd (no_ending ei going over)
+    → Unheld x fi → Shaking x.config ca fi ei fa outward (p ∷ left) → is_shaken fi.connection.phase ≡ false → is_shaken (reply_of x fi (incoming_of p)).next.connection.phase ≡ true → Opening x.config ca fa p outward
+initiator_opening x ca fi ei fa p outward left m going newer none (opens bi qi idle qa one free) before done =
+    absurd (not_done fi (reply_of x fi (incoming_of p)).next (free_reply x fi ca p (to_initiator x.config ca m) (none before) qi free.0).same before done)
+initiator_opening x ca fi ei fa p outward left m going newer none (answering bi qi idle qa free (inl one)) before done =
+    absurd (true≢false (sym done ∙ (answer_reply x fi ca fi.connection.phase p (to_initiator x.config ca m) refl bi (none before) qi one.0).before))
+initiator_opening x ca fi ei fa p outward left m going newer none (answering bi qi idle qa free (inr more)) before done =
+    absurd (not_done fi (reply_of x fi (incoming_of p)).next (free_reply x fi ca p (to_initiator x.config ca m) (none before) qi more.0).same before done)
+initiator_opening x ca fi ei fa p outward left m going newer none (acknowledging e qi est free (inl first)) before done = (free, inr (first.0, newer))
+initiator_opening x ca fi ei fa p outward left m going newer none (acknowledging e qi est free (inr more)) before done =
+    absurd (not_done fi (reply_of x fi (incoming_of p)).next (free_reply x fi ca p (to_initiator x.config ca m) (none before) qi more.0).same before done)
+initiator_opening x ca fi ei fa p outward left m going newer none (standing shaken est out home) before done = absurd (unshaken_not (is_shaken fi.connection.phase) before shaken)
+initiator_opening x ca fi ei fa p outward left m going newer none (refusing over bi qi est free) before done = absurd (no_ending ei going over)
 
-pub acceptor_opening : (ci : EndConfig) (x : Around) (fi : Facts) (ei : Option Ending) (fa : Facts) (p : Piece) (left homeward : List Piece) → Match ci x.config → Shaking ci x.config fi ei fa (p ∷ left) homeward
+pub acceptor_opening : (ci : EndConfig) (x : Around) (fi : Facts) (ei : Option Ending) (fa : Facts) (p : Piece) (left homeward : List Piece) → Match ci x.config → Unheld x fa → Shaking ci x.config fi ei fa (p ∷ left) homeward
     → is_shaken fa.connection.phase ≡ false → is_shaken (reply_of x fa (incoming_of p)).next.connection.phase ≡ true → Opening x.config ci fi p homeward
-acceptor_opening ci x fi ei fa p left homeward m (opens bi qi idle qa one free) before done = (free, inl bi)
-acceptor_opening ci x fi ei fa p left homeward m (answering bi qi idle qa free one) before done =
-    absurd (not_done fa (reply_of x fa (incoming_of p)).next (free_reply x fa ci p (to_acceptor ci x.config m) qa free.0).same before done)
-acceptor_opening ci x fi ei fa p left homeward m (acknowledging e qi est free first) before done = absurd (established_not fa.connection.phase est before)
-acceptor_opening ci x fi ei fa p left homeward m (standing shaken est out home) before done = absurd (established_not fa.connection.phase est before)
-acceptor_opening ci x fi ei fa p left homeward m (refusing over bi qi est free) before done = absurd (established_not fa.connection.phase est before)
+acceptor_opening ci x fi ei fa p left homeward m none (opens bi qi idle qa one free) before done = (free, inl bi)
+acceptor_opening ci x fi ei fa p left homeward m none (answering bi qi idle qa free one) before done =
+    absurd (not_done fa (reply_of x fa (incoming_of p)).next (free_reply x fa ci p (to_acceptor ci x.config m) (none before) qa free.0).same before done)
+acceptor_opening ci x fi ei fa p left homeward m none (acknowledging e qi est free first) before done = absurd (established_not fa.connection.phase est before)
+acceptor_opening ci x fi ei fa p left homeward m none (standing shaken est out home) before done = absurd (established_not fa.connection.phase est before)
+acceptor_opening ci x fi ei fa p left homeward m none (refusing over bi qi est free) before done = absurd (established_not fa.connection.phase est before)

@@ -1,4 +1,5 @@
 -- The finishes under way between two ends, and how each call of an end moves them.
+use Rattle.session_model.specs.Inbox.{Numbered}
 use Rattle.std.proofs.Common.{◌≡◌, ℕ, ◌+◌, ◌≤◌, ◌==◌, ◌&&◌, not, Bool, true, false, if◌then◌else◌, List, [], ◌∷◌, ◌++◌, length, Option, Some, None, refl, sym, ap, subst, ◌∙◌, arith, true≢false, append-nil, eqb-true}
 use Rattle.std.specs.Prelude.{⊤, is_some, is_none, IfSome}
 use Rattle.std.specs.List.{AllByRecursion}
@@ -17,7 +18,7 @@ use Rattle.fixp_replies.specs.declared.facts.OwnFinish.TheVariants as own
 use Rattle.fixp_replies.specs.Facts.{Around, in_phase, is_open}
 use Rattle.fixp_replies.specs.Outcomes.{Outcome}
 use Rattle.fixp_replies.specs.Events.{Made, heartbeat, heartbeats, is_due, lateness, applied_runs, closes, turn_ended, outbox_finished, tells_finish, finish_told, link_ending}
-use Rattle.fixp_machine.specs.Machine.{State, Call, begin, frame, bad_frame, did, tick, turn_done, closed, link_end, live, again, taken, reserve, around, bytes_of, wrote, made, broken_by, served_again, rest_of, step, run}
+use Rattle.fixp_machine.specs.Machine.{State, Call, begin, frame, bad_frame, did, tick, turn_done, closed, link_end, live, again, taken, reserve, around, bytes_of, wrote, made, broken_by, served_again, rest_of, step, run, held_done, past_held, held_applied, front_of}
 use Rattle.connection_laws.specs.Writing.{Piece, said, said_all, entries, said_breaking, range_closed, written_again, writes}
 use Rattle.connection_laws.specs.Standing.{AreEntries, MayStand}
 use Rattle.connection_laws.proofs.Owned.{entries_reach}
@@ -243,7 +244,7 @@ finishing n s last now is = by_end (is_some s.ending)
 cut : (own : Flow) (n : ℕ) (s : State) → Tells own n s.facts (step s link_end).facts []
 cut own n s = by_end (is_some s.ending)
   where
-    by_end : (b : Bool) → Tells own n s.facts (if b then s else record s { ending = Some (link_ending (around s 0 s.moment) s.facts); pending = None }).facts []
+    by_end : (b : Bool) → Tells own n s.facts (if b then s else record s { ending = Some (link_ending (around s 0 s.moment) s.facts); pending = None; held = [] }).facts []
     by_end true = silent_same own n s.facts s.facts [] refl refl none_silent
     by_end false = silent_same own n s.facts s.facts [] refl refl none_silent
 
@@ -266,6 +267,10 @@ going_live : (own : Flow) (h : List Entry) (s : State) (payloads : List (List �
 going_live own h s payloads now are = silent_tells own (length h) s.facts (step s (live payloads now)).facts (entries payloads) refl refl refl (λ k. k)
     (λ c. let sent = c.sent in let reach = entries_reach h s.facts.recorded.sent payloads (omega (arith, sent)) are in record { finish = c.finish; sent = omega (arith, sent, reach) }) (entries_silent payloads)
 
+applying : (own : Flow) (n : ℕ) (s : State) (m : Option Numbered) → Tells own n s.facts (held_applied s m).facts []
+applying own n s None = silent_same own n s.facts s.facts [] refl refl none_silent
+applying own n s (Some m) = silent_same own n s.facts (past_held s.facts m) [] refl refl none_silent
+
 tells_call : (h : List Entry) (s : State) (call : Call) → IsOther h call → MayStand h s call → Tells s.config.own_flow (length h) s.facts (step s call).facts (writes s call)
 tells_call h s (begin now) other may = absurd other
 tells_call h s (frame incoming at now) other may = absurd other
@@ -279,6 +284,7 @@ tells_call h s (live payloads now) other may = going_live s.config.own_flow h s 
 tells_call h s (again payloads now) other may = resending s.config.own_flow (length h) s s.facts.connection.serving payloads now
 tells_call h s (taken count) other may = silent_same s.config.own_flow (length h) s.facts s.facts [] refl refl none_silent
 tells_call h s reserve other may = silent_same s.config.own_flow (length h) s.facts s.facts [] refl refl none_silent
+tells_call h s held_done other may = applying s.config.own_flow (length h) s (front_of s)
 
 pub tells_as : (h : List Entry) (s : State) (call : Call) → IsOther h call → MayStand h s call → Tells s.config.own_flow (length h) s.facts (run s (call ∷ [])).facts (written s (call ∷ []))
 tells_as h s call other may = subst (λ (out : List Piece). Tells s.config.own_flow (length h) s.facts (step s call).facts out) (sym (append-nil (writes s call))) (tells_call h s call other may)

@@ -1,11 +1,10 @@
 -- The numbers under way between two ends: what a reader awaits, and what a writer's messages make of it.
-use Rattle.std.specs.Prelude.{◌≡◌, ⊤, ℕ, ◌+◌, ◌-◌, ◌≤◌, ◌&&◌, ◌⊎◌, Bool, true, false, nat_lt, if◌then◌else◌, List, [], ◌∷◌, Option, Some, None, is_some, unwrap_or, IfSome, IsSome}
+use Rattle.std.specs.Prelude.{◌≡◌, ⊤, ℕ, ◌+◌, ◌-◌, ◌<◌, ◌≤◌, ◌&&◌, ◌⊎◌, Bool, true, false, nat_lt, if◌then◌else◌, List, [], ◌∷◌, Option, Some, None, is_some, unwrap_or, IfSome, IsSome}
 use Rattle.session_model.specs.Journal.{Entry}
 use Rattle.fixp_msgs.specs.declared.numbering.Range.{Range}
 use Rattle.fixp_msgs.specs.declared.flow.Flow.{Flow}
 use Rattle.fixp_msgs.specs.Message.{Message, negotiate, negotiation_response, negotiation_reject, establish, establishment_ack, establishment_reject, sequence, unsequenced_heartbeat, retransmit_request, retransmission, retransmit_reject, applied, not_applied, finished_sending, finished_receiving, terminate}
 use Rattle.flow_recover.specs.Receiving as receiver_is
-use Rattle.flow_recover.specs.Receiving.{Receiving}
 use Rattle.flow_retrans.specs.declared.request.Request.{Request}
 use Rattle.flow_retrans.specs.declared.request.Request.TheVariants as requests
 use Rattle.fixp_shake.specs.declared.config.EndConfig.{EndConfig}
@@ -20,7 +19,7 @@ use Rattle.fixp_replies.specs.Outcomes.{Outcome}
 use Rattle.fixp_replies.specs.Expecting.{is_newer}
 use Rattle.fixp_replies.specs.Replies.{reply_of}
 use Rattle.fixp_machine.specs.Machine.{State, Call, run}
-use Rattle.fixp_machine.specs.Sound.{may_return}
+use Rattle.fixp_machine.specs.Sound.{may_return, Matches}
 use Rattle.connection_laws.specs.Writing.{Piece, said, entry, said_all}
 use Rattle.connection_laws.specs.Standing.{MayStand}
 use Rattle.two_ends.specs.Reading.{incoming_of}
@@ -165,12 +164,6 @@ to_come requests.Nothing = None
 to_come (requests.Asked range) = None
 to_come (requests.Coming range next left) = Some left
 
--- what is asked for and what comes lie below the live number
-abbrev pub Matches : Receiving → Request → Type 0
-Matches r requests.Nothing = r.again ≡ None
-Matches r (requests.Asked range) = (r.again ≡ None) × (range.from + range.count ≤ r.live)
-Matches r (requests.Coming range next left) = (r.again ≡ Some next) × (next + left ≤ r.live)
-
 -- a reader of a recoverable flow: what it awaits is not past the live number, and while it is soft it asks for nothing
 pub record Line (f : Facts) : Type 0 where
   pub waits : f.connection.receiver.next ≡ f.recorded.inbox_next
@@ -190,9 +183,13 @@ expecting f = if goes_softly f then softly f.connection.receiver.next f.connecti
 abbrev pub lowest : Facts → ℕ
 lowest f = if f.connection.soft then f.connection.receiver.next else f.connection.receiver.live
 
+-- and what is held lies below that
+abbrev pub HeldBelow : Around → Facts → Type 0
+HeldBelow x f = IfSome x.held (λ n. n < lowest f)
+
 -- a reader of another flow: it has no gap, asks for nothing, and is not soft
 pub record Idle (f : Facts) : Type 0 where
-  pub even : receiver_is.gap f.connection.receiver ≡ None
+  pub even : receiver_is.gap None f.connection.receiver ≡ None
   pub none : f.connection.requester ≡ requests.Nothing
   pub firm : f.connection.soft ≡ false
 
@@ -203,18 +200,27 @@ pub record Reaches (f : Facts) (least : ℕ) (a : Awaited) (l : Option ℕ) : Ty
   pub reach : expecting f ≡ a
   pub left : to_come f.connection.requester ≡ l
 
+-- the inbox awaited the message that came, and awaits the next one: none is held, and a retransmission comes in as before
+pub record Applies (f : Facts) (l : Option ℕ) (o : Outcome) : Type 0 where
+  pub number : receiver_is.number f.connection.receiver ≡ f.recorded.inbox_next
+  pub next : o.next.recorded.inbox_next ≡ f.recorded.inbox_next + 1
+  pub none : o.holds ≡ None
+  pub left : is_some l ≡ is_some (to_come f.connection.requester)
+
 -- A reply that breaks no rule of numbers, nor of a retransmission where that holds of the message. Behind it the reader has come so far,
--- where its connection goes on, and where it ends its inbox awaits what it did
+-- where its connection goes on, and where it ends its inbox awaits what it did, as it does but for a message that it awaited
 pub record Lined (A : Type 0) (f : Facts) (a : Awaited) (l : Option ℕ) (o : Outcome) : Type 0 where
   pub fine : InNumbers A o
   pub next : o.ending ≡ None → Reaches o.next f.recorded.inbox_next a l
   pub over : IsSome o.ending → o.next.recorded.inbox_next ≡ f.recorded.inbox_next
+  pub moved : (o.next.recorded.inbox_next ≡ f.recorded.inbox_next) ⊎ Applies f l o
 
 -- a message that a reader of a recoverable flow expects, whose numbers are within the limit
 pub record Before (x : Around) (f : Facts) (p : Piece) : Type 0 where
   pub recoverable : is_recoverable x.config.peer_flow ≡ true
   pub line : Line f
   pub fits : Fits x.config.peer_flow p (at_most (lowest f)) (to_come f.connection.requester)
+  pub held : HeldBelow x f
   pub top : starts x.config.peer_flow p ≡ true → live_after x.config.peer_flow p f.connection.receiver.live (to_come f.connection.requester) ≤ x.most + 1
 
 -- the reply to it

@@ -3,7 +3,7 @@ use Rattle.std.specs.Prelude.{◌≡◌, ⊤, ℕ, ◌≤◌, List, [], ◌∷�
 use Rattle.session_model.specs.Journal.{Entry}
 use Rattle.fixp_shake.specs.declared.config.EndConfig.{EndConfig}
 use Rattle.fixp_shake.specs.declared.config.Role.TheVariants as roles
-use Rattle.fixp_machine.specs.Machine.{State, Call, begin, frame, bad_frame, did, tick, turn_done, closed, link_end, live, again, taken, reserve, step, run, fresh}
+use Rattle.fixp_machine.specs.Machine.{State, Call, begin, frame, bad_frame, did, tick, turn_done, closed, link_end, live, again, taken, reserve, held_done, IsDrained, step, run, fresh}
 use Rattle.connection_laws.specs.Writing.{Piece, writes}
 use Rattle.connection_laws.specs.Standing.{IsOpen, MayStand}
 use Rattle.two_ends.specs.Reading.{incoming_of}
@@ -75,13 +75,18 @@ IsOther h (live payloads now) = ⊤
 IsOther h (again payloads now) = ⊤
 IsOther h (taken count) = ⊤
 IsOther h reserve = ⊤
+IsOther h held_done = ⊤
 
--- When a step may come, where the outboxes come to have these entries: an end reads where its connection is open, and each call
--- may come as it may on any connection
+-- An end reads where its connection is open, and the held messages that the inbox awaits are applied
+abbrev pub MayRead : State → Type 0
+MayRead s = IsOpen s × IsDrained s
+
+-- When a step may come, where the outboxes come to have these entries: an end reads where it may, and each call may come as it may on
+-- any connection
 abbrev pub MayStep : (of_initiator of_acceptor : List Entry) → World → Step → Type 0
 MayStep hi ha w (meets now_i now_a) = ⊤
-MayStep hi ha w (initiator_reads at now) = IsOpen w.initiator
-MayStep hi ha w (acceptor_reads at now) = IsOpen w.acceptor
+MayStep hi ha w (initiator_reads at now) = MayRead w.initiator
+MayStep hi ha w (acceptor_reads at now) = MayRead w.acceptor
 MayStep hi ha w (initiator_does call) = IsOther hi call × MayStand hi w.initiator call
 MayStep hi ha w (acceptor_does call) = IsOther ha call × MayStand ha w.acceptor call
 

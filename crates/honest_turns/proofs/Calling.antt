@@ -2,13 +2,14 @@
 use Rattle.std.proofs.Common.{◌≡◌, List, [], ◌∷◌, ◌++◌, Bool, true, false, if◌then◌else◌, Option, Some, None, refl, sym, ap, subst, ◌∙◌, append-nil, append_assoc}
 use Rattle.std.specs.List.{AllByRecursion}
 use Rattle.session_model.specs.Journal.{Entry}
+use Rattle.session_model.specs.Inbox.{Numbered}
 use Rattle.fixp_replies.specs.Acts.{is_record}
 use Rattle.fixp_replies.specs.Outcomes.{Outcome}
 use Rattle.fixp_replies.specs.Replies.{reply_of}
-use Rattle.fixp_machine.specs.Machine.{State, Call, begin, frame, bad_frame, did, tick, turn_done, closed, link_end, live, again, taken, reserve, around, step, run}
+use Rattle.fixp_machine.specs.Machine.{State, Call, begin, frame, bad_frame, did, tick, turn_done, closed, link_end, live, again, taken, reserve, around, step, run, held_done, front_of}
 use Rattle.conn_turns.proofs.Taking.{run_append}
 use Rattle.connection_laws.specs.Writing.{Piece, writes}
-use Rattle.connection_laws.specs.Courses.{Waiting, Course, counting, called, next_done, next_course, course_after}
+use Rattle.connection_laws.specs.Courses.{Waiting, Course, counting, called, next_done, next_course, course_after, next_held}
 use Rattle.connection_laws.specs.Standing.{MayStand, AllMayStand}
 use Rattle.connection_laws.proofs.Continuing.{state_is_run}
 use Rattle.honest_ends.specs.Worlds.{World, initiator_does, written, initiator_calls, IsOther}
@@ -81,6 +82,11 @@ output_one h c (live ps now) may = refl
 output_one h c (again ps now) may = refl
 output_one h c (taken count) may = refl
 output_one h c reserve may = refl
+output_one h c held_done may = by_front (front_of c.state) (called c held_done)
+  where
+    by_front : (m : Option Numbered) (k : Course) → (next_held k m).output ≡ k.output
+    by_front None k = refl
+    by_front (Some m) k = refl
 
 pub output_after : (h : List Entry) (c : Course) (cs : List Call) → AllMayStand h c cs → (course_after c cs).output ≡ c.output ++ written c.state cs
 output_after h c [] may = sym (append-nil c.output)

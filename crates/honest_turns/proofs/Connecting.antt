@@ -1,19 +1,23 @@
 -- A connection of two ends over one link, from its beginning.
-use Rattle.std.proofs.Common.{◌-◌, Bool, true, false, if◌then◌else◌, IfSome, ◌≡◌, ◌≤◌, ℕ, List, [], ◌∷◌, ◌++◌, length, Option, Some, None, refl, sym, ap, subst, ◌∙◌, append-nil}
+use Rattle.honest_turns.proofs.Hearing.{AreHeard, heard_of_taken, heard_more}
+use Rattle.std.proofs.Common.{◌-◌, Bool, true, false, if◌then◌else◌, IfSome, ◌≡◌, ◌≤◌, ℕ, List, [], ◌∷◌, ◌++◌, length, Option, Some, None, refl, sym, ap, subst, ◌∙◌, append-nil, arith}
 use Rattle.std.specs.Prelude.{option_to_list}
 use Rattle.std.specs.List.{AllByRecursion, flat_map}
 use Rattle.session_model.specs.Journal.{Entry}
-use Rattle.fixp_machine.specs.Machine.{State, Call, reserve, connected, step, fresh}
+use Rattle.fixp_machine.specs.Machine.{State, Call, reserve, connected, step, fresh, held_with, IsDrained}
 use Rattle.std.proofs.lemmas.Grind.{flat_map-append}
 use Rattle.fixp_replies.specs.Acts.{is_record}
+use Rattle.fixp_replies.specs.Incoming.{payload_in}
 use Rattle.fixp_replies.specs.Outcomes.{Outcome}
 use Rattle.fixp_machine.specs.Machine.{run, reply_applied}
 use Rattle.fixp_machine.specs.Machine as calls
 use Rattle.conn_turns.specs.Lines.{Line, TakenFrame, IsNext, frame_calls, reply_at, lines_after}
-use Rattle.conn_turns.specs.Turns.{only_sends, works, link_lost, cut_short, not_begun, calls_of_frames}
-use Rattle.conn_turns.proofs.Taking.{run_append, frames_make_calls, taken_more}
+use Rattle.conn_turns.specs.Turns.{only_sends, works, link_lost, cut_short, not_begun, calls_of_frames, of_act, of_held}
+use Rattle.conn_turns.proofs.Taking.{run_append, frames_make_calls}
 use Rattle.turn_laws.specs.Turns.{line_received, IsCut}
+use Rattle.turn_laws.specs.Standing.{StandsAt}
 use Rattle.turn_laws.proofs.Going.{after_append}
+use Rattle.turn_laws.proofs.Draining.{first_drained, frames_drained, helds_ready}
 use Rattle.conn_turns.specs.Turns.{Turn, calls_of}
 use Rattle.connection_laws.specs.Courses.{Course, beginning, course_after}
 use Rattle.connection_laws.specs.Ranges.{IsInTime}
@@ -91,13 +95,17 @@ pub record Stood (s : Side) (k : MakesTurns s) : Type 0 where
   pub ending : (behind s).ending ≡ m.ending
   pub anew : anew_of (behind s) ≡ anew_of m
 
+-- where its last line stands
+last_stands : (s : Side) (k : MakesTurns s) → s.state.facts.recorded.sent ≤ length s.outbox.made → StandsAt s.outbox.made (course_after (course_at s) (flat_map calls_of s.leg.turns)) k.turns.last
+last_stands s k enough =
+    (turns_stand s.outbox.made k.turns.before k.turns.after (line_at s) k.turns.last s.leg.turns (course_at s) (begin_stands s.outbox.made s.state s.inbox s.leg.moment k.ready.awaits enough) k.turns.has k.turns.turns k.turns.faithful).after
+
 pub behind_is : (s : Side) (k : MakesTurns s) → s.state.facts.recorded.sent ≤ length s.outbox.made → behind s ≡ run k.turns.last.machine (flat_map calls_of (option_to_list s.leg.cut))
 behind_is s k enough =
     let whole : List Call = flat_map calls_of s.leg.turns in
     let cut : List Call = flat_map calls_of (option_to_list s.leg.cut) in
-    let x = turns_stand s.outbox.made k.turns.before k.turns.after (line_at s) k.turns.last s.leg.turns (course_at s) (begin_stands s.outbox.made s.state s.inbox s.leg.moment k.ready.awaits enough) k.turns.has k.turns.turns k.turns.faithful in
     ap (λ (cs : List Call). (course_after (course_at s) cs).state) (flat_map-append calls_of s.leg.turns (option_to_list s.leg.cut))
-    ∙ (ap (λ (c : Course). c.state) (after_append (course_at s) whole cut) ∙ state_then (course_after (course_at s) whole) k.turns.last.machine cut x.after.machine)
+    ∙ (ap (λ (c : Course). c.state) (after_append (course_at s) whole cut) ∙ state_then (course_after (course_at s) whole) k.turns.last.machine cut (last_stands s k enough).machine)
 
 -- and so where it was cut short
 record CutStands (last : Line) (t : Turn) : Type 0 where
@@ -107,22 +115,37 @@ record CutStands (last : Line) (t : Turn) : Type 0 where
   ending : (run last.machine (calls_of t)).ending ≡ m.ending
   anew : anew_of (run last.machine (calls_of t)) ≡ anew_of m
 
-cut_stands : (last : Line) (t : Turn) → IsCut last t → CutStands last t
-cut_stands last (only_sends now sent lost) k = absurd k
-cut_stands last (works w) k = absurd k
-cut_stands last (link_lost now) k = absurd k
-cut_stands last not_begun k = absurd k
-cut_stands last (cut_short now received frames None) k =
+cut_stands : (last : Line) (t : Turn) → IsDrained last.machine → IsCut last t → CutStands last t
+cut_stands last (only_sends now sent lost) drained k = absurd k
+cut_stands last (works w) drained k = absurd k
+cut_stands last (link_lost now) drained k = absurd k
+cut_stands last not_begun drained k = absurd k
+cut_stands last (cut_short now received frames None) drained k =
     let l : Line = line_received last now received k.got in
     let made = frames_make_calls now l frames in
     record {
       m = (lines_after now l frames).machine;
       held = (lines_after now l frames).held;
-      stops = record { now = now; got = k.got; frames = frames; sent = refl; moment = refl; taken = k.taken; machine = refl; holds = refl };
+      stops = record { now = now; got = k.got; frames = frames; sent = refl; moment = refl; taken = heard_of_taken now l frames (first_drained last.machine now drained) k.taken; machine = refl; holds = refl };
       ending = ap (λ (s : State). s.ending) (sym made);
       anew = ap (λ (s : State). anew_of s) (sym made);
     }
-cut_stands last (cut_short now received frames (Some f)) k = by_record (is_record o.act) refl
+cut_stands last (cut_short now received frames (Some (of_held t m))) drained k =
+    let l : Line = line_received last now received k.got in
+    let n : Line = lines_after now l frames in
+    let more : List TakenFrame = frames ++ t ∷ [] in
+    let first = first_drained last.machine now drained in
+    let heard : AreHeard now l more = heard_more now l frames t (heard_of_taken now l frames first k.taken)
+    (record { drained = frames_drained now l frames first k.taken; next = k.is.next; recorded = k.is.recorded; helds = helds_ready now n t m k.is }) in
+    let all = frames_make_calls now l more ∙ ap (λ (cs : List Call). run l.machine cs) (flat_map-append (frame_calls now) frames (t ∷ []) ∙ ap (λ (cs : List Call). calls_of_frames now frames ++ cs) (append-nil (frame_calls now t))) in
+    record {
+      m = (lines_after now l more).machine;
+      held = (lines_after now l more).held;
+      stops = record { now = now; got = k.got; frames = more; sent = refl; moment = refl; taken = heard; machine = refl; holds = refl };
+      ending = ap (λ (s : State). s.ending) (sym all);
+      anew = ap (λ (s : State). anew_of s) (sym all);
+    }
+cut_stands last (cut_short now received frames (Some (of_act f))) drained k = by_record (is_record o.act) refl
   where
     l : Line
     l = line_received last now received k.got
@@ -145,27 +168,43 @@ cut_stands last (cut_short now received frames (Some f)) k = by_record (is_recor
     got : State
     got = record n.machine { moment = now; last_received = now; room = n.machine.room - 1 }
 
+    applied : State
+    applied = record got { held = held_with o.holds (payload_in f.incoming) n.machine.held }
+
     f' : TakenFrame
-    f' = record f { recorded = false }
+    f' = record f { recorded = false; helds = 0 }
 
     more : List TakenFrame
     more = frames ++ f' ∷ []
 
-    by_record : (b : Bool) → is_record o.act ≡ b → CutStands last (cut_short now received frames (Some f))
+    heard : AreHeard now l frames
+    heard = heard_of_taken now l frames (first_drained last.machine now drained) k.taken
+
+    by_record : (b : Bool) → is_record o.act ≡ b → CutStands last (cut_short now received frames (Some (of_act f)))
     by_record true e = record {
       m = n.machine;
       held = n.held;
-      stops = record { now = now; got = k.got; frames = frames; sent = refl; moment = refl; taken = k.taken; machine = refl; holds = refl };
-      ending = ap (λ (s : State). s.ending) made ∙ ap (λ (b : Bool). (if b then record got { pending = Some o } else reply_applied got o now).ending) e;
-      anew = ap (λ (s : State). anew_of s) made ∙ ap (λ (b : Bool). anew_of (if b then record got { pending = Some o } else reply_applied got o now)) e;
+      stops = record { now = now; got = k.got; frames = frames; sent = refl; moment = refl; taken = heard; machine = refl; holds = refl };
+      ending = ap (λ (s : State). s.ending) made ∙ ap (λ (b : Bool). (if b then record got { pending = Some o } else reply_applied applied o now).ending) e;
+      anew = ap (λ (s : State). anew_of s) made ∙ ap (λ (b : Bool). anew_of (if b then record got { pending = Some o } else reply_applied applied o now)) e;
     }
     by_record false e =
-        let next : IsNext n f' = record { may = k.next.may; begins = k.next.begins; at = k.next.at; is = k.next.is } in
+        let next : IsNext n f' = record { may = k.is.may; begins = k.is.begins; at = k.is.at; is = k.is.is } in
         let all = frames_make_calls now l more ∙ ap (λ (cs : List Call). run l.machine cs) (flat_map-append (frame_calls now) frames (f' ∷ [])) in
         record {
           m = (lines_after now l more).machine;
           held = (lines_after now l more).held;
-          stops = record { now = now; got = k.got; frames = more; sent = refl; moment = refl; taken = taken_more now l frames f' k.taken (record { next = next; recorded = sym e }); machine = refl; holds = refl };
+          stops = record {
+            now = now;
+            got = k.got;
+            frames = more;
+            sent = refl;
+            moment = refl;
+            taken = heard_more now l frames f' heard
+                (record { drained = frames_drained now l frames (first_drained last.machine now drained) k.taken; next = next; recorded = sym e; helds = omega arith });
+            machine = refl;
+            holds = refl;
+          };
           ending = ap (λ (s : State). s.ending) (sym all);
           anew = ap (λ (s : State). anew_of s) (sym all);
         }
@@ -187,7 +226,7 @@ stood s k enough = by_cut s.leg.cut refl k.turns.cut
           anew = ap (λ (x : State). anew_of x) is;
         }
     by_cut (Some t) e c =
-        let x : CutStands last t = cut_stands last t c in
+        let x : CutStands last t = cut_stands last t (last_stands s k enough).drained c in
         let is : behind s ≡ run last.machine (calls_of t) =
         behind_is s k enough ∙ (ap (λ (o : Option Turn). run last.machine (flat_map calls_of (option_to_list o))) e ∙ ap (λ (cs : List Call). run last.machine cs) (append-nil (calls_of t))) in
         record {

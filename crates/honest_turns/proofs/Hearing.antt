@@ -1,5 +1,6 @@
 -- Frames that a turn took of what the other end wrote, as messages that it read.
-use Rattle.std.proofs.Common.{◌≡◌, ◌-◌, Bool, true, false, if◌then◌else◌, ℕ, List, [], ◌∷◌, ◌++◌, drop, Option, Some, None, refl, sym, ap, subst, ◌∙◌, append_assoc}
+use Rattle.std.proofs.Common.{◌≡◌, ◌-◌, Bool, true, false, if◌then◌else◌, ℕ, List, [], ◌∷◌, ◌++◌, drop, Option, Some, None, refl, sym, ap, subst, ◌∙◌, append_assoc, ◌≤◌, zero, suc, length, arith}
+use Rattle.std.specs.Prelude.{replicate}
 use Rattle.std.specs.List.{AllByRecursion, AllZip}
 use Rattle.std.proofs.lemmas.List.{append_cancel_left}
 use Rattle.sofh_frame.specs.Framing.{Frame, IsFrame, spelled, First, frame, rest, bad_length, bad_encoding, first_of}
@@ -9,12 +10,12 @@ use Rattle.sofh_frame.proofs.SplitLemmas.{frames_of-front, frames_of-none}
 use Rattle.session_model.specs.Journal.{Entry}
 use Rattle.session_model.proofs.Lists.{all_append}
 use Rattle.fixp_replies.specs.Acts.{is_record}
-use Rattle.fixp_replies.specs.Incoming.{Incoming}
+use Rattle.fixp_replies.specs.Incoming.{Incoming, payload_in}
 use Rattle.fixp_replies.specs.Outcomes.{Outcome}
 use Rattle.fixp_replies.specs.Replies.{reply_of}
-use Rattle.fixp_machine.specs.Machine.{State, Call, did, around, reply_applied, done_pending, step, run}
+use Rattle.fixp_machine.specs.Machine.{State, Call, did, around, reply_applied, done_pending, step, run, held_done, held_with, IsDrained}
 use Rattle.fixp_machine.specs.Machine as calls
-use Rattle.conn_turns.specs.Lines.{Line, TakenFrame, size_of, frame_calls, IsTaken, line_after, lines_after, AreTaken}
+use Rattle.conn_turns.specs.Lines.{Line, TakenFrame, size_of, frame_calls, line_after, lines_after, AreTaken, IsNext, reply_at, act_calls, ready_behind}
 use Rattle.conn_turns.specs.Frames.{is_bad}
 use Rattle.conn_turns.specs.Turns.{calls_of_frames}
 use Rattle.connection_laws.specs.Writing.{Piece, said, entry, said_all, said_with, writes, bytes_written}
@@ -22,11 +23,13 @@ use Rattle.connection_laws.specs.Framed.{IsLegalPiece}
 use Rattle.connection_laws.specs.Courses.{Course, course_after}
 use Rattle.connection_laws.specs.Standing.{IsOpen, AllMayStand}
 use Rattle.connection_laws.specs.Ranges.{IsInTime, FitsIncoming, FitsCall}
+use Rattle.turn_laws.proofs.Draining.{frame_drained}
+use Rattle.turn_laws.proofs.Going.{Steady, Goes, nothing, and_then, partly_goes}
 use Rattle.two_ends.specs.Reading.{incoming_of, ReadsAs}
 use Rattle.two_ends.proofs.Cutting.{all_is_read}
-use Rattle.honest_ends.specs.Worlds.{World, initiator_reads, initiator_read, initiator_calls}
+use Rattle.honest_ends.specs.Worlds.{World, initiator_reads, initiator_read, initiator_calls, IsOther}
 use Rattle.honest_turns.proofs.Reaching.{Reaches, one}
-use Rattle.honest_turns.proofs.Calling.{no_calls, calls_then, state_then, may_second}
+use Rattle.honest_turns.proofs.Calling.{no_calls, calls_then, state_then, may_second, others, may_first}
 
 -- a frame stands at the front of what was written: it is the first message of it
 record Front (pieces : List Piece) (f : Frame) (behind : List ℕ) : Type 0 where
@@ -91,8 +94,11 @@ act_done w left now t false e =
     before : State
     before = record s { moment = now; last_received = now; room = s.room - 1 }
 
+    more : State
+    more = record before { held = held_with o.holds (payload_in t.incoming) s.held }
+
     none : got.pending ≡ None
-    none = ap (λ (b : Bool). (if b then record before { pending = Some o } else reply_applied before o now).pending) (sym e)
+    none = ap (λ (b : Bool). (if b then record before { pending = Some o } else reply_applied more o now).pending) (sym e)
 
 legal_fits : (p : Piece) → IsLegalPiece p → FitsIncoming (incoming_of p)
 legal_fits (said m) legal = legal.fields
@@ -106,18 +112,65 @@ record Read (hi ha : List Entry) (w : World) (cs : List Call) (held left_held : 
   legal : AllByRecursion IsLegalPiece left
   fits : AllByRecursion FitsCall cs
 
-frame_read : (hi ha : List Entry) (w : World) (now : ℕ) (l : Line) (t : TakenFrame) (tail : List ℕ) → IsOpen w.initiator → w.initiator ≡ l.machine → IsTaken now l t → IsInTime now
-    → AllByRecursion IsLegalPiece w.homeward → l.held ++ tail ≡ bytes_written w.homeward → Read hi ha w (frame_calls now t) l.held (drop (size_of t.frame) l.held)
-frame_read hi ha w now l t tail is_open is k time legal e = record {
+-- held messages that are applied are calls other than those of frames, and come without numbers
+helds_other : (h : List Entry) (n : ℕ) → AllByRecursion (IsOther h) (replicate n held_done)
+helds_other h zero = tt
+helds_other h (suc n) = (tt, helds_other h n)
+
+helds_fit : (n : ℕ) → AllByRecursion FitsCall (replicate n held_done)
+helds_fit zero = tt
+helds_fit (suc n) = (tt, helds_fit n)
+
+-- A frame is heard: it is the next one, of a machine with no held message to be applied; its act is done where it is a record, and some of the
+-- held messages that are ready behind it are applied
+pub record IsHeard (now : ℕ) (l : Line) (t : TakenFrame) : Type 0 where
+  pub drained : IsDrained l.machine
+  pub next : IsNext l t
+  pub recorded : t.recorded ≡ is_record (reply_at now l t).act
+  pub helds : t.helds ≤ length (ready_behind now l t)
+
+abbrev pub AreHeard : ℕ → Line → List TakenFrame → Type 0
+AreHeard now l [] = Unit {0}
+AreHeard now l (t ∷ later) = IsHeard now l t × AreHeard now (line_after now l t) later
+
+pub heard_of_taken : (now : ℕ) (l : Line) (frames : List TakenFrame) → IsDrained l.machine → AreTaken now l frames → AreHeard now l frames
+heard_of_taken now l [] drained k = tt
+heard_of_taken now l (t ∷ later) drained k = (
+  record { drained = drained; next = k.0.next; recorded = k.0.recorded; helds = let all = k.0.helds in omega (arith, all) },
+  heard_of_taken now (line_after now l t) later (frame_drained now l t k.0) k.1,
+)
+
+pub heard_more : (now : ℕ) (l : Line) (frames : List TakenFrame) (t : TakenFrame) → AreHeard now l frames → IsHeard now (lines_after now l frames) t → AreHeard now l (frames ++ t ∷ [])
+heard_more now l [] t k here = (here, tt)
+heard_more now l (x ∷ later) t k here = (k.0, heard_more now (line_after now l x) later t k.1 here)
+
+pub heard_go : (h : List Entry) (now : ℕ) (l : Line) (frames : List TakenFrame) (c : Course) → Steady h c l.machine → AreHeard now l frames → Goes h c l.machine (calls_of_frames now frames)
+unfolding line_after
+heard_go h now l [] c s k = nothing h c l.machine s
+heard_go h now l (t ∷ later) c s k =
+    let x : Goes h c l.machine (frame_calls now t) = partly_goes h now c l t s k.0.drained k.0.next k.0.recorded k.0.helds in
+    and_then h c l.machine (frame_calls now t) (calls_of_frames now later) x (heard_go h now (line_after now l t) later (course_after c (frame_calls now t)) x.after k.1)
+
+frame_read : (hi ha : List Entry) (w : World) (c : Course) (now : ℕ) (l : Line) (t : TakenFrame) (tail : List ℕ) → c.state ≡ w.initiator → w.initiator ≡ l.machine → AllMayStand hi c (frame_calls now t) → IsHeard now l t
+    → IsInTime now → AllByRecursion IsLegalPiece w.homeward → l.held ++ tail ≡ bytes_written w.homeward → Read hi ha w (frame_calls now t) l.held (drop (size_of t.frame) l.held)
+frame_read hi ha w c now l t tail at is may k time legal e = record {
   left = x.later;
-  reaches = subst (λ (v : World). Reaches hi ha w v) there (one hi ha w (initiator_reads t.at now) is_open);
+  reaches = calls_then hi ha w x.later x.later act helds
+      (subst (λ (v : World). Reaches hi ha w v) there (one hi ha w (initiator_reads t.at now) (subst IsOpen at may.0.comes, subst IsDrained (sym is) k.drained)))
+      (others hi ha (initiator_calls w x.later act) (course_after c act) helds (state_then c w.initiator act at) (may_second hi c act helds may) (helds_other hi t.helds));
   goes_on = λ more here.
       append_cancel_left (spelled t.frame) (behind ++ more) (bytes_written x.later)
       (spells more here ∙ (ap (λ (ps : List Piece). bytes_written ps) x.is ∙ ap (λ (bs : List ℕ). bs ++ bytes_written x.later) (sym x.reads.bytes)));
   legal = all.1;
-  fits = by_recorded t.recorded;
+  fits = all_append FitsCall act helds (by_recorded t.recorded) (helds_fit t.helds);
 }
   where
+    act : List Call
+    act = act_calls now t
+
+    helds : List Call
+    helds = replicate t.helds held_done
+
     behind : List ℕ
     behind = drop (size_of t.frame) l.held
 
@@ -140,7 +193,7 @@ frame_read hi ha w now l t tail is_open is k time legal e = record {
     by_recorded true = ((fits, time), (tt, tt))
     by_recorded false = ((fits, time), tt)
 
-    there : initiator_read w w.homeward t.at now ≡ initiator_calls w x.later (frame_calls now t)
+    there : initiator_read w w.homeward t.at now ≡ initiator_calls w x.later act
     there = ap (λ (ps : List Piece). initiator_read w ps t.at now) x.is
         ∙ (ap (λ (i : Incoming). initiator_calls w x.later (calls.frame i t.at now ∷ did now ∷ [])) (sym same)
         ∙ act_done w x.later now t t.recorded (k.recorded ∙ ap (λ (s : State). is_record (reply_of (around s t.at now) s.facts t.incoming).act) (sym is)))
@@ -153,14 +206,14 @@ pub record FramesRead (hi ha : List Entry) (w : World) (cs : List Call) (held le
   pub fits : AllByRecursion FitsCall cs
 
 pub frames_read : (hi ha : List Entry) (w : World) (c : Course) (now : ℕ) (l : Line) (frames : List TakenFrame) (tail : List ℕ) → c.state ≡ w.initiator → w.initiator ≡ l.machine
-    → AllMayStand hi c (calls_of_frames now frames) → AreTaken now l frames → IsInTime now → AllByRecursion IsLegalPiece w.homeward → l.held ++ tail ≡ bytes_written w.homeward
+    → AllMayStand hi c (calls_of_frames now frames) → AreHeard now l frames → IsInTime now → AllByRecursion IsLegalPiece w.homeward → l.held ++ tail ≡ bytes_written w.homeward
     → FramesRead hi ha w (calls_of_frames now frames) l.held (lines_after now l frames).held
 unfolding line_after
 frames_read hi ha w c now l [] tail at is may k time legal e = record { left = w.homeward; reaches = no_calls hi ha w; goes_on = λ more here. here; legal = legal; fits = tt }
 frames_read hi ha w c now l (t ∷ later) tail at is may k time legal e =
     let first : List Call = frame_calls now t in
     let more : List Call = calls_of_frames now later in
-    let x : Read hi ha w first l.held (drop (size_of t.frame) l.held) = frame_read hi ha w now l t tail (subst IsOpen at may.0.comes) is k.0 time legal e in
+    let x : Read hi ha w first l.held (drop (size_of t.frame) l.held) = frame_read hi ha w c now l t tail at is (may_first hi c first more may) k.0 time legal e in
     let v : World = initiator_calls w x.left first in
     let y : FramesRead hi ha v more (drop (size_of t.frame) l.held) (lines_after now (line_after now l t) later).held =
     frames_read hi ha v (course_after c first) now (line_after now l t) later tail (state_then c w.initiator first at) (ap (λ (s : State). run s first) is) (may_second hi c first more may) k.1 time x.legal (x.goes_on tail e) in

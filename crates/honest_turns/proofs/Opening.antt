@@ -165,7 +165,7 @@ turn_moves outbox ha b w before after old new t theirs held out home legal passe
     stood = turn_may_stand h before after old new t c o.at (record { begins = passed.begins.made; few = passed.few }) k faithful
 
     x : TurnSteps h ha w old new t
-    x = turn_steps outbox ha w c before after old new t (home ++ homeward.within.0) o.at.machine o.alike stood.may passed.begins k timely.time homeward.legal
+    x = turn_steps outbox ha w c before after old new t (home ++ homeward.within.0) o.at.machine o.alike o.at.drained stood.may passed.begins k timely.time homeward.legal
         (sym (regroup old.held (given_in t) home homeward.within.0) ∙ homeward.within.1)
 
     may_all : AllMayStand h b (o.calls ++ cs)

@@ -1,10 +1,11 @@
 -- A turn of an end that was cut short, as steps of a world.
-use Rattle.std.proofs.Common.{◌≡◌, ℕ, Bool, true, false, if◌then◌else◌, List, [], ◌∷◌, ◌++◌, Option, Some, None, refl, sym, ap, subst, ◌∙◌, append-nil, append_assoc}
-use Rattle.std.specs.Prelude.{is_some}
+use Rattle.std.proofs.Common.{◌≡◌, ℕ, Bool, true, false, if◌then◌else◌, List, [], ◌∷◌, ◌++◌, Option, Some, None, refl, sym, ap, subst, ◌∙◌, append-nil, append_assoc, zero, suc}
+use Rattle.std.specs.Prelude.{is_some, replicate}
 use Rattle.std.specs.List.{AllByRecursion}
 use Rattle.std.proofs.lemmas.Grind.{flat_map-append}
 use Rattle.std.proofs.lemmas.List.{append_cancel_left}
 use Rattle.session_model.specs.Journal.{Entry, History}
+use Rattle.session_model.specs.Inbox.{Numbered}
 use Rattle.session_model.proofs.Lists.{all_append, all_second}
 use Rattle.gw_links.specs.declared.link.Got.{Got}
 use Rattle.fixp_replies.specs.declared.act.Ending.{Ending}
@@ -12,23 +13,23 @@ use Rattle.fixp_replies.specs.Acts.{is_record}
 use Rattle.fixp_replies.specs.Events.{heartbeats, lateness}
 use Rattle.fixp_replies.specs.Outcomes.{Outcome}
 use Rattle.fixp_replies.specs.Replies.{reply_of}
-use Rattle.fixp_machine.specs.Machine.{State, Call, did, tick, reserve, around, bytes_of, wrote, broken_by, step, run}
+use Rattle.fixp_machine.specs.Machine.{State, Call, did, tick, reserve, around, bytes_of, wrote, broken_by, step, run, held_done, front_of}
 use Rattle.fixp_machine.specs.Machine as calls
-use Rattle.conn_turns.specs.Lines.{Line, TakenFrame, frame_calls, lines_after, AreTaken}
+use Rattle.conn_turns.specs.Lines.{Line, TakenFrame, frame_calls, lines_after, act_calls}
 use Rattle.conn_turns.specs.Turns.{Turn, first_calls, calls_of_frames}
 use Rattle.conn_turns.proofs.Taking.{frames_make_calls}
 use Rattle.connection_laws.specs.Writing.{Piece, said_all, said_breaking, bytes_of_piece, bytes_written}
 use Rattle.connection_laws.specs.Framed.{IsLegalPiece}
-use Rattle.connection_laws.specs.Courses.{Waiting, Course, counting, called, next_done, next_course, course_after}
+use Rattle.connection_laws.specs.Courses.{Waiting, Course, counting, called, next_done, next_course, course_after, next_held}
 use Rattle.connection_laws.specs.Ranges.{IsInTime, FitsCall}
 use Rattle.turn_laws.specs.Turns.{line_received}
 use Rattle.turn_laws.specs.Legs.{given_in, sent_in, moment_of, IsTimelyTurn}
-use Rattle.turn_laws.proofs.Going.{Goes, may_append, after_append, and_then, first_go, frames_go}
+use Rattle.turn_laws.proofs.Going.{Goes, may_append, after_append, and_then, first_go}
 use Rattle.turn_laws.proofs.Working.{steady_at}
 use Rattle.honest_ends.specs.Worlds.{World, written, initiator_calls}
 use Rattle.honest_turns.proofs.Reaching.{Reaches}
 use Rattle.honest_turns.proofs.Calling.{output_after}
-use Rattle.honest_turns.proofs.Hearing.{FramesRead}
+use Rattle.honest_turns.proofs.Hearing.{FramesRead, AreHeard, heard_go}
 use Rattle.honest_turns.proofs.Turning.{took_steps}
 use Rattle.honest_turns.proofs.Opening.{WritesLegal, Open, Way, same_run, same_written, regroup, way_on, way_read}
 
@@ -39,7 +40,7 @@ pub record StopsIn (l : Line) (t : Turn) (m : State) (held : List ℕ) : Type 0 
   pub frames : List TakenFrame
   pub sent : sent_in t ≡ []
   pub moment : moment_of t ≡ now
-  pub taken : AreTaken now (line_received l now (given_in t) got) frames
+  pub taken : AreHeard now (line_received l now (given_in t) got) frames
   pub machine : (lines_after now (line_received l now (given_in t) got) frames).machine ≡ m
   pub holds : (lines_after now (line_received l now (given_in t) got) frames).held ≡ held
 
@@ -52,9 +53,17 @@ pub record Stopped (outbox : History) (ha : List Entry) (w : World) (m theirs : 
   pub outward : Way world.outward m held out
   pub homeward : Way world.homeward theirs left_held home
 
--- neither a tick nor frames with their acts are taken of what is unsent
+-- neither a tick nor frames with their acts, nor held messages that are applied, are taken of what is unsent
+helds_taken : (c : Course) (n : ℕ) → (course_after c (replicate n held_done)).taken ≡ c.taken
+helds_taken c zero = refl
+helds_taken c (suc n) = helds_taken (next_course c held_done) n ∙ by_front (front_of c.state) (called c held_done)
+  where
+    by_front : (m : Option Numbered) (k : Course) → (next_held k m).taken ≡ k.taken
+    by_front None k = refl
+    by_front (Some m) k = refl
+
 frame_taken : (c : Course) (now : ℕ) (t : TakenFrame) → (course_after c (frame_calls now t)).taken ≡ c.taken
-frame_taken c now t = by_recorded t.recorded
+frame_taken c now t = ap (λ (e : Course). e.taken) (after_append c (act_calls now t) (replicate t.helds held_done)) ∙ (helds_taken (course_after c (act_calls now t)) t.helds ∙ by_recorded t.recorded)
   where
     call : Call
     call = calls.frame t.incoming t.at now
@@ -101,7 +110,7 @@ ended_ticks m now x e = (
     more : State
     more = broken_by (wrote (record s { moment = now }) (bytes_of (heartbeats (around s 0 now) s.facts s.last_sent s.unsent)) now) (lateness (around s 0 now) s.facts s.start s.last_received) now
 
-none_taken : (now : ℕ) (l : Line) (x : Ending) (frames : List TakenFrame) → l.machine.ending ≡ Some x → AreTaken now l frames → frames ≡ []
+none_taken : (now : ℕ) (l : Line) (x : Ending) (frames : List TakenFrame) → l.machine.ending ≡ Some x → AreHeard now l frames → frames ≡ []
 none_taken now l x [] e taken = refl
 none_taken now l x (t ∷ later) e taken = let going = taken.0.next.may.goes_on in absurd (cc (e, going))
 
@@ -145,7 +154,7 @@ turn_stops outbox ha b w l t m theirs left_held held out home legal o k timely o
     goes : Goes h c l.machine cs
     goes =
         let first = first_go h c l.machine k.now (steady_at h c l o.at) in
-        and_then h c l.machine (first_calls k.now) took first (frames_go h k.now r k.frames (course_after c (first_calls k.now)) first.after k.taken)
+        and_then h c l.machine (first_calls k.now) took first (heard_go h k.now r k.frames (course_after c (first_calls k.now)) first.after k.taken)
 
     x : FramesRead h ha w cs r.held n.held
     x = took_steps h ha w c l r k.now k.frames (home ++ homeward.within.0) o.at.machine o.alike refl goes.may k.taken (subst IsInTime k.moment timely.time) homeward.legal

@@ -6,8 +6,8 @@ use Rattle.session_model.specs.Journal.{Entry, History, BeginsHistory}
 use Rattle.session_model.proofs.Lists.{all_append}
 use Rattle.sofh_frame.specs.Framing.{first_of}
 use Rattle.fixp_shake.specs.Flows.{is_absent}
-use Rattle.fixp_machine.specs.Machine.{State, Call, tick, turn_done, closed, link_end, reserve, step, run}
-use Rattle.conn_turns.specs.Lines.{Line, TakenFrame, lines_after, AreTaken}
+use Rattle.fixp_machine.specs.Machine.{State, Call, tick, turn_done, closed, link_end, reserve, step, run, IsDrained}
+use Rattle.conn_turns.specs.Lines.{Line, TakenFrame, lines_after}
 use Rattle.conn_turns.specs.Frames.{is_bad, may_take}
 use Rattle.conn_turns.specs.Turns.{Turn, only_sends, works, link_lost, cut_short, not_begun, first_calls, calls_of_frames, bad_calls, end_calls, closing_calls, again_calls, live_calls, finish_calls, outbox_calls, sending_calls, calls_of, finish_of}
 use Rattle.conn_turns.specs.Exact.{closed_at}
@@ -18,10 +18,11 @@ use Rattle.connection_laws.specs.Standing.{AllMayStand}
 use Rattle.connection_laws.specs.Ranges.{IsInTime, FitsCall}
 use Rattle.turn_laws.specs.Turns.{line_received, IsTurn}
 use Rattle.turn_laws.specs.Legs.{given_in, moment_of}
+use Rattle.turn_laws.proofs.Draining.{first_drained}
 use Rattle.honest_ends.specs.Worlds.{World, initiator_does, initiator_calls, IsOther}
 use Rattle.honest_turns.proofs.Reaching.{Reaches, one}
 use Rattle.honest_turns.proofs.Calling.{calls_then, state_then, others, may_first, may_second}
-use Rattle.honest_turns.proofs.Hearing.{not_bad, FramesRead, frames_read}
+use Rattle.honest_turns.proofs.Hearing.{not_bad, FramesRead, frames_read, AreHeard, heard_of_taken}
 
 -- the calls of a turn beside its frames are none of frames, and come without numbers
 sending_other : (h : List Entry) (sent : List ℕ) (lost : Bool) → AllByRecursion (IsOther h) (sending_calls sent lost)
@@ -117,7 +118,7 @@ quiet_steps hi ha w c old new t cs made none held is alike may other fits legal 
 
 -- the tick of a turn, and the frames that it took of what it received
 pub took_steps : (h ha : List Entry) (w : World) (c : Course) (old l : Line) (now : ℕ) (frames : List TakenFrame) (tail : List ℕ) → c.state ≡ old.machine → step w.initiator reserve ≡ step old.machine reserve
-    → l.machine ≡ run old.machine (first_calls now) → AllMayStand h c (first_calls now ++ calls_of_frames now frames) → AreTaken now l frames → IsInTime now → AllByRecursion IsLegalPiece w.homeward
+    → l.machine ≡ run old.machine (first_calls now) → AllMayStand h c (first_calls now ++ calls_of_frames now frames) → AreHeard now l frames → IsInTime now → AllByRecursion IsLegalPiece w.homeward
     → l.held ++ tail ≡ bytes_written w.homeward → FramesRead h ha w (first_calls now ++ calls_of_frames now frames) l.held (lines_after now l frames).held
 took_steps h ha w c old l now frames tail is alike made may taken time legal e = record {
   left = y.left;
@@ -146,12 +147,12 @@ took_steps h ha w c old l now frames tail is alike made may taken time legal e =
     y = frames_read h ha v (course_after c first) now l frames tail (state_then c old.machine first is ∙ (sym made ∙ sym ticked)) ticked (may_second h c first took may) taken time legal e
 
 pub turn_steps : (outbox : History) (ha : List Entry) (w : World) (c : Course) (before after : History) (old new : Line) (t : Turn) (tail : List ℕ)
-    → c.state ≡ old.machine → step w.initiator reserve ≡ step old.machine reserve → AllMayStand outbox.made c (calls_of t) → BeginsHistory after outbox → IsTurn before after old new t → IsInTime (moment_of t)
+    → c.state ≡ old.machine → step w.initiator reserve ≡ step old.machine reserve → IsDrained old.machine → AllMayStand outbox.made c (calls_of t) → BeginsHistory after outbox → IsTurn before after old new t → IsInTime (moment_of t)
     → AllByRecursion IsLegalPiece w.homeward → (old.held ++ given_in t) ++ tail ≡ bytes_written w.homeward → TurnSteps outbox.made ha w old new t
-turn_steps outbox ha w c before after old new (only_sends now sent lost) tail is alike may begins k time legal e =
+turn_steps outbox ha w c before after old new (only_sends now sent lost) tail is alike drained may begins k time legal e =
     quiet_steps outbox.made ha w c old new (only_sends now sent lost) (tick now ∷ sending_calls sent lost) refl refl (ap (λ (l : Line). l.held) k.0.line) is alike may
     (tt, sending_other outbox.made sent lost) (tt, sending_fits sent lost) legal
-turn_steps outbox ha w c before after old new (works a) tail is alike may begins k time legal e = record {
+turn_steps outbox ha w c before after old new (works a) tail is alike drained may begins k time legal e = record {
   left = y.left;
   reaches = calls_then h ha w y.left y.left (first ++ frames) rest y.reaches z;
   goes_on = λ more here. ap (λ (bs : List ℕ). bs ++ more) held ∙ y.goes_on more here;
@@ -191,7 +192,7 @@ turn_steps outbox ha w c before after old new (works a) tail is alike may begins
     l = line_received old a.now a.received a.got
 
     y : FramesRead h ha w (first ++ frames) l.held (lines_after a.now l a.frames).held
-    y = took_steps h ha w c old l a.now a.frames tail is alike refl (may_first h c (first ++ frames) rest may) k.served.frames time legal e
+    y = took_steps h ha w c old l a.now a.frames tail is alike refl (may_first h c (first ++ frames) rest may) (heard_of_taken a.now l a.frames (first_drained old.machine a.now drained) k.served.frames) time legal e
 
     r : Line
     r = lines_after a.now l a.frames
@@ -217,7 +218,7 @@ turn_steps outbox ha w c before after old new (works a) tail is alike may begins
 
     held : new.held ≡ r.held
     held = ap (λ (n : Line). n.held) k.sends.line ∙ k.served.held
-turn_steps outbox ha w c before after old new (link_lost now) tail is alike may begins k time legal e =
+turn_steps outbox ha w c before after old new (link_lost now) tail is alike drained may begins k time legal e =
     quiet_steps outbox.made ha w c old new (link_lost now) (tick now ∷ link_end ∷ []) refl refl (ap (λ (l : Line). l.held) k.0) is alike may (tt, (tt, tt)) (tt, (tt, tt)) legal
-turn_steps outbox ha w c before after old new (cut_short now received frames refused) tail is alike may begins k time legal e = absurd k
-turn_steps outbox ha w c before after old new not_begun tail is alike may begins k time legal e = absurd k
+turn_steps outbox ha w c before after old new (cut_short now received frames refused) tail is alike drained may begins k time legal e = absurd k
+turn_steps outbox ha w c before after old new not_begun tail is alike drained may begins k time legal e = absurd k

@@ -14,15 +14,15 @@ use Rattle.connection_laws.proofs.Living.{opening_on, none_refused, closing_on}
 use Rattle.connection_laws.specs.Ranges.{IsInRange}
 use Rattle.turn_laws.specs.Legs.{TurnedLeg, IsTimely, course_on}
 use Rattle.turn_laws.specs.Lives.{AllAreTurns, legs_of, state_after, inbox_after}
-use Rattle.turn_laws.proofs.Running.{all_run, turns_serve, turns_refused}
+use Rattle.turn_laws.proofs.Running.{all_run, turns_serve, turns_refused, turns_refused_held}
+use Rattle.two_ends.specs.Meeting.{of_frame, of_held}
 use Rattle.two_ends.specs.Loops.{IsRefusedOn}
 use Rattle.conn_serve.specs.Connections.{Connection, IsFaithfulLeg, turned, all_of, refused_of_all}
 use Rattle.conn_serve.specs.Served.{WasGivenUp}
 use Rattle.life_laws.specs.Lives.{LifeOfLoop, LifeMayTurn, ServedKeeps}
 use Rattle.life_laws.proofs.Turned.{IsTurnedOne}
 use Rattle.life_laws.proofs.Behind.{AreBehind, last_faithful, given_turned, turned_append, given_adds, AllTurned, with_given, all_turned, life_behind}
-use Rattle.turn_laws.specs.Standing.{Waits}
-use Rattle.life_laws.proofs.Waits.{waits_or_none}
+use Rattle.life_laws.proofs.Waits.{WaitsOn, at_act, at_held, waits_or_none}
 
 -- a life of which a stop may leave nothing that was refused
 whole_life : (opening closing refused : List OutboxRecord) (m : State) (i : List InboxRecord) (cs : List Connection) (left : List InboxRecord) → Opens (entries opening) (entries closing) m i
@@ -41,22 +41,35 @@ whole_life opening closing refused m i cs left o all none =
       keeps = turns_serve (entries opening) (entries closing) m i (turned cs) o all.turns;
     }
 
--- one on whose last connection a frame waits
+-- one on whose last connection a frame waits, or a held message
 waiting_life : (opening closing refused : List OutboxRecord) (m mid : State) (i : List InboxRecord) (last : Line) (cs : List Connection) (c : Connection) (left : List InboxRecord)
     → Opens (entries opening) (entries closing) m i → AreBehind (entries closing) m mid i cs → IsTurnedOne (entries closing) (state_after m i (turned cs)) (inbox_after m i (turned cs)) last c
-    → Waits (course_on (state_after m i (turned cs)) (inbox_after m i (turned cs)) c.leg) left → LifeOfLoop opening closing refused m i (cs ++ c ∷ []) left
-waiting_life opening closing refused m mid i last cs c left o b x w =
+    → WaitsOn c.leg.cut (course_on (state_after m i (turned cs)) (inbox_after m i (turned cs)) c.leg) left → LifeOfLoop opening closing refused m i (cs ++ c ∷ []) left
+waiting_life opening closing refused m mid i last cs c left o b x (at_act now received frames t cut w) =
     let legs : List Leg = legs_of m i (turned cs) in
     let may : AllMayRun (entries closing) m i legs = all_run (entries closing) m i (turned cs) o.awaits o.enough b.turns in
     record {
-      life = record { opening_outbox = opening; closing_outbox = closing; refused_outbox = refused; state = m; inbox = i; legs = turned cs; last = Some (record { leg = c.leg; waiting = w.waiting }) };
+      life = record { opening_outbox = opening; closing_outbox = closing; refused_outbox = refused; state = m; inbox = i; legs = turned cs; last = Some (record { leg = c.leg; refusal = of_frame w.waiting }) };
       outboxes = (refl, refl, refl);
       begins = (refl, refl);
       legs = sym (turned_append cs c);
       turns = b.turns;
-      last = record { turns = x.turns; waits = w.is };
+      last = record { turns = x.turns; refuses = w.is };
       inbox = (opening_on m i legs (entries opening) (entries closing) o may, given_adds (entries closing) m mid i last cs c b x, w.left_are);
       keeps = turns_refused (entries opening) (entries closing) m i (turned cs) c.leg w.waiting o b.turns x.turns w.is;
+    }
+waiting_life opening closing refused m mid i last cs c left o b x (at_held now received frames t first cut w) =
+    let legs : List Leg = legs_of m i (turned cs) in
+    let may : AllMayRun (entries closing) m i legs = all_run (entries closing) m i (turned cs) o.awaits o.enough b.turns in
+    record {
+      life = record { opening_outbox = opening; closing_outbox = closing; refused_outbox = refused; state = m; inbox = i; legs = turned cs; last = Some (record { leg = c.leg; refusal = of_held first }) };
+      outboxes = (refl, refl, refl);
+      begins = (refl, refl);
+      legs = sym (turned_append cs c);
+      turns = b.turns;
+      last = record { turns = x.turns; refuses = w.is };
+      inbox = (opening_on m i legs (entries opening) (entries closing) o may, given_adds (entries closing) m mid i last cs c b x, w.left_are);
+      keeps = turns_refused_held (entries opening) (entries closing) m i (turned cs) c.leg first o b.turns x.turns w.is;
     }
 
 module _ {J : Type 0} {G : Ghosts J} where
@@ -77,7 +90,7 @@ module _ {J : Type 0} {G : Ghosts J} where
           x : IsTurnedOne h (state_after m i (turned k.ended)) (inbox_after m i (turned k.ended)) g.0 c
           x = given_turned h k.behind new.seen m k.mid i k.ended c b has g (last_faithful k.ended c faithful)
 
-          by_waiting : (c.refused ≡ []) ⊎ Waits (course_on (state_after m i (turned k.ended)) (inbox_after m i (turned k.ended)) c.leg) c.refused → LifeOfLoop opening closing refused m i (k.ended ++ c ∷ []) c.refused
+          by_waiting : (c.refused ≡ []) ⊎ WaitsOn c.leg.cut (course_on (state_after m i (turned k.ended)) (inbox_after m i (turned k.ended)) c.leg) c.refused → LifeOfLoop opening closing refused m i (k.ended ++ c ∷ []) c.refused
           by_waiting (inl none) = whole_life opening closing refused m i (k.ended ++ c ∷ []) c.refused o (with_given h m k.mid i g.0 k.ended c b x) none
           by_waiting (inr w) = waiting_life opening closing refused m k.mid i g.0 k.ended c c.refused o b x w
 

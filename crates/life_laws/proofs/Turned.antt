@@ -20,8 +20,7 @@ use Rattle.turn_laws.specs.Legs.{AreTurns, TurnedLeg, calls_on, first_line, AreT
 use Rattle.turn_laws.proofs.Going.{after_append}
 use Rattle.turn_laws.proofs.Working.{turn_may_stand}
 use Rattle.turn_laws.proofs.Running.{all_seen, turns_stand, begin_stands, leg_stands}
-use Rattle.turn_laws.proofs.Adding.{turn_adds}
-use Rattle.turn_laws.proofs.Refusing.{cut_turn_adds}
+use Rattle.turn_laws.proofs.Adding.{turn_adds, cut_adds}
 use Rattle.conn_serve.specs.Connections.{Connection, IsFaithfulLeg, IsConnection}
 use Rattle.conn_serve.proofs.Following.{PlainTurns, PlainCut, PlainConnection, plain, plain_are_turns}
 
@@ -49,7 +48,7 @@ cut_part_adds : (h : List Entry) (c : Course) (last : Line) (cut : Option Turn) 
 cut_part_adds h c last None news adds refused wanted s k = sym (append-nil c.added) ∙ ap (λ (rs : List InboxRecord). c.added ++ rs) (sym k.1)
 cut_part_adds h c last (Some t) news adds refused wanted s k =
     ap (λ (cs : List Call). (course_after c cs).added) (append-nil (calls_of t) ∙ ap calls_of k.is)
-    ∙ (cut_turn_adds h last k.now k.received k.frames k.next c s k.cut ∙ ap (λ (rs : List InboxRecord). c.added ++ rs) (sym k.adds_are))
+    ∙ (cut_adds h last k.now k.received k.frames k.refusal c s k.cut ∙ ap (λ (rs : List InboxRecord). c.added ++ rs) (sym k.adds_are))
 
 is_cut : (last : Line) (cut : Option Turn) (news : List NewsItem) (adds refused wanted : List InboxRecord) → PlainCut last cut news adds refused wanted → IfSome cut (IsCut last)
 is_cut last None news adds refused wanted k = tt

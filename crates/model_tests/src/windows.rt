@@ -2,8 +2,8 @@
 //! number, in one byte; the rows are the worked cases of the profile.
 
 use fixp_msgs::Range;
-use flow_recover::Back;
-use flow_window::{Receiver, Seen};
+use flow_recover::{Back, Seen};
+use flow_window::Receiver;
 use sbe_prim::Order;
 use std::test::Fail;
 

@@ -1,9 +1,10 @@
 -- The calls of a connection tell the finish of its outbox alone, and leave the limit of its numbers.
-use Rattle.std.proofs.Common.{◌≡◌, ℕ, ◌-◌, Bool, true, false, ◌&&◌, not, if◌then◌else◌, List, [], ◌∷◌, ◌++◌, length, Option, Some, None, IfSome, refl, sym, ap, subst, ◌∙◌}
-use Rattle.std.specs.Prelude.{is_some, option_to_list}
+use Rattle.std.proofs.Common.{◌≡◌, ℕ, ◌-◌, Bool, true, false, ◌&&◌, not, if◌then◌else◌, List, [], ◌∷◌, ◌++◌, length, Option, Some, None, IfSome, refl, sym, ap, subst, ◌∙◌, zero, suc}
+use Rattle.std.specs.Prelude.{is_some, option_to_list, replicate}
 use Rattle.std.specs.List.{AllByRecursion, flat_map}
 use Rattle.std.proofs.lemmas.Grind.{flat_map-append}
 use Rattle.session_model.specs.Journal.{History, BeginsHistory}
+use Rattle.session_model.specs.Inbox.{Numbered}
 use Rattle.session_model.proofs.Lists.{all_append}
 use Rattle.gate_turn.proofs.Histories.{begins_on}
 use Rattle.fixp_msgs.specs.declared.numbering.Range.{Range}
@@ -12,11 +13,12 @@ use Rattle.fixp_shake.specs.Flows.{is_absent}
 use Rattle.fixp_shake.specs.declared.violation.Violation.{Violation}
 use Rattle.fixp_replies.specs.Acts.{is_record}
 use Rattle.fixp_replies.specs.Events.{heartbeats, lateness, outbox_finished, turn_ended, finish_told, link_ending}
+use Rattle.fixp_replies.specs.Incoming.{payload_in}
 use Rattle.fixp_replies.specs.Outcomes.{Outcome}
 use Rattle.fixp_replies.specs.Replies.{reply_of}
-use Rattle.fixp_machine.specs.Machine.{State, Call, begin, frame, bad_frame, did, tick, turn_done, closed, link_end, live, again, taken, reserve, around, bytes_of, wrote, made, reply_applied, broken_by, done_pending, served_again, step, run}
-use Rattle.conn_turns.specs.Lines.{Line, TakenFrame, frame_calls}
-use Rattle.conn_turns.specs.Turns.{Turn, only_sends, works, link_lost, cut_short, not_begun, calls_of_frames, bad_calls, end_calls, closing_calls, again_calls, live_calls, finish_calls, outbox_calls, sending_calls, calls_of, finish_of}
+use Rattle.fixp_machine.specs.Machine.{State, Call, begin, frame, bad_frame, did, tick, turn_done, closed, link_end, live, again, taken, reserve, around, bytes_of, wrote, made, reply_applied, broken_by, done_pending, served_again, step, run, held_done, held_applied, held_with, front_of}
+use Rattle.conn_turns.specs.Lines.{Line, TakenFrame, frame_calls, act_calls}
+use Rattle.conn_turns.specs.Turns.{Turn, only_sends, works, link_lost, cut_short, not_begun, calls_of_frames, bad_calls, end_calls, closing_calls, again_calls, live_calls, finish_calls, outbox_calls, sending_calls, calls_of, finish_of, Refusal, of_act, of_held, refused_calls}
 use Rattle.conn_turns.specs.Exact.{closed_at}
 use Rattle.turn_laws.specs.Turns.{line_received, IsTurn, IsCut}
 use Rattle.turn_laws.specs.Legs.{AreTurns, calls_on}
@@ -44,13 +46,24 @@ finish_tells outbox seen m now (Some n) e begins = (by_mark (not (is_absent m.co
     by_mark true false f e = absurd (cc e)
     by_mark false finished f e = absurd (cc e)
 
-frames_tell : (outbox : History) (now : ℕ) (frames : List TakenFrame) → AllByRecursion (Tells outbox) (calls_of_frames now frames)
-frames_tell outbox now [] = tt
-frames_tell outbox now (t ∷ later) = all_append (Tells outbox) (frame_calls now t) (calls_of_frames now later) (by_recorded t.recorded) (frames_tell outbox now later)
+frame_tells : (outbox : History) (now : ℕ) (t : TakenFrame) → AllByRecursion (Tells outbox) (frame_calls now t)
+frame_tells outbox now t = all_append (Tells outbox) (act_calls now t) (replicate t.helds held_done) (by_recorded t.recorded) (all_held t.helds)
   where
+    all_held : (n : ℕ) → AllByRecursion (Tells outbox) (replicate n held_done)
+    all_held zero = tt
+    all_held (suc n) = (tt, all_held n)
+
     by_recorded : (b : Bool) → AllByRecursion (Tells outbox) (frame t.incoming t.at now ∷ (if b then did now ∷ [] else []))
     by_recorded true = (tt, (tt, tt))
     by_recorded false = (tt, tt)
+
+frames_tell : (outbox : History) (now : ℕ) (frames : List TakenFrame) → AllByRecursion (Tells outbox) (calls_of_frames now frames)
+frames_tell outbox now [] = tt
+frames_tell outbox now (t ∷ later) = all_append (Tells outbox) (frame_calls now t) (calls_of_frames now later) (frame_tells outbox now t) (frames_tell outbox now later)
+
+refused_tell : (outbox : History) (now : ℕ) (r : Refusal) → AllByRecursion (Tells outbox) (refused_calls now r)
+refused_tell outbox now (of_act t) = (tt, tt)
+refused_tell outbox now (of_held t m) = frame_tells outbox now t
 
 closing_tell : (outbox : History) (now : ℕ) (broken : Option ℕ) (over : Bool) → AllByRecursion (Tells outbox) (bad_calls now broken ++ (end_calls over ++ turn_done now ∷ []))
 closing_tell outbox now None true = (tt, (tt, tt))
@@ -108,8 +121,8 @@ cut_tells outbox last (only_sends now sent lost) k = absurd k
 cut_tells outbox last (works w) k = absurd k
 cut_tells outbox last (link_lost now) k = absurd k
 cut_tells outbox last (cut_short now received frames None) k = (tt, (tt, frames_tell outbox now frames))
-cut_tells outbox last (cut_short now received frames (Some f)) k =
-    (tt, (tt, all_append (Tells outbox) (calls_of_frames now frames) (frame f.incoming f.at now ∷ []) (frames_tell outbox now frames) (tt, tt)))
+cut_tells outbox last (cut_short now received frames (Some r)) k =
+    (tt, (tt, all_append (Tells outbox) (calls_of_frames now frames) (refused_calls now r) (frames_tell outbox now frames) (refused_tell outbox now r)))
 cut_tells outbox last not_begun k = absurd k
 
 cuts_tell : (outbox : History) (last : Line) (cut : Option Turn) → IfSome cut (IsCut last) → AllByRecursion (Tells outbox) (flat_map calls_of (option_to_list cut))
@@ -141,12 +154,17 @@ again_most : (s : State) (r : Option Range) (payloads : List (List ℕ)) (now : 
 again_most s None payloads now = refl
 again_most s (Some r) payloads now = refl
 
+held_most : (s : State) (m : Option Numbered) → (held_applied s m).most ≡ s.most
+held_most s None = refl
+held_most s (Some m) = refl
+
 step_most : (s : State) (call : Call) → (step s call).most ≡ s.most
 step_most s (begin now) = refl
 step_most s (frame i at now) =
     let o : Outcome = reply_of (around s at now) s.facts i in
     let got : State = record s { moment = now; last_received = now; room = s.room - 1 } in
-    either_most (is_record o.act) (record got { pending = Some o }) (reply_applied got o now) s.most refl refl
+    let more : State = record got { held = held_with o.holds (payload_in i) s.held } in
+    either_most (is_record o.act) (record got { pending = Some o }) (reply_applied more o now) s.most refl refl
 step_most s (bad_frame at now) = refl
 step_most s (did now) = done_most s s.pending now
 step_most s (tick now) =
@@ -157,11 +175,12 @@ step_most s (turn_done now) =
     either_most (is_some s.ending) (record s { moment = now }) (record (made (record s { moment = now }) (turn_ended (around s 0 now) s.facts (runs_of s.untold)) now) { untold = [] }) s.most refl refl
 step_most s (closed last now) =
     either_most (is_some s.ending) (record s { moment = now; facts = outbox_finished s.facts last }) (made (record s { moment = now }) (finish_told (around s 0 now) s.facts last) now) s.most refl refl
-step_most s link_end = either_most (is_some s.ending) s (record s { ending = Some (link_ending (around s 0 s.moment) s.facts); pending = None }) s.most refl refl
+step_most s link_end = either_most (is_some s.ending) s (record s { ending = Some (link_ending (around s 0 s.moment) s.facts); pending = None; held = [] }) s.most refl refl
 step_most s (live payloads now) = refl
 step_most s (again payloads now) = again_most s s.facts.connection.serving payloads now
 step_most s (taken count) = refl
 step_most s reserve = refl
+step_most s held_done = held_most s (front_of s)
 
 pub run_most : (s : State) (calls : List Call) → (run s calls).most ≡ s.most
 run_most s [] = refl

@@ -1,75 +1,27 @@
--- A connection on which a frame waits, with that frame counted as taken: its inbox has the records of the frame's act too.
-use Rattle.std.proofs.Common.{◌≡◌, ◌≤◌, ℕ, true, List, [], ◌∷◌, ◌++◌, length, Option, Some, None, IfSome, IsSome, refl, sym, ap, subst, ◌∙◌, append-nil, append_assoc}
-use Rattle.std.specs.Prelude.{option_map, option_to_list}
+-- A connection on which a frame waits, or a held message, with that counted as done: its inbox has the records of it too.
+use Rattle.std.proofs.Common.{◌≡◌, ◌≤◌, ℕ, List, [], ◌∷◌, ◌++◌, length, Option, Some, None, IsSome, refl, sym, ap, subst, ◌∙◌, append-nil, append_assoc, ◌+◌, zero, suc, arith}
+use Rattle.std.specs.Prelude.{option_map, option_to_list, replicate}
 use Rattle.std.specs.List.{AllZip, flat_map}
 use Rattle.std.proofs.lemmas.Grind.{flat_map-append}
 use Rattle.session_model.specs.Journal.{Entry}
+use Rattle.session_model.specs.Inbox.{InboxRecord, Numbered}
 use Rattle.fixp_replies.specs.Outcomes.{Outcome}
-use Rattle.fixp_machine.specs.Machine.{State, Call, did, run}
-use Rattle.fixp_machine.specs.Machine as calls
+use Rattle.fixp_machine.specs.Machine.{Call, did, held_done, front_of, step}
 use Rattle.fixp_machine.specs.Accepting.{records_of}
-use Rattle.conn_turns.specs.Lines.{Line, TakenFrame, frame_calls}
-use Rattle.conn_turns.specs.Turns.{Turn, only_sends, works, link_lost, cut_short, not_begun, first_calls, calls_of_frames, calls_of}
-use Rattle.conn_turns.proofs.Taking.{run_append}
-use Rattle.connection_laws.specs.Courses.{Waiting, Course, inbox_of, reply_to, beginning, called, next_done, next_course, course_after}
+use Rattle.conn_turns.specs.Lines.{TakenFrame, act_calls, frame_calls}
+use Rattle.conn_turns.specs.Turns.{Turn, Refusal, of_act, of_held, cut_short, first_calls, calls_of_frames, refused_calls, calls_of}
+use Rattle.connection_laws.specs.Courses.{Waiting, Course, inbox_of, reply_to, beginning, called, next_done, next_held, next_course, course_after}
 use Rattle.connection_laws.specs.Standing.{Stands}
 use Rattle.connection_laws.proofs.Going.{calls_keep, connection_begins}
-use Rattle.turn_laws.specs.Turns.{line_received, IsCut}
 use Rattle.turn_laws.specs.Legs.{TurnedLeg, given_in, given_on, calls_on, course_on}
-use Rattle.turn_laws.proofs.Going.{after_append, first_go, frames_go}
-use Rattle.turn_laws.proofs.Running.{TurnsStand, begin_stands, turns_stand, leg_stands}
-use Rattle.turn_laws.proofs.Working.{steady_at}
+use Rattle.turn_laws.proofs.Going.{after_append}
+use Rattle.turn_laws.proofs.Running.{leg_stands}
 use Rattle.honest_turns.specs.Links.{OverOneLink}
 use Rattle.honest_turns.specs.Sides.{Side, behind, inbox_behind, MakesTurns}
 use Rattle.honest_turns.specs.Lives.{InTime, no_more, initiator_alone, acceptor_alone, paired}
-use Rattle.honest_turns.specs.Counting.{counted, CountsAs}
-use Rattle.honest_turns.proofs.Connecting.{course_at, line_at, behind_is, behind_last}
+use Rattle.honest_turns.specs.Counting.{frame_counted, done_call, turn_counted, counted, CountsAs, IsToBeDone}
+use Rattle.life_laws.proofs.Waits.{WaitsOn, at_act, at_held}
 use Rattle.honest_turns.proofs.Counted.{refused_counts}
-
--- its last turn was cut short at a frame
-pub record CutAtFrame (s : Side) : Type 0 where
-  pub now : ℕ
-  pub received : List ℕ
-  pub frames : List TakenFrame
-  pub frame : TakenFrame
-  pub cut : s.leg.cut ≡ Some (cut_short now received frames (Some frame))
-
--- where an act is still to be done
-some_none : (p : Option Outcome) → IsSome p → p ≡ None → ⊥
-some_none None some e = absurd (cc some)
-some_none (Some o) some e = cc e
-
-pub cut_at_frame : (s : Side) → MakesTurns s → s.state.facts.recorded.sent ≤ length s.outbox.made → IsSome (behind s).pending → CutAtFrame s
-cut_at_frame s k enough pends = by_cut s.leg.cut refl k.turns.cut
-  where
-    h : List Entry
-    h = s.outbox.made
-
-    last : Line
-    last = k.turns.last
-
-    whole : Course
-    whole = course_after (course_at s) (flat_map calls_of s.leg.turns)
-
-    x : TurnsStand h (course_at s) last s.leg.turns
-    x = turns_stand h k.turns.before k.turns.after (line_at s) last s.leg.turns (course_at s) (begin_stands h s.state s.inbox s.leg.moment k.ready.awaits enough) k.turns.has k.turns.turns k.turns.faithful
-
-    by_cut : (cut : Option Turn) → s.leg.cut ≡ cut → IfSome cut (IsCut last) → CutAtFrame s
-    by_cut None e c = absurd (some_none (behind s).pending pends (ap (λ (m : State). m.pending) (behind_last s k enough e) ∙ x.after.done))
-    by_cut (Some (only_sends now sent lost)) e c = absurd c
-    by_cut (Some (works w)) e c = absurd c
-    by_cut (Some (link_lost now)) e c = absurd c
-    by_cut (Some not_begun) e c = absurd c
-    by_cut (Some (cut_short now received frames (Some f))) e c = record { now = now; received = received; frames = frames; frame = f; cut = e }
-    by_cut (Some (cut_short now received frames None)) e c =
-        let l : Line = line_received last now received c.got in
-        let first : List Call = first_calls now in
-        let took : List Call = calls_of_frames now frames in
-        let y = first_go h whole last.machine now (steady_at h whole last x.after) in
-        let z = frames_go h now l frames (course_after whole first) y.after c.taken in
-        let is : behind s ≡ run last.machine (first ++ took) =
-        behind_is s k enough ∙ (ap (λ (o : Option Turn). run last.machine (flat_map calls_of (option_to_list o))) e ∙ ap (λ (cs : List Call). run last.machine cs) (append-nil (first ++ took))) in
-        absurd (some_none (behind s).pending pends (ap (λ (m : State). m.pending) is ∙ (ap (λ (m : State). m.pending) (run_append last.machine first took) ∙ z.after.done)))
 
 -- a connection that lies over whatever link another lies over, was given nothing where that was, and is that one where no turn of it was cut short
 pub record SameLink (t u : TurnedLeg) : Type 0 where
@@ -107,24 +59,105 @@ in_time_so (t ∷ ts) (u ∷ us) (v ∷ vs) (w ∷ ws) (paired link rest) x y =
 some_cut : {o : Option Turn} {t : Turn} → o ≡ Some t → o ≡ None → ⊥
 some_cut some none = cc (some, none)
 
--- the connection with the frame counted as taken
-pub record CountedOn (s : Side) (w : Waiting) : Type 0 where
+-- the connection with what was refused counted as done
+pub record CountedOn (s : Side) (refused : List InboxRecord) : Type 0 where
   pub leg : TurnedLeg
   pub link : SameLink s.leg leg
   pub makes : MakesTurns (record s { leg = leg })
   pub moment : leg.moment ≡ s.leg.moment
   pub turns : leg.turns ≡ s.leg.turns
-  pub inbox : inbox_behind (record s { leg = leg }) ≡ inbox_behind s ++ records_of (reply_to (behind s) w).act w.incoming
+  pub inbox : inbox_behind (record s { leg = leg }) ≡ inbox_behind s ++ refused
 
-pub counted_on : (s : Side) (w : Waiting) → MakesTurns s → s.state.facts.recorded.sent ≤ length s.outbox.made → (course_on s.state s.inbox s.leg).waiting ≡ Some w → CountedOn s w
-counted_on s w k enough waits = record {
+-- one call more is that of what was refused
+one_call_more : (n : ℕ) → replicate (n + 1) held_done ≡ replicate n held_done ++ held_done ∷ []
+one_call_more n = let next : n + 1 ≡ suc n = omega arith in ap (λ (k : ℕ). replicate k held_done) next ∙ by_number n
+  where
+    by_number : (k : ℕ) → replicate (suc k) held_done ≡ replicate k held_done ++ held_done ∷ []
+    by_number zero = refl
+    by_number (suc k) = ap (λ (cs : List Call). held_done ∷ cs) (by_number k)
+
+frame_calls_more : (now : ℕ) (r : Refusal) → frame_calls now (frame_counted r) ≡ refused_calls now r ++ done_call now r ∷ []
+frame_calls_more now (of_act t) = refl
+frame_calls_more now (of_held t m) =
+    ap (λ (cs : List Call). act_calls now t ++ cs) (one_call_more t.helds) ∙ sym (append_assoc (act_calls now t) (replicate t.helds held_done) (held_done ∷ []))
+
+turn_calls_more : (now : ℕ) (received : List ℕ) (frames : List TakenFrame) (r : Refusal) (awaited : Option Numbered)
+    → calls_of (turn_counted now received frames (frame_counted r) awaited) ≡ calls_of (cut_short now received frames (Some r)) ++ done_call now r ∷ []
+turn_calls_more now received frames r awaited = by_awaited awaited
+    ∙ (ap (λ (cs : List Call). first ++ (took ++ cs)) (frame_calls_more now r)
+    ∙ (ap (λ (cs : List Call). first ++ cs) (sym (append_assoc took (refused_calls now r) last)) ∙ sym (append_assoc first (took ++ refused_calls now r) last)))
+  where
+    first : List Call
+    first = first_calls now
+
+    took : List Call
+    took = calls_of_frames now frames
+
+    last : List Call
+    last = done_call now r ∷ []
+
+    by_awaited : (o : Option Numbered) → calls_of (turn_counted now received frames (frame_counted r) o) ≡ first ++ (took ++ frame_calls now (frame_counted r))
+    by_awaited None = ap (λ (cs : List Call). first ++ cs) (flat_map-append (frame_calls now) frames (frame_counted r ∷ []) ∙ ap (λ (cs : List Call). took ++ cs) (append-nil (frame_calls now (frame_counted r))))
+    by_awaited (Some m) = refl
+
+counted_by : (s : Side) (refused : List InboxRecord) (now : ℕ) (received : List ℕ) (frames : List TakenFrame) (r : Refusal) → MakesTurns s → s.state.facts.recorded.sent ≤ length s.outbox.made
+    → s.leg.cut ≡ Some (cut_short now received frames (Some r)) → IsToBeDone (behind s) r
+    → inbox_of (next_course (course_on s.state s.inbox s.leg) (done_call now r)) ≡ inbox_of (course_on s.state s.inbox s.leg) ++ refused → CountedOn s refused
+counted_by s refused now received frames r k enough cut waits adds = record {
   leg = leg;
-  link = record { whole = λ none. absurd (some_cut at.cut none); initiates = counts.initiates; accepts = counts.accepts; given = λ none. given ∙ none };
+  link = record { whole = λ none. absurd (some_cut cut none); initiates = counts.initiates; accepts = counts.accepts; given = λ none. given ∙ none };
   makes = counts.makes;
   moment = refl;
   turns = refl;
-  inbox = inbox;
+  inbox = ap inbox_of course ∙ adds;
 }
+  where
+    b : Course
+    b = beginning s.state s.inbox s.leg.moment
+
+    counts : CountsAs s (counted s now received frames r) (done_call now r)
+    counts = refused_counts s now received frames r k enough cut waits
+
+    leg : TurnedLeg
+    leg = (counted s now received frames r).leg
+
+    old : Turn
+    old = cut_short now received frames (Some r)
+
+    awaited : Option Numbered
+    awaited = front_of (step (behind s) (done_call now r))
+
+    new : Turn
+    new = turn_counted now received frames (frame_counted r) awaited
+
+    whole_turns : List Turn
+    whole_turns = s.leg.turns
+
+    given : given_on leg ≡ given_on s.leg
+    given =
+        flat_map-append given_in whole_turns (new ∷ [])
+        ∙ (sym (flat_map-append given_in whole_turns (old ∷ [])) ∙ ap (λ (x : Option Turn). flat_map given_in (whole_turns ++ option_to_list x)) (sym cut))
+
+    whole : List Call
+    whole = flat_map calls_of whole_turns
+
+    last : List Call
+    last = done_call now r ∷ []
+
+    -- its calls are those of the connection, and behind them what was refused is done
+    all_calls : calls_on leg ≡ calls_on s.leg ++ last
+    all_calls =
+        flat_map-append calls_of whole_turns (new ∷ [])
+        ∙ (ap (λ (cs : List Call). whole ++ cs) (append-nil (calls_of new) ∙ (turn_calls_more now received frames r awaited ∙ ap (λ (cs : List Call). cs ++ last) (sym (append-nil (calls_of old)))))
+        ∙ (sym (append_assoc whole (calls_of old ++ []) last)
+        ∙ ap (λ (cs : List Call). cs ++ last) (sym (flat_map-append calls_of whole_turns (old ∷ [])) ∙ ap (λ (x : Option Turn). flat_map calls_of (whole_turns ++ option_to_list x)) (sym cut))))
+
+    course : course_on s.state s.inbox leg ≡ next_course (course_on s.state s.inbox s.leg) (done_call now r)
+    course = ap (λ (cs : List Call). course_after b cs) all_calls ∙ after_append b (calls_on s.leg) last
+
+pub counted_on : (s : Side) (refused : List InboxRecord) → MakesTurns s → s.state.facts.recorded.sent ≤ length s.outbox.made → WaitsOn s.leg.cut (course_on s.state s.inbox s.leg) refused → CountedOn s refused
+counted_on s refused k enough (at_act now received frames t cut w) =
+    counted_by s refused now received frames (of_act t) k enough cut (subst (λ (p : Option Outcome). IsSome p) (sym pends) refl) adds
   where
     h : List Entry
     h = s.outbox.made
@@ -139,68 +172,25 @@ counted_on s w k enough waits = record {
     stands = calls_keep h b (calls_on s.leg) (connection_begins h s.state s.inbox s.leg.moment k.ready.awaits enough) (leg_stands h s.state s.inbox s.leg k.ready.awaits enough k.turns)
 
     o : Outcome
-    o = reply_to c.state w
+    o = reply_to c.state w.waiting
 
     pends : c.state.pending ≡ Some o
-    pends = stands.pends ∙ ap (λ (x : Option Waiting). option_map (reply_to c.state) x) waits
-
-    at : CutAtFrame s
-    at = cut_at_frame s k enough (subst (λ (p : Option Outcome). IsSome p) (sym pends) refl)
-
-    counts : CountsAs s (counted s at.now at.received at.frames at.frame) at.now
-    counts = refused_counts s at.now at.received at.frames at.frame k enough at.cut (subst (λ (p : Option Outcome). IsSome p) (sym pends) refl)
-
-    leg : TurnedLeg
-    leg = (counted s at.now at.received at.frames at.frame).leg
-
-    old : Turn
-    old = cut_short at.now at.received at.frames (Some at.frame)
-
-    f' : TakenFrame
-    f' = record at.frame { recorded = true }
-
-    new : Turn
-    new = cut_short at.now at.received (at.frames ++ f' ∷ []) None
-
-    whole_turns : List Turn
-    whole_turns = s.leg.turns
-
-    given : given_on leg ≡ given_on s.leg
-    given =
-        flat_map-append given_in whole_turns (new ∷ [])
-        ∙ (sym (flat_map-append given_in whole_turns (old ∷ [])) ∙ ap (λ (x : Option Turn). flat_map given_in (whole_turns ++ option_to_list x)) (sym at.cut))
-
-    first : List Call
-    first = first_calls at.now
-
-    took : List Call
-    took = calls_of_frames at.now at.frames
-
-    call : Call
-    call = calls.frame at.frame.incoming at.frame.at at.now
-
-    whole : List Call
-    whole = flat_map calls_of whole_turns
-
-    -- its calls are those of the connection, and behind them the act is done
-    all_calls : calls_on leg ≡ calls_on s.leg ++ did at.now ∷ []
-    all_calls =
-        flat_map-append calls_of whole_turns (new ∷ [])
-        ∙ (ap (λ (cs : List Call). whole ++ cs) (append-nil (calls_of new)
-        ∙ (ap (λ (cs : List Call). first ++ cs) (flat_map-append (frame_calls at.now) at.frames (f' ∷ []) ∙ sym (append_assoc took (call ∷ []) (did at.now ∷ [])))
-        ∙ ap (λ (cs : List Call). cs ++ did at.now ∷ []) (sym (append-nil (calls_of old)))))
-        ∙ (sym (append_assoc whole (calls_of old ++ []) (did at.now ∷ []))
-        ∙ ap (λ (cs : List Call). cs ++ did at.now ∷ []) (sym (flat_map-append calls_of whole_turns (old ∷ [])) ∙ ap (λ (x : Option Turn). flat_map calls_of (whole_turns ++ option_to_list x)) (sym at.cut))))
-
-    course : course_on s.state s.inbox leg ≡ next_course c (did at.now)
-    course = ap (λ (cs : List Call). course_after b cs) all_calls ∙ after_append b (calls_on s.leg) (did at.now ∷ [])
+    pends = stands.pends ∙ ap (λ (x : Option Waiting). option_map (reply_to c.state) x) w.is
 
     d : Course
-    d = called c (did at.now)
+    d = called c (did now)
 
-    inbox : inbox_behind (record s { leg = leg }) ≡ inbox_behind s ++ records_of o.act w.incoming
-    inbox =
-        ap inbox_of course
-        ∙ (ap (λ (p : Option Outcome). inbox_of (next_done d p c.waiting)) pends
-        ∙ (ap (λ (x : Option Waiting). inbox_of (next_done d (Some o) x)) waits
-        ∙ sym (append_assoc c.start c.added (records_of o.act w.incoming))))
+    adds : inbox_of (next_course c (did now)) ≡ inbox_of c ++ refused
+    adds =
+        ap (λ (p : Option Outcome). inbox_of (next_done d p c.waiting)) pends
+        ∙ (ap (λ (x : Option Waiting). inbox_of (next_done d (Some o) x)) w.is
+        ∙ (sym (append_assoc c.start c.added (records_of o.act w.waiting.incoming)) ∙ ap (λ (rs : List InboxRecord). inbox_of c ++ rs) w.left_are))
+counted_on s refused k enough (at_held now received frames t m cut w) = counted_by s refused now received frames (of_held t m) k enough cut tt adds
+  where
+    c : Course
+    c = course_on s.state s.inbox s.leg
+
+    adds : inbox_of (next_course c held_done) ≡ inbox_of c ++ refused
+    adds =
+        ap (λ (o : Option Numbered). inbox_of (next_held (called c held_done) o)) w.is
+        ∙ (sym (append_assoc c.start c.added (InboxRecord.apply m ∷ [])) ∙ ap (λ (rs : List InboxRecord). inbox_of c ++ rs) w.left_are)

@@ -14,12 +14,13 @@ use Rattle.fixp_replies.specs.declared.act.Act.{Act}
 use Rattle.fixp_replies.specs.declared.act.Act.TheVariants as acts
 use Rattle.fixp_replies.specs.Incoming.{Incoming}
 use Rattle.fixp_machine.specs.Machine.{State, fresh}
+use Rattle.fixp_machine.proofs.Windowing.{windowed_empty}
 use Rattle.fixp_machine.specs.Accepting.{records_of}
-use Rattle.connection_laws.specs.Courses.{inbox_of, reply_to}
+use Rattle.connection_laws.specs.Courses.{Course, inbox_of}
 use Rattle.connection_laws.specs.Ranges.{IsInRange, IsOutbox}
 use Rattle.conn_turns.specs.Lines.{Line}
 use Rattle.conn_turns.specs.Turns.{Turn}
-use Rattle.turn_laws.specs.Standing.{Has, Waits}
+use Rattle.turn_laws.specs.Standing.{Has}
 use Rattle.turn_laws.specs.Legs.{TurnedLeg, AreTurns, first_line, course_on}
 use Rattle.turn_laws.specs.Lives.{state_after, inbox_after}
 use Rattle.jr_dated.specs.declared.journal.Journal.{Ghosts}
@@ -34,7 +35,7 @@ use Rattle.conn_serve.specs.Served.{WasGivenUp, ServedLife}
 use Rattle.life_laws.proofs.Opened.{opened_in_range}
 use Rattle.life_laws.proofs.Behind.{AreBehind, life_behind, given_turned, last_faithful, served_is_turned}
 use Rattle.life_laws.proofs.Turned.{IsTurnedOne}
-use Rattle.life_laws.proofs.Waits.{waits_or_none}
+use Rattle.life_laws.proofs.Waits.{WaitsOn, at_act, at_held, waits_or_none}
 use Rattle.run_laws.proofs.Ordered.{begins_within, history_of-records}
 use Rattle.honest_turns.specs.Sides.{Side, MakesTurns}
 use Rattle.honest_turns.specs.Lives.{End, side_of, sides, end_after, EndInTime}
@@ -61,6 +62,11 @@ records_few acts.Negotiated i = omega arith
 records_few (acts.PeerFinished last) i = omega arith
 records_few (acts.Told from count) i = omega arith
 records_few acts.Ended i = omega arith
+
+-- so does what waits to be added
+waits_few : (cut : Option Turn) (d : Course) (left : List InboxRecord) → WaitsOn cut d left → length left ≤ 1
+waits_few cut d left (at_act now received frames t is w) = subst (λ (rs : List InboxRecord). length rs ≤ 1) w.left_are (records_few _ w.waiting.incoming)
+waits_few cut d left (at_held now received frames t m is w) = subst (λ (rs : List InboxRecord). length rs ≤ 1) w.left_are (omega arith)
 
 -- so a beginning of them is none or all of them
 none_or_all : (kept records : List InboxRecord) → IsPrefix kept records → length records ≤ 1 → (kept ≡ []) ⊎ (kept ≡ records)
@@ -150,7 +156,10 @@ module _ {J : Type 0} {G : Ghosts J} {tells : Type 0} (at behind : LifeAt J G) (
         soft = λ t. absurd (true≢false (sym t));
         role = λ _. refl;
       };
+      windowed = windowed_empty m.config m.most m.facts m.ending;
       pending = tt;
+      holding = tt;
+      waits = λ _. refl;
     };
     last = holds.noticed.peer_last;
     finish = finish;
@@ -238,7 +247,7 @@ module _ {J : Type 0} {G : Ghosts J} {tells : Type 0} (at behind : LifeAt J G) (
 
   -- where those of the connection that was given up were kept
   with_last : (c : Connection) (given_is : k.given_up ≡ Some c) (waiting : List InboxRecord) → waiting ≡ (inbox ++ adds_of (all_of k.ended k.given_up)) ++ c.refused
-      → Waits (course_on (state_after m inbox (turned k.ended)) (inbox_after m inbox (turned k.ended)) c.leg) c.refused → Legs end k.ended k.given_up line (machine_left k.ended k.mid line) waiting
+      → WaitsOn c.leg.cut (course_on (state_after m inbox (turned k.ended)) (inbox_after m inbox (turned k.ended)) c.leg) c.refused → Legs end k.ended k.given_up line (machine_left k.ended k.mid line) waiting
   with_last c given_is waiting is w =
       record {
         given = x.leg ∷ [];
@@ -247,7 +256,7 @@ module _ {J : Type 0} {G : Ghosts J} {tells : Type 0} (at behind : LifeAt J G) (
         makes = subst (λ (ss : List Side). AllByRecursion MakesTurns ss) (sym (sides_append end (turned k.ended) (x.leg ∷ [])))
             (all_append MakesTurns (sides end (turned k.ended)) (side_of behind_ended x.leg ∷ []) ended_make (x.makes, tt));
         inbox = ap (λ (f : End). f.inbox) (after_append end (turned k.ended) (x.leg ∷ []))
-            ∙ (x.inbox ∙ (ap (λ (rs : List InboxRecord). rs ++ records_of (reply_to (side_behind) w.waiting).act w.waiting.incoming) before ∙ (ap (λ (rs : List InboxRecord). (inbox ++ adds_of (all_of k.ended k.given_up)) ++ rs) left ∙ sym is)));
+            ∙ (x.inbox ∙ (ap (λ (rs : List InboxRecord). rs ++ c.refused) before ∙ sym is));
         close = all_close end at.seen served.behind served.mid k.ended (x.leg ∷ []) served.on;
         left = λ y e. left_by x.leg (x.leg ∷ []) k.given_up k.gave_up y e
             (λ d is. let same : c ≡ d = same_Some c d (sym given_is ∙ is) in (refl, x.moment ∙ ap (λ (z : Connection). z.leg.moment) same, x.turns ∙ ap (λ (z : Connection). z.leg.turns) same));
@@ -273,22 +282,15 @@ module _ {J : Type 0} {G : Ghosts J} {tells : Type 0} (at behind : LifeAt J G) (
       last_makes : MakesTurns (side_of behind_ended c.leg)
       last_makes = (all_second MakesTurns (sides end (turned k.ended)) (side_of behind_ended c.leg ∷ []) makes).0
 
-      waits : (course_on behind_ended.state behind_ended.inbox c.leg).waiting ≡ Some w.waiting
-      waits = ap (λ (s : State). (course_on s behind_ended.inbox c.leg).waiting) (state_behind_all end (turned k.ended))
-          ∙ (ap (λ (rs : List InboxRecord). (course_on (state_after m inbox (turned k.ended)) rs c.leg).waiting) (inbox_behind_all end (turned k.ended)) ∙ w.is)
+      waits : WaitsOn c.leg.cut (course_on behind_ended.state behind_ended.inbox c.leg) c.refused
+      waits = subst (λ (s : State). WaitsOn c.leg.cut (course_on s behind_ended.inbox c.leg) c.refused) (sym (state_behind_all end (turned k.ended)))
+          (subst (λ (rs : List InboxRecord). WaitsOn c.leg.cut (course_on (state_after m inbox (turned k.ended)) rs c.leg) c.refused) (sym (inbox_behind_all end (turned k.ended))) w)
 
-      x : CountedOn (side_of behind_ended c.leg) w.waiting
-      x = counted_on (side_of behind_ended c.leg) w.waiting last_makes stays.stays.enough waits
-
-      side_behind : State
-      side_behind = (course_on behind_ended.state behind_ended.inbox c.leg).state
+      x : CountedOn (side_of behind_ended c.leg) c.refused
+      x = counted_on (side_of behind_ended c.leg) c.refused last_makes stays.stays.enough waits
 
       before : inbox_of (course_on behind_ended.state behind_ended.inbox c.leg) ≡ inbox ++ adds_of (all_of k.ended k.given_up)
       before = sym (ap (λ (f : End). f.inbox) (after_append end (turned k.ended) (c.leg ∷ []))) ∙ (ap (λ (ts : List TurnedLeg). (end_after end ts).inbox) (sym same) ∙ all_inbox)
-
-      left : records_of (reply_to side_behind w.waiting).act w.waiting.incoming ≡ c.refused
-      left = ap (λ (s : State). records_of (reply_to (course_on s behind_ended.inbox c.leg).state w.waiting).act w.waiting.incoming) (state_behind_all end (turned k.ended))
-          ∙ (ap (λ (rs : List InboxRecord). records_of (reply_to (course_on (state_after m inbox (turned k.ended)) rs c.leg).state w.waiting).act w.waiting.incoming) (inbox_behind_all end (turned k.ended)) ∙ w.left_are)
 
       by_over : (o : Option Connection) (g : WasGivenUp k.behind behind.seen k.mid o) → o ≡ Some c → (s : State) → machine_left k.ended k.mid (line_given k.behind behind.seen k.mid o g) ≡ Some s
           → Left (EndsIn s) end (turned k.ended ++ x.leg ∷ [])
@@ -324,9 +326,9 @@ module _ {J : Type 0} {G : Ghosts J} {tells : Type 0} (at behind : LifeAt J G) (
           beginning : IsPrefix g.kept c.refused
           beginning = subst (λ (rs : List InboxRecord). IsPrefix g.kept rs) (append-nil c.refused) (subst (λ (o : Option Connection). IsPrefix g.kept (refused_of_all (option_to_list o))) e g.beginning)
 
-          by_waiting : (c.refused ≡ []) ⊎ Waits (course_on (state_after m inbox (turned k.ended)) (inbox_after m inbox (turned k.ended)) c.leg) c.refused → Legs end k.ended k.given_up line (machine_left k.ended k.mid line) waiting
+          by_waiting : (c.refused ≡ []) ⊎ WaitsOn c.leg.cut (course_on (state_after m inbox (turned k.ended)) (inbox_after m inbox (turned k.ended)) c.leg) c.refused → Legs end k.ended k.given_up line (machine_left k.ended k.mid line) waiting
           by_waiting (inl none) = none_kept (no_more g.kept (subst (λ (rs : List InboxRecord). IsPrefix g.kept rs) none beginning))
-          by_waiting (inr w) = by_kept (none_or_all g.kept c.refused beginning (subst (λ (rs : List InboxRecord). length rs ≤ 1) w.left_are (records_few _ w.waiting.incoming)))
+          by_waiting (inr w) = by_kept (none_or_all g.kept c.refused beginning (waits_few c.leg.cut _ c.refused w))
             where
               by_kept : (g.kept ≡ []) ⊎ (g.kept ≡ c.refused) → Legs end k.ended k.given_up line (machine_left k.ended k.mid line) waiting
               by_kept (inl none) = none_kept none

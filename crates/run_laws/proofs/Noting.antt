@@ -4,7 +4,7 @@ use Rattle.std.specs.Prelude.{⊤, is_some, option_map}
 use Rattle.std.specs.List.{AllByRecursion}
 use Rattle.std.proofs.lemmas.Option.{same_Some}
 use Rattle.session_model.specs.Journal.{Entry}
-use Rattle.session_model.specs.Inbox.{InboxRecord, negotiated, peer_finished}
+use Rattle.session_model.specs.Inbox.{InboxRecord, negotiated, peer_finished, Numbered}
 use Rattle.fixp_msgs.specs.declared.flow.Flow.{Flow}
 use Rattle.fixp_msgs.specs.declared.numbering.Range.{Range}
 use Rattle.flow_idem.specs.Runs.{runs_of}
@@ -15,17 +15,17 @@ use Rattle.fixp_replies.specs.declared.facts.EndState.{EndState}
 use Rattle.fixp_replies.specs.declared.facts.Facts.{Facts}
 use Rattle.fixp_replies.specs.Acts.{is_record}
 use Rattle.fixp_replies.specs.Events.{Made, heartbeats, lateness, closes, tells_finish, outbox_finished, turn_ended, finish_told, link_ending}
-use Rattle.fixp_replies.specs.Incoming.{Incoming}
+use Rattle.fixp_replies.specs.Incoming.{Incoming, payload_in}
 use Rattle.fixp_replies.specs.Outcomes.{Outcome}
 use Rattle.fixp_replies.specs.Replies.{reply_of}
-use Rattle.fixp_machine.specs.Machine.{State, Call, begin, frame, bad_frame, did, tick, turn_done, closed, link_end, live, again, taken, reserve, around, bytes_of, wrote, made, reply_applied, broken_by, done_pending, served_again, step, StaysSound}
+use Rattle.fixp_machine.specs.Machine.{State, Call, begin, frame, bad_frame, did, tick, turn_done, closed, link_end, live, again, taken, reserve, around, bytes_of, wrote, made, reply_applied, broken_by, done_pending, served_again, step, StaysSound, held_done, held_applied, held_with, past_held, front_of}
 use Rattle.fixp_machine.specs.Fitting.{IsMessage, CanTake, recorded_after, Fits}
 use Rattle.fixp_machine.specs.Accepting.{records_of}
 use Rattle.fixp_machine.proofs.Calls.{calls_keep_sound}
 use Rattle.fixp_machine.proofs.Moving.{acts_fit}
 use Rattle.jr_boxes.specs.Inboxes.{peer_last_in}
 use Rattle.jr_boxes.proofs.Settling.{peer_last_in-push, peer_last_in-other}
-use Rattle.connection_laws.specs.Courses.{Waiting, Course, inbox_of, reply_to, counting, called, next_done, next_course, course_after}
+use Rattle.connection_laws.specs.Courses.{Waiting, Course, inbox_of, reply_to, counting, called, next_done, next_course, course_after, next_held}
 use Rattle.connection_laws.specs.Standing.{Stands, MayStand, AllMayStand}
 use Rattle.connection_laws.proofs.Continuing.{state_is_run}
 use Rattle.connection_laws.proofs.Going.{call_keeps}
@@ -92,17 +92,20 @@ framed P c i at now n = by_test (is_record o.act) refl
     got : State
     got = record s { moment = now; last_received = now; room = s.room - 1 }
 
+    more : State
+    more = record got { held = held_with o.holds (payload_in i) s.held }
+
     d : Course
     d = called c (frame i at now)
 
     by_test : (b : Bool) → is_record o.act ≡ b → Knows P (if b then record d { waiting = Some w } else counting d o i).state.facts (inbox_of (if b then record d { waiting = Some w } else counting d o i))
     by_test true e =
-        let same : s.facts ≡ d.state.facts = sym (ap (λ (b : Bool). (if b then record got { pending = Some o } else reply_applied got o now).facts) e) in
+        let same : s.facts ≡ d.state.facts = sym (ap (λ (b : Bool). (if b then record got { pending = Some o } else reply_applied more o now).facts) e) in
         subst (λ (f : Facts). Knows P f (inbox_of c)) same (knows P c n)
     by_test false e =
-        let same : o.next ≡ d.state.facts = sym (ap (λ (b : Bool). (if b then record got { pending = Some o } else reply_applied got o now).facts) e) in
+        let same : o.next ≡ d.state.facts = sym (ap (λ (b : Bool). (if b then record got { pending = Some o } else reply_applied more o now).facts) e) in
         subst (λ (f : Facts). Knows P f (c.start ++ (c.added ++ records_of o.act i))) same
-        (subst (λ (rs : List InboxRecord). Knows P o.next rs) (append_assoc c.start c.added (records_of o.act i)) (replied P s i o (inbox_of c) (acts_fit.frames (around s at now) s.facts i n.sound.most n.sound.facts) (knows P c n)))
+        (subst (λ (rs : List InboxRecord). Knows P o.next rs) (append_assoc c.start c.added (records_of o.act i)) (replied P s i o (inbox_of c) (acts_fit.frames (around s at now) s.facts i n.sound.most n.sound.facts n.sound.windowed.fits) (knows P c n)))
 
 -- the act of the frame that waits
 acted : (P : ℕ → Type 0) (h : List Entry) (c : Course) (now : ℕ) → Stands h c → Noted P c → Knows P (next_course c (did now)).state.facts (inbox_of (next_course c (did now)))
@@ -121,7 +124,20 @@ acted P h c now st n = by_case c.state.pending c.waiting refl st.pends
         let is : o ≡ reply_to s w = same_Some o (reply_to s w) pends in
         subst (λ (f : Facts). Knows P f (c.start ++ (c.added ++ records_of o.act w.incoming))) (sym (ap (λ (p : Option Outcome). (done_pending s p now).facts) e))
         (subst (λ (rs : List InboxRecord). Knows P o.next rs) (append_assoc c.start c.added (records_of o.act w.incoming))
-        (replied P s w.incoming o (inbox_of c) (subst (λ (x : Outcome). Fits s.config s.most s.facts w.incoming x) (sym is) (acts_fit.frames (around s w.at w.moment) s.facts w.incoming n.sound.most n.sound.facts)) (knows P c n)))
+        (replied P s w.incoming o (inbox_of c) (subst (λ (x : Outcome). Fits s.config s.most s.facts w.incoming x) (sym is) (acts_fit.frames (around s w.at w.moment) s.facts w.incoming n.sound.most n.sound.facts n.sound.windowed.fits)) (knows P c n)))
+
+-- a held message is applied
+held_known : (P : ℕ → Type 0) (c : Course) → Noted P c → Knows P (next_course c held_done).state.facts (inbox_of (next_course c held_done))
+held_known P c n = by_front (front_of c.state) refl
+  where
+    d : Course
+    d = called c held_done
+
+    by_front : (o : Option Numbered) → front_of c.state ≡ o → Knows P (next_held d o).state.facts (inbox_of (next_held d o))
+    by_front None e = subst (λ (k : Option Numbered). Knows P (held_applied c.state k).facts (inbox_of c)) (sym e) (knows P c n)
+    by_front (Some m) e = subst (λ (k : Option Numbered). Knows P (held_applied c.state k).facts (c.start ++ (c.added ++ InboxRecord.apply m ∷ []))) (sym e)
+        (subst (λ (rs : List InboxRecord). Knows P (past_held c.state.facts m) rs) (append_assoc c.start c.added (InboxRecord.apply m ∷ []))
+        (record { last = n.last ∙ sym (peer_last_in-other (inbox_of c) (InboxRecord.apply m) refl); finish = n.finish }))
 
 -- what another call leaves of what is recorded
 record Leaves (s m : State) : Type 0 where
@@ -163,7 +179,7 @@ turns s now = by_ending (is_some s.ending)
 ends : (s : State) → Leaves s (step s link_end)
 ends s = by_ending (is_some s.ending)
   where
-    by_ending : (b : Bool) → Leaves s (if b then s else record s { ending = Some (link_ending (around s 0 s.moment) s.facts); pending = None })
+    by_ending : (b : Bool) → Leaves s (if b then s else record s { ending = Some (link_ending (around s 0 s.moment) s.facts); pending = None; held = [] })
     by_ending true = stays s
     by_ending false = record { last = refl; finish = refl }
 
@@ -211,6 +227,7 @@ next_known P h c link_end st may tells n = left_so P c (step c.state link_end) (
 next_known P h c (live payloads now) st may tells n = left_so P c (step c.state (live payloads now)) (record { last = refl; finish = refl }) n
 next_known P h c (again payloads now) st may tells n = left_so P c (step c.state (again payloads now)) (agains c.state payloads now) n
 next_known P h c (taken count) st may tells n = left_so P c (step c.state (taken count)) (record { last = refl; finish = refl }) n
+next_known P h c held_done st may tells n = held_known P c n
 next_known P h c reserve st may tells n = left_so P c (step c.state reserve) (record { last = refl; finish = refl }) n
 
 next_noted : (P : ℕ → Type 0) (h : List Entry) (c : Course) (call : Call) → Stands h c → MayStand h c.state call → TellsFinish P call → Noted P c → Noted P (next_course c call)

@@ -1,3 +1,4 @@
+pub mod Draining
 pub mod Going
 pub mod Each
 pub mod Outbox

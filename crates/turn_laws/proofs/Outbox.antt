@@ -104,15 +104,15 @@ again_goes h c m now seen s p = by_case m.ending m.facts.connection.serving refl
     by_range : (o : Option Range) → m.ending ≡ None → m.facts.connection.serving ≡ o → Goes h c m (again_calls now (served_of o seen))
     by_range None goes k = nothing h c m s
     by_range (Some r) goes k =
-        let sent : List (List ℕ) = payloads_from seen r.from r.count in
+        let sent : List (List ℕ) = payloads_from seen r.from (min 16 r.count) in
         one h c m (again sent now) s (record {
           may_call = s.done;
           comes = record {
             is_open = is_open h c m s goes;
             range = r;
             serves = k;
-            within = omega (arith, count_from seen r.from r.count, at_most r.count (length seen.made - (r.from - 1)));
-            entries = entries_from h seen r.from r.count (steady_from h c m r s k) p;
+            within = omega (arith, count_from seen r.from (min 16 r.count), at_most (min 16 r.count) (length seen.made - (r.from - 1)));
+            entries = entries_from h seen r.from (min 16 r.count) (steady_from h c m r s k) p;
           };
         }) (still sent)
       where

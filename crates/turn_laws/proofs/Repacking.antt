@@ -104,10 +104,10 @@ module _ {J : Type 0} {G : Ghosts J} where
         now = now;
         received = r.received;
         frames = cut.frames;
-        refused = cut.refused;
+        refusal = cut.refusal;
         few = cut.few;
         made = record {
-          cut = record { got = k.work.got; taken = cut.taken; next = cut.next };
+          cut = record { got = k.work.got; taken = cut.taken; is = cut.is };
           more = (k.idle, k.unended);
           found = r.found;
           moved = r.moved;

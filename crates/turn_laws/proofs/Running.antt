@@ -11,9 +11,9 @@ use Rattle.session_model.proofs.Lists.{prefix_trans, prefix_equal}
 use Rattle.fixp_replies.specs.Acts.{is_record}
 use Rattle.fixp_replies.specs.Outcomes.{Outcome}
 use Rattle.fixp_replies.specs.Replies.{reply_of}
-use Rattle.fixp_machine.specs.Machine.{State, Call, around, connected, run}
+use Rattle.fixp_machine.specs.Machine.{State, Call, around, run, front_of}
 use Rattle.fixp_machine.specs.Machine as calls
-use Rattle.conn_turns.specs.Lines.{Line, lines_after}
+use Rattle.conn_turns.specs.Lines.{Line, lines_after, frame_calls}
 use Rattle.conn_turns.specs.Turns.{Turn, IsFaithful, only_sends, works, link_lost, cut_short, not_begun, first_calls, calls_of_frames, calls_of}
 use Rattle.conn_turns.proofs.Taking.{run_append, frames_make_calls}
 use Rattle.connection_laws.specs.Writing.{Piece, bytes_of_piece, bytes_written}
@@ -23,11 +23,11 @@ use Rattle.connection_laws.specs.Connections.{WasTaken}
 use Rattle.connection_laws.specs.Living.{MayRun, AllMayRun}
 use Rattle.connection_laws.proofs.Going.{calls_keep, connection_begins}
 use Rattle.connection_laws.proofs.Continuing.{state_is_run}
-use Rattle.connection_laws.proofs.Living.{life_serves, life_refused}
+use Rattle.connection_laws.proofs.Living.{life_serves, life_refused, life_refused_held}
 use Rattle.turn_laws.specs.Turns.{line_received, IsTurn, IsCut}
 use Rattle.turn_laws.specs.Standing.{StandsAt, Has}
-use Rattle.turn_laws.specs.Legs.{AreTurns, TurnedLeg, calls_on, first_line, AreTurnsOf, sent_on, whole_in, is_drained, course_on, leg_of, TurnsRun, RefusedWaits}
-use Rattle.turn_laws.specs.Lives.{AllAreTurns, legs_of, state_after, inbox_after, TurnsServe, TurnsRefused}
+use Rattle.turn_laws.specs.Legs.{AreTurns, TurnedLeg, calls_on, first_line, AreTurnsOf, sent_on, whole_in, is_drained, course_on, leg_of, TurnsRun, RefusedWaits, HeldAwaits}
+use Rattle.turn_laws.specs.Lives.{AllAreTurns, legs_of, state_after, inbox_after, TurnsServe, TurnsRefused, TurnsRefusedHeld}
 use Rattle.turn_laws.proofs.Going.{may_append, after_append}
 use Rattle.turn_laws.proofs.Working.{turn_may_stand, cut_may_stand}
 
@@ -77,7 +77,7 @@ cut_stands h c l (Some t) s k = subst (λ (cs : List Call). AllMayStand h c cs) 
 
 pub begin_stands : (h : List Entry) (s : State) (inbox : List InboxRecord) (now : ℕ) → s.facts.recorded.inbox_next ≡ next_number inbox → s.facts.recorded.sent ≤ length h
     → StandsAt h (beginning s inbox now) (first_line s now)
-begin_stands h s inbox now awaits enough = record { stands = connection_begins h s inbox now awaits enough; machine = refl; done = refl }
+begin_stands h s inbox now awaits enough = record { stands = connection_begins h s inbox now awaits enough; machine = refl; done = refl; drained = refl }
 
 pub leg_stands : (h : List Entry) (s : State) (inbox : List InboxRecord) (t : TurnedLeg) → s.facts.recorded.inbox_next ≡ next_number inbox → s.facts.recorded.sent ≤ length h → AreTurnsOf h s t
     → AllMayStand h (beginning s inbox t.moment) (calls_on t)
@@ -161,6 +161,16 @@ refused_waits h old c now received frames t s k records = waits
     waits = ap (λ (d : Course). d.waiting) (after_append c (first_calls now) (calls_of_frames now frames ++ call ∷ []) ∙ after_append (course_after c (first_calls now)) (calls_of_frames now frames) (call ∷ []))
         ∙ (ap (λ (d : Course). (next_course d call).waiting) (sym (after_append c (first_calls now) (calls_of_frames now frames))) ∙ here)
 
+pub held_awaits : HeldAwaits
+held_awaits h old c now received frames t m s k =
+    let l : Line = line_received old now received k.got in
+    let first : List Call = first_calls now in
+    let took : List Call = calls_of_frames now frames in
+    let behind : List Call = frame_calls now t in
+    ap (λ (x : State). front_of x) (state_is_run c (first ++ (took ++ behind)) ∙ (ap (λ (x : State). run x (first ++ (took ++ behind))) s.machine
+    ∙ (run_append old.machine first (took ++ behind) ∙ (run_append (run old.machine first) took behind ∙ ap (λ (x : State). run x behind) (sym (frames_make_calls now l frames))))))
+    ∙ k.is.awaits
+
 -- each connection of a life may run
 pub all_run : (h : List Entry) (s : State) (inbox : List InboxRecord) (legs : List TurnedLeg) → s.facts.recorded.inbox_next ≡ next_number inbox → s.facts.recorded.sent ≤ length h → AllAreTurns h s inbox legs
     → AllMayRun h s inbox (legs_of s inbox legs)
@@ -193,3 +203,10 @@ turns_refused opened h s inbox legs last w o all k waits =
     let box : List InboxRecord = inbox_after s inbox legs in
     let b : Behind h t box = behind h s inbox legs o.awaits o.enough all in
     life_refused opened h s inbox (legs_of s inbox legs) (leg_of t box last) w o (all_run h s inbox legs o.awaits o.enough all) (turns_run h t box last b.awaits b.enough k) waits
+
+pub turns_refused_held : TurnsRefusedHeld
+turns_refused_held opened h s inbox legs last m o all k awaits =
+    let t : State = state_after s inbox legs in
+    let box : List InboxRecord = inbox_after s inbox legs in
+    let b : Behind h t box = behind h s inbox legs o.awaits o.enough all in
+    life_refused_held opened h s inbox (legs_of s inbox legs) (leg_of t box last) m o (all_run h s inbox legs o.awaits o.enough all) (turns_run h t box last b.awaits b.enough k) awaits

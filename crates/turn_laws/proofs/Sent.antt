@@ -1,6 +1,7 @@
 -- The bytes that the link took in the turns of a connection are the first of those written on it.
-use Rattle.std.proofs.Common.{◌≡◌, ◌≤◌, ◌-◌, ℕ, Bool, true, false, if◌then◌else◌, List, [], ◌∷◌, ◌++◌, length, take, Option, Some, None, refl, sym, ap, subst, ◌∙◌, arith, append-nil, append_assoc, length-append}
-use Rattle.std.specs.Prelude.{⊤, IfSome, is_some, nat_lt, option_to_list}
+use Rattle.session_model.specs.Inbox.{Numbered}
+use Rattle.std.proofs.Common.{◌≡◌, ◌≤◌, ◌-◌, ℕ, Bool, true, false, if◌then◌else◌, List, [], ◌∷◌, ◌++◌, length, take, Option, Some, None, refl, sym, ap, subst, ◌∙◌, arith, append-nil, append_assoc, length-append, zero, suc}
+use Rattle.std.specs.Prelude.{⊤, IfSome, is_some, nat_lt, option_to_list, replicate}
 use Rattle.std.specs.List.{AllByRecursion, flat_map}
 use Rattle.std.proofs.lemmas.Bool.{ltb-false}
 use Rattle.std.proofs.lemmas.Grind.{flat_map-append}
@@ -13,12 +14,13 @@ use Rattle.fixp_replies.specs.Outcomes.{Outcome}
 use Rattle.fixp_replies.specs.Replies.{reply_of}
 use Rattle.fixp_replies.specs.declared.act.Ending.{Ending}
 use Rattle.fixp_replies.specs.Events.{link_ending}
-use Rattle.fixp_machine.specs.Machine.{State, Call, begin, frame, bad_frame, did, tick, turn_done, closed, link_end, live, again, taken, reserve, around, link_ended, run}
-use Rattle.conn_turns.specs.Lines.{Line, TakenFrame, frame_calls}
+use Rattle.fixp_machine.specs.Machine as machine
+use Rattle.fixp_machine.specs.Machine.{State, Call, begin, frame, bad_frame, did, tick, turn_done, closed, link_end, live, again, taken, reserve, around, link_ended, run, held_done}
+use Rattle.conn_turns.specs.Lines.{Line, TakenFrame, frame_calls, act_calls}
 use Rattle.conn_turns.specs.Turns.{Work, Turn, IsFaithful, only_sends, works, link_lost, cut_short, not_begun, first_calls, calls_of_frames, closing_calls, outbox_calls, sending_calls, calls_of}
 use Rattle.conn_turns.proofs.Taking.{run_append}
 use Rattle.connection_laws.specs.Writing.{Piece, bytes_of_piece, bytes_written}
-use Rattle.connection_laws.specs.Courses.{Waiting, Course, counting, called, next_done, next_course, beginning, course_after}
+use Rattle.connection_laws.specs.Courses.{Waiting, Course, counting, called, next_done, next_course, beginning, course_after, next_held}
 use Rattle.connection_laws.specs.Standing.{Stands}
 use Rattle.connection_laws.proofs.Continuing.{state_is_run, calls_go_on}
 use Rattle.turn_laws.specs.Turns.{IsTurn, IsCut}
@@ -43,6 +45,7 @@ TakesNothing (live payloads now) = ⊤
 TakesNothing (again payloads now) = ⊤
 TakesNothing (taken count) = ⊥
 TakesNothing reserve = ⊤
+TakesNothing held_done = ⊤
 
 takes_nothing : (c : Course) (call : Call) → TakesNothing call → (next_course c call).taken ≡ c.taken
 takes_nothing c (begin now) n = absurd n
@@ -67,6 +70,11 @@ takes_nothing c (live payloads now) n = refl
 takes_nothing c (again payloads now) n = refl
 takes_nothing c (taken count) n = absurd n
 takes_nothing c reserve n = refl
+takes_nothing c held_done n = by_front (machine.front_of c.state)
+  where
+    by_front : (o : Option Numbered) → (next_held (called c held_done) o).taken ≡ c.taken
+    by_front None = refl
+    by_front (Some m) = refl
 
 take_nothing : (c : Course) (cs : List Call) → AllByRecursion TakesNothing cs → (course_after c cs).taken ≡ c.taken
 take_nothing c [] all = refl
@@ -74,8 +82,12 @@ take_nothing c (call ∷ later) all = take_nothing (next_course c call) later al
 
 -- so it is of all calls of a turn before it sends
 frame_takes : (now : ℕ) (t : TakenFrame) → AllByRecursion TakesNothing (frame_calls now t)
-frame_takes now t = (tt, by_test t.recorded)
+frame_takes now t = all_append TakesNothing (act_calls now t) (replicate t.helds held_done) (tt, by_test t.recorded) (all_held t.helds)
   where
+    all_held : (n : ℕ) → AllByRecursion TakesNothing (replicate n held_done)
+    all_held zero = tt
+    all_held (suc n) = (tt, all_held n)
+
     by_test : (b : Bool) → AllByRecursion TakesNothing (if b then did now ∷ [] else [])
     by_test true = (tt, tt)
     by_test false = tt
@@ -108,14 +120,14 @@ front_of h c sent rest st e = (rest, sym (st.bytes ∙ e))
 link_keeps : (s : State) → (link_ended s).unsent ≡ s.unsent
 link_keeps s = by_test (is_some s.ending)
   where
-    by_test : (b : Bool) → (if b then s else record s { ending = Some (link_ending (around s 0 s.moment) s.facts); pending = None }).unsent ≡ s.unsent
+    by_test : (b : Bool) → (if b then s else record s { ending = Some (link_ending (around s 0 s.moment) s.facts); pending = None; held = [] }).unsent ≡ s.unsent
     by_test true = refl
     by_test false = refl
 
 link_ends : (s : State) → (link_ended s).ending ≡ None → ⊥
 link_ends s = by_ending s.ending refl
   where
-    by_ending : (o : Option Ending) → s.ending ≡ o → (if is_some o then s else record s { ending = Some (link_ending (around s 0 s.moment) s.facts); pending = None }).ending ≡ None → ⊥
+    by_ending : (o : Option Ending) → s.ending ≡ o → (if is_some o then s else record s { ending = Some (link_ending (around s 0 s.moment) s.facts); pending = None; held = [] }).ending ≡ None → ⊥
     by_ending None e k = cc k
     by_ending (Some x) e k = cc (e, k)
 
@@ -240,6 +252,6 @@ given_up_begins s inbox now = by_test (is_some s.ending)
     emptied : State
     emptied = run s (taken (length s.unsent) ∷ [])
 
-    by_test : (b : Bool) → beginning (if b then emptied else record emptied { ending = Some (link_ending (around emptied 0 emptied.moment) emptied.facts); pending = None }) inbox now ≡ beginning s inbox now
+    by_test : (b : Bool) → beginning (if b then emptied else record emptied { ending = Some (link_ending (around emptied 0 emptied.moment) emptied.facts); pending = None; held = [] }) inbox now ≡ beginning s inbox now
     by_test true = refl
     by_test false = refl

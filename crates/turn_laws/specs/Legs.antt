@@ -4,11 +4,11 @@ use Rattle.std.specs.List.{AllByRecursion, flat_map}
 use mathlib.Core.List.{IsPrefix}
 use Rattle.sofh_frame.specs.Framing.{IsBytes}
 use Rattle.session_model.specs.Journal.{Entry, History, BeginsHistory}
-use Rattle.session_model.specs.Inbox.{InboxRecord, next_number}
+use Rattle.session_model.specs.Inbox.{InboxRecord, Numbered, next_number}
 use Rattle.fixp_replies.specs.Acts.{is_record}
-use Rattle.fixp_machine.specs.Machine.{State, Call, connected, taken, link_end, run}
+use Rattle.fixp_machine.specs.Machine.{State, Call, connected, taken, link_end, run, front_of}
 use Rattle.conn_turns.specs.Lines.{Line, TakenFrame, reply_at, lines_after}
-use Rattle.conn_turns.specs.Turns.{Turn, IsFaithful, only_sends, works, link_lost, cut_short, not_begun, calls_of}
+use Rattle.conn_turns.specs.Turns.{Turn, of_act, of_held, IsFaithful, only_sends, works, link_lost, cut_short, not_begun, calls_of}
 use Rattle.connection_laws.specs.Writing.{Piece, bytes_of_piece, bytes_written}
 use Rattle.connection_laws.specs.Courses.{Course, beginning, course_after}
 use Rattle.connection_laws.specs.Living.{Leg, MayRun}
@@ -120,9 +120,15 @@ TurnsRun = (h : List Entry) (s : State) (inbox : List InboxRecord) (t : TurnedLe
 -- behind a turn that was cut short at a frame whose act is a record, that frame waits for its act
 abbrev pub RefusedWaits : Type 0
 RefusedWaits = (h : List Entry) (old : Line) (c : Course) (now : ℕ) (received : List ℕ) (frames : List TakenFrame) (t : TakenFrame)
-    → StandsAt h c old → (k : IsCutShort now received frames (Some t) old)
+    → StandsAt h c old → (k : IsCutShort now received frames (Some (of_act t)) old)
     → is_record (reply_at now (lines_after now (line_received old now received k.got) frames) t).act ≡ true
-    → (course_after c (calls_of (cut_short now received frames (Some t)))).waiting ≡ Some (record { incoming = t.incoming; at = t.at; moment = now })
+    → (course_after c (calls_of (cut_short now received frames (Some (of_act t))))).waiting ≡ Some (record { incoming = t.incoming; at = t.at; moment = now })
+
+-- and behind one that was cut short at a held message, the inbox awaits that message
+abbrev pub HeldAwaits : Type 0
+HeldAwaits = (h : List Entry) (old : Line) (c : Course) (now : ℕ) (received : List ℕ) (frames : List TakenFrame) (t : TakenFrame) (m : Numbered)
+    → StandsAt h c old → (k : IsCutShort now received frames (Some (of_held t m)) old)
+    → front_of (course_after c (calls_of (cut_short now received frames (Some (of_held t m))))).state ≡ Some m
 
 -- the bytes that the link took in its turns are the first of those written on it, and those of the frames that it took whole are the
 -- first of these

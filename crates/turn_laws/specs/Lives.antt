@@ -1,12 +1,12 @@
 -- A life whose connections are lists of turns keeps on them what the session model asks of it.
 use Rattle.std.specs.Prelude.{◌≡◌, ⊤, List, [], ◌∷◌, Some}
 use Rattle.session_model.specs.Journal.{Entry}
-use Rattle.session_model.specs.Inbox.{InboxRecord}
+use Rattle.session_model.specs.Inbox.{InboxRecord, Numbered}
 use Rattle.session_model.specs.Lives.{served_on, KeepsConnections}
-use Rattle.fixp_machine.specs.Machine.{State}
+use Rattle.fixp_machine.specs.Machine.{State, front_of}
 use Rattle.fixp_machine.specs.Accepting.{model_flow}
 use Rattle.connection_laws.specs.Courses.{Waiting, inbox_of}
-use Rattle.connection_laws.specs.Connections.{refused_by}
+use Rattle.connection_laws.specs.Connections.{refused_by, refused_held}
 use Rattle.connection_laws.specs.Living.{Leg, state_behind, inbox_behind, life_on, Opens}
 use Rattle.turn_laws.specs.Legs.{TurnedLeg, AreTurnsOf, course_on, leg_of}
 
@@ -40,4 +40,14 @@ TurnsRefused = (opened h : List Entry) (s : State) (inbox : List InboxRecord) (l
     → KeepsConnections (model_flow s.config.own_flow) (model_flow s.config.peer_flow) opened h
     (served_on (life_on s inbox (legs_of s inbox legs))
     (refused_by (course_on (state_after s inbox legs) (inbox_after s inbox legs) last) w
+    (leg_of (state_after s inbox legs) (inbox_after s inbox legs) last).whole (leg_of (state_after s inbox legs) (inbox_after s inbox legs) last).drained))
+
+-- or the inbox awaits a held message, the append of whose record failed
+abbrev pub TurnsRefusedHeld : Type 0
+TurnsRefusedHeld = (opened h : List Entry) (s : State) (inbox : List InboxRecord) (legs : List TurnedLeg) (last : TurnedLeg) (m : Numbered)
+    → Opens opened h s inbox → AllAreTurns h s inbox legs → AreTurnsOf h (state_after s inbox legs) last
+    → front_of (course_on (state_after s inbox legs) (inbox_after s inbox legs) last).state ≡ Some m
+    → KeepsConnections (model_flow s.config.own_flow) (model_flow s.config.peer_flow) opened h
+    (served_on (life_on s inbox (legs_of s inbox legs))
+    (refused_held (course_on (state_after s inbox legs) (inbox_after s inbox legs) last) m
     (leg_of (state_after s inbox legs) (inbox_after s inbox legs) last).whole (leg_of (state_after s inbox legs) (inbox_after s inbox legs) last).drained))

@@ -8,7 +8,7 @@ use Rattle.jr_dated.specs.declared.journal.Journal.{Ghosts}
 use Rattle.conn_turns.specs.declared.answer.TurnEnd.{TurnEnd}
 use Rattle.conn_turns.specs.declared.answer.TurnFault.{TurnFault}
 use Rattle.conn_turns.specs.Lines.{Line, TakenFrame}
-use Rattle.conn_turns.specs.Turns.{Turn, only_sends, works, link_lost, cut_short, not_begun, first_calls, calls_of_frames, closing_calls, outbox_calls}
+use Rattle.conn_turns.specs.Turns.{Turn, only_sends, works, link_lost, cut_short, not_begun, first_calls, calls_of_frames, closing_calls, outbox_calls, Refusal}
 use Rattle.conn_turns.specs.Exact.{Received, line_ticked, most_held}
 use Rattle.conn_loop.specs.Conn.{answer_of}
 use Rattle.conn_loop.specs.Live.{EndAt}
@@ -79,8 +79,8 @@ pub record MadeTurn (eager : Bool) (old new : TurnAt) (t : Turn) : Type 0 where
   pub clock : old.clock ≤ new.clock
 
 -- a turn that was cut short in its work, as the loop makes it: it received once, and sent nothing
-pub record MadeCut (eager : Bool) (old new : TurnAt) (now : ℕ) (received : List ℕ) (frames : List TakenFrame) (refused : Option TakenFrame) : Type 0 where
-  pub cut : IsCutShort now received frames refused old.line
+pub record MadeCut (eager : Bool) (old new : TurnAt) (now : ℕ) (received : List ℕ) (frames : List TakenFrame) (refusal : Option Refusal) : Type 0 where
+  pub cut : IsCutShort now received frames refusal old.line
   pub more : DoesMore old.line now
   pub found : ReceivesOnce eager old received cut.got
   pub moved : Moved old.told new.told old.carried new.carried received []

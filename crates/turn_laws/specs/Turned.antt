@@ -1,6 +1,6 @@
 -- What the contract of the loop says of a turn, as a turn of the laws over connections.
-use Rattle.std.specs.Prelude.{◌≡◌, ◌⊎◌, ℕ, ◌≤◌, max, Bool, true, List, ◌++◌, length, Option, IfSome, Result}
-use Rattle.fixp_replies.specs.Acts.{is_record}
+use Rattle.conn_turns.specs.Refusals.{IsOfRecord}
+use Rattle.std.specs.Prelude.{◌≡◌, ◌⊎◌, ℕ, ◌≤◌, max, Bool, List, ◌++◌, length, Option, IfSome, Result}
 use Rattle.connection_laws.specs.Ranges.{IsInTime}
 use Rattle.jr_dated.specs.declared.journal.Journal.{Ghosts}
 use Rattle.jr_kept.specs.declared.inbox.Inbox.{Inbox}
@@ -8,14 +8,14 @@ use Rattle.jr_kept.specs.Inbox.{limits_of}
 use Rattle.conn_turns.specs.declared.answer.TurnEnd.{TurnEnd}
 use Rattle.conn_turns.specs.declared.answer.TurnFault.{TurnFault}
 use Rattle.conn_turns.specs.declared.answer.TurnFault.TheVariants as faults
-use Rattle.conn_turns.specs.Lines.{TakenFrame, reply_at, lines_after}
-use Rattle.conn_turns.specs.Frames.{added, told}
-use Rattle.conn_turns.specs.Turns.{Turn, IsFaithful, cut_short}
+use Rattle.conn_turns.specs.Lines.{TakenFrame, lines_after}
+use Rattle.conn_turns.specs.Frames.{told}
+use Rattle.conn_turns.specs.Turns.{Turn, Refusal, IsFaithful, cut_short}
 use Rattle.conn_steps.specs.Settling.{IsPast, Gains, Refuses}
 use Rattle.conn_steps.specs.Taking.{OfInbox}
 use Rattle.conn_loop.specs.Live.{EndAt}
-use Rattle.conn_loop.specs.Turned.{DidTurn, NotBegun, CutTurn, refused_of, wanted_of}
-use Rattle.turn_laws.specs.Turns.{line_received, adds_in, tells_in}
+use Rattle.conn_loop.specs.Turned.{DidTurn, NotBegun, CutTurn, told_of, refused_of, wanted_of}
+use Rattle.turn_laws.specs.Turns.{line_received, adds_in, adds_cut, tells_in}
 use Rattle.turn_laws.specs.Legs.{IsTimelyTurn}
 use Rattle.turn_laws.specs.Made.{turn_at, MadeTurn, MadeCut}
 
@@ -38,26 +38,27 @@ module _ {J : Type 0} {G : Ghosts J} where
       → IsInTime (max after old.line.machine.moment) → before ≤ after → DidTurn tells (max after old.line.machine.moment) eager old new result
       → WasTurn tells eager before after old new
 
-  -- A turn was cut short, in time: its link gave what it received in one call, and took nothing. The inbox gained what its frames add, a
-  -- stop may leave of the refused one what its fault may, and the news are what the frames tell. At Full its journal has no room for the
-  -- record of the refused one, whose act is a record unless memory ran out; and where one was refused the fault is not the link's nor the
-  -- outbox's
+  -- A turn was cut short, in time: its link gave what it received in one call, and took nothing. The inbox gained what its frames add and
+  -- what stood before the refusal, a stop may leave of what was refused what its fault may, and the news are what was told of those. At Full
+  -- its journal has no room for the record that was refused, which is one unless memory ran out; and where something was refused the fault is
+  -- not the link's nor the outbox's
   pub record WasCut (eager : Bool) (before after : ℕ) (old new : EndAt J G) (fault : TurnFault) : Type 0 where
     pub now : ℕ
     pub received : List ℕ
     pub frames : List TakenFrame
-    pub refused : Option TakenFrame
+    pub refusal : Option Refusal
     pub few : length frames ≤ 16
-    pub made : MadeCut eager (turn_at old before) (turn_at new after) now received frames refused
-    pub timely : IsTimelyTurn (cut_short now received frames refused)
-    pub refuses : Refuses old.box new.box (added now (line_received old.line now received made.cut.got) frames)
-        (refused_of fault now (lines_after now (line_received old.line now received made.cut.got) frames) refused)
+    pub made : MadeCut eager (turn_at old before) (turn_at new after) now received frames refusal
+    pub timely : IsTimelyTurn (cut_short now received frames refusal)
+    pub refuses : Refuses old.box new.box (adds_cut now (line_received old.line now received made.cut.got) frames refusal)
+        (refused_of fault now (lines_after now (line_received old.line now received made.cut.got) frames) refusal)
     pub past : (entries bytes : ℕ) → fault ≡ faults.Full entries bytes
-        → IsPast (limits_of new.box).bytes bytes (wanted_of now (lines_after now (line_received old.line now received made.cut.got) frames) refused)
-    pub recorded : IfSome refused
-        (λ t. (fault ≡ faults.Memory → ⊥) → is_record (reply_at now (lines_after now (line_received old.line now received made.cut.got) frames) t).act ≡ true)
-    pub of_inbox : IfSome refused (λ t. OfInbox fault)
-    pub news_are : new.news ≡ old.news ++ told now (line_received old.line now received made.cut.got) frames
+        → IsPast (limits_of new.box).bytes bytes (wanted_of now (lines_after now (line_received old.line now received made.cut.got) frames) refusal)
+    pub recorded : IfSome refusal
+        (λ r. (fault ≡ faults.Memory → ⊥) → IsOfRecord now (lines_after now (line_received old.line now received made.cut.got) frames) r)
+    pub of_inbox : IfSome refusal (λ r. OfInbox fault)
+    pub news_are : new.news
+        ≡ old.news ++ (told now (line_received old.line now received made.cut.got) frames ++ told_of now (lines_after now (line_received old.line now received made.cut.got) frames) refusal)
 
   -- one that answers another fault had not begun, or was cut short, where it was in time
   abbrev pub CutIsOne : Inbox J G → Type 0

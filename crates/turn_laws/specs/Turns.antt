@@ -1,14 +1,16 @@
 -- What a turn made of a line, as far as the machine, the bytes held and what was seen of the outbox go (this project's profile).
+use Rattle.conn_loop.specs.Turned.{stood_of}
+use Rattle.conn_turns.specs.Refusals.{IsRefused}
 use Rattle.std.specs.Prelude.{◌≡◌, ℕ, ◌||◌, Bool, List, [], ◌∷◌, ◌++◌, Option, IfSome}
 use mathlib.Core.List.{IsPrefix}
 use Rattle.session_model.specs.Journal.{History}
 use Rattle.session_model.specs.Inbox.{InboxRecord}
 use Rattle.fixp_machine.specs.Machine.{link_end, run}
 use Rattle.gw_links.specs.declared.link.Got.{Got}
-use Rattle.conn_turns.specs.Lines.{Line, TakenFrame, IsNext, AreTaken, lines_after}
+use Rattle.conn_turns.specs.Lines.{Line, TakenFrame, AreTaken, lines_after}
 use Rattle.conn_turns.specs.declared.news.NewsItem.{NewsItem}
 use Rattle.conn_turns.specs.Frames.{added, told}
-use Rattle.conn_turns.specs.Turns.{Work, Turn, only_sends, works, link_lost, cut_short, not_begun, sending_calls, is_end}
+use Rattle.conn_turns.specs.Turns.{Work, Turn, only_sends, works, link_lost, cut_short, not_begun, sending_calls, is_end, Refusal}
 use Rattle.conn_turns.specs.Exact.{Served, line_ticked}
 
 -- a front of what was unsent was sent
@@ -35,11 +37,11 @@ IsTurn before after old new (link_lost now) = (new ≡ record (line_ticked old n
 IsTurn before after old new (cut_short now received frames refused) = ⊥
 IsTurn before after old new not_begun = ⊥
 
--- behind its receive a turn was cut short behind frames, and behind them the one whose act was refused, if one was
-pub record IsCutShort (now : ℕ) (received : List ℕ) (frames : List TakenFrame) (refused : Option TakenFrame) (old : Line) : Type 0 where
+-- behind its receive a turn was cut short behind frames, and behind them by what was refused of the next one, if something was
+pub record IsCutShort (now : ℕ) (received : List ℕ) (frames : List TakenFrame) (refusal : Option Refusal) (old : Line) : Type 0 where
   pub got : Option Got
   pub taken : AreTaken now (line_received old now received got) frames
-  pub next : IfSome refused (IsNext (lines_after now (line_received old now received got) frames))
+  pub is : IfSome refusal (IsRefused now (lines_after now (line_received old now received got) frames))
 
 abbrev pub IsCut : Line → Turn → Type 0
 IsCut old (only_sends now sent lost) = ⊥
@@ -55,6 +57,10 @@ adds_in old (works w) = added w.now (line_received old w.now w.received w.got) w
 adds_in old (link_lost now) = []
 adds_in old (cut_short now received frames refused) = []
 adds_in old not_begun = []
+
+-- the records that one that was cut short adds, which took frames of this line: those of the frames, and what stood before the refusal
+abbrev pub adds_cut : ℕ → Line → List TakenFrame → Option Refusal → List InboxRecord
+adds_cut now l frames refusal = added now l frames ++ stood_of now (lines_after now l frames) refusal
 
 -- what a whole turn tells: what the frames that it took tell
 abbrev pub tells_in : Line → Turn → List NewsItem

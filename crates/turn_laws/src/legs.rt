@@ -1,7 +1,7 @@
 //! Connections that are lists of turns, and lives of them.
 
-ghost use Rattle.turn_laws.specs.Legs.{TurnsRun, RefusedWaits, SentAreWritten, GivenUpBegins};
-ghost use Rattle.turn_laws.specs.Lives.{TurnsServe, TurnsRefused};
+ghost use Rattle.turn_laws.specs.Legs.{TurnsRun, RefusedWaits, HeldAwaits, SentAreWritten, GivenUpBegins};
+ghost use Rattle.turn_laws.specs.Lives.{TurnsServe, TurnsRefused, TurnsRefusedHeld};
 
 /// A connection that is a list of turns may run, with the frames that the link took whole.
 pub fn turns_run()
@@ -13,6 +13,11 @@ pub fn refused_waits()
     ensures law { RefusedWaits }
 {}
 
+/// Behind a turn that was cut short at a held message, the inbox awaits that message.
+pub fn held_awaits()
+    ensures law { HeldAwaits }
+{}
+
 /// A life whose connections are lists of turns keeps on them what the session model asks of it.
 pub fn turns_serve()
     ensures law { TurnsServe }
@@ -21,6 +26,11 @@ pub fn turns_serve()
 /// A life whose connections are lists of turns keeps this also where on the last connection the append of a record failed.
 pub fn turns_refused()
     ensures law { TurnsRefused }
+{}
+
+/// And so where the append of the record of a held message failed.
+pub fn turns_refused_held()
+    ensures law { TurnsRefusedHeld }
 {}
 
 /// The bytes that the link took in the turns of a connection are the first of those written on it, and those of the frames that

@@ -7,7 +7,7 @@ pub fn turn_may_stand()
     ensures law { TurnMayStand }
 {}
 
-/// Each call of a turn that was cut short may come where it came, up to that of the frame whose act was refused.
+/// Each call of a turn that was cut short may come where it came, up to what was refused.
 pub fn cut_may_stand()
     ensures law { CutMayStand }
 {}
@@ -17,7 +17,7 @@ pub fn turn_adds()
     ensures law { TurnAdds }
 {}
 
-/// What a connection adds to the inbox over a turn that was cut short behind frames is what these frames add.
+/// What a connection adds to the inbox over a turn that was cut short is what its frames add, and what stood before the refusal.
 pub fn cut_adds()
     ensures law { CutAdds }
 {}

@@ -2,6 +2,8 @@
 use Rattle.std.proofs.Common.{◌≡◌, ◌⊎◌, inl, inr, ◌-◌, Bool, true, false, if◌then◌else◌, List, [], ◌∷◌, ◌++◌, Option, Some, None, option_to_list, refl, sym, ap, subst, ◌∙◌, append-nil, true≢false}
 use Rattle.std.specs.Prelude.{is_some, IsSome}
 use Rattle.session_model.specs.Journal.{Entry}
+use Rattle.session_model.specs.Inbox.{Numbered}
+use Rattle.fixp_replies.specs.Incoming.{payload_in}
 use Rattle.fixp_msgs.specs.declared.numbering.Range.{Range}
 use Rattle.fixp_msgs.specs.Message.{finished_sending, terminate}
 use Rattle.flow_idem.specs.Runs.{runs_of}
@@ -17,9 +19,9 @@ use Rattle.fixp_replies.specs.Facts.{Around, in_phase}
 use Rattle.fixp_replies.specs.declared.facts.Facts.{Facts}
 use Rattle.fixp_replies.specs.Outcomes.{Outcome}
 use Rattle.fixp_replies.specs.Replies.{reply_of}
-use Rattle.fixp_machine.specs.Machine.{State, Call, begin, frame, bad_frame, did, tick, turn_done, closed, link_end, live, again, taken, reserve, around, bytes_of, wrote, made, reply_applied, broken_by, served_again, step}
+use Rattle.fixp_machine.specs.Machine.{State, Call, begin, frame, bad_frame, did, tick, turn_done, closed, link_end, live, again, taken, reserve, held_done, held_with, held_applied, front_of, around, bytes_of, wrote, made, reply_applied, broken_by, served_again, step}
 use Rattle.fixp_machine.specs.Accepting.{event_of}
-use Rattle.connection_laws.specs.Courses.{Course, counting, called, next_course}
+use Rattle.connection_laws.specs.Courses.{Course, counting, called, next_held, next_course}
 use Rattle.connection_laws.specs.Standing.{MayStand}
 use Rattle.connection_laws.proofs.Continuing.{state_is_run}
 use Rattle.two_ends.specs.Refusing.{PassesBy, IsDeaf, NothingMore}
@@ -53,7 +55,7 @@ deaf_step h s (frame incoming at now) d may = by_record (is_record o.act) passes
 
     by_record : (b : Bool) → b ≡ false → IsDeaf (
         if b then record s { moment = now; last_received = now; room = s.room - 1; pending = Some o }
-        else reply_applied (record s { moment = now; last_received = now; room = s.room - 1 }) o now
+        else reply_applied (record s { moment = now; last_received = now; room = s.room - 1; held = held_with o.holds (payload_in incoming) s.held }) o now
         )
     by_record true e = absurd (true≢false e)
     by_record false e = record { done = refl; over = inr (ap (λ (f : Facts). is_closing f.connection.phase) passes.next ∙ over) }
@@ -102,7 +104,7 @@ deaf_step h s (closed last now) d may = by_test (is_some s.ending)
     by_test false = record { done = d.done; over = by_telling (tells_finish x s.facts last) d.over }
 deaf_step h s link_end d may = by_test (is_some s.ending)
   where
-    by_test : (b : Bool) → IsDeaf (if b then s else record s { ending = Some (link_ending (around s 0 s.moment) s.facts); pending = None })
+    by_test : (b : Bool) → IsDeaf (if b then s else record s { ending = Some (link_ending (around s 0 s.moment) s.facts); pending = None; held = [] })
     by_test true = d
     by_test false = record { done = refl; over = inl refl }
 deaf_step h s (live ps now) d may = record { done = d.done; over = d.over }
@@ -113,6 +115,11 @@ deaf_step h s (again ps now) d may = by_range s.facts.connection.serving
     by_range (Some r) = record { done = d.done; over = d.over }
 deaf_step h s (taken count) d may = record { done = d.done; over = d.over }
 deaf_step h s reserve d may = record { done = d.done; over = d.over }
+deaf_step h s held_done d may = by_front (front_of s)
+  where
+    by_front : (m : Option Numbered) → IsDeaf (held_applied s m)
+    by_front None = d
+    by_front (Some m) = record { done = d.done; over = d.over }
 
 -- and nothing is accepted at it
 pub none_accepted : (h : List Entry) (c : Course) (call : Call) → IsDeaf c.state → MayStand h c.state call → (next_course c call).accepted ≡ c.accepted
@@ -141,6 +148,11 @@ none_accepted h c (live ps now) d may = refl
 none_accepted h c (again ps now) d may = refl
 none_accepted h c (taken count) d may = refl
 none_accepted h c reserve d may = refl
+none_accepted h c held_done d may = by_front (front_of c.state)
+  where
+    by_front : (m : Option Numbered) → (next_held (called c held_done) m).accepted ≡ c.accepted
+    by_front None = refl
+    by_front (Some m) = refl
 
 pub stays_deaf : (h : List Entry) (c : Course) (call : Call) → IsDeaf c.state → MayStand h c.state call → IsDeaf (next_course c call).state
 stays_deaf h c call d may = subst IsDeaf (sym (state_is_run c (call ∷ []))) (deaf_step h c.state call d may)

@@ -23,7 +23,7 @@ use Rattle.connection_laws.specs.Ranges.{IsInRange}
 use Rattle.connection_laws.specs.LegalLaws.{StaysLegal}
 use Rattle.connection_laws.proofs.Written.{written_is_legal}
 use Rattle.two_ends.specs.Hearing.{came, AreFirstOf}
-use Rattle.two_ends.specs.Meeting.{Run, course_in, TookWhole, ReadsFrom, LinkedByBytes, Refused, runs_on, last_run, runs_of, MayRefuse, MayLive}
+use Rattle.two_ends.specs.Meeting.{Run, TookWhole, ReadsFrom, LinkedByBytes, runs_on, last_run, runs_of, MayRefuse, MayLive}
 use Rattle.two_ends.specs.Meeting
 use Rattle.two_ends.proofs.Sessions.{session_of_ends, ends_hold}
 use Rattle.turn_laws.specs.Legs.{TurnedLeg, IsTimely, calls_on, AreTurnsOf, given_on, sent_on, course_on, leg_of}
@@ -118,7 +118,7 @@ last_zip h s inbox (Some r) awaits enough range payloads k timely =
 last_refuses : (h : List Entry) (s : State) (inbox : List InboxRecord) (q : Option RefusedLeg) → s.facts.recorded.inbox_next ≡ next_number inbox → s.facts.recorded.sent ≤ length h
     → IfSome q (IsRefusedOn h s inbox) → IfSome (option_map (refused_leg s inbox) q) (MayRefuse h s inbox)
 last_refuses h s inbox None awaits enough k = tt
-last_refuses h s inbox (Some r) awaits enough k = record { runs = turns_run h s inbox r.leg awaits enough k.turns; waits = k.waits }
+last_refuses h s inbox (Some r) awaits enough k = record { runs = turns_run h s inbox r.leg awaits enough k.turns; refuses = k.refuses }
 
 -- a life of the loop is one of the machine
 record IsLife (own peer : Flow) (l : LoopLife) : Type 0 where

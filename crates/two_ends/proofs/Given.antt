@@ -1,6 +1,7 @@
 -- The frames that came in the turns of a connection are the first of the bytes that the link gave.
-use Rattle.std.proofs.Common.{◌≡◌, ℕ, Bool, true, false, if◌then◌else◌, List, [], ◌∷◌, ◌++◌, map, drop, Option, Some, None, refl, sym, ap, subst, ◌∙◌, append-nil, append_assoc}
-use Rattle.std.specs.Prelude.{⊤, ◌<◌, IfSome, option_to_list}
+use Rattle.conn_turns.specs.Refusals.{IsRefused}
+use Rattle.std.proofs.Common.{◌≡◌, ℕ, Bool, true, false, if◌then◌else◌, List, [], ◌∷◌, ◌++◌, map, drop, Option, Some, None, refl, sym, ap, subst, ◌∙◌, append-nil, append_assoc, zero, suc}
+use Rattle.std.specs.Prelude.{⊤, ◌<◌, IfSome, option_to_list, replicate}
 use Rattle.std.specs.List.{AllByRecursion, AllZip, flat_map}
 use Rattle.std.proofs.lemmas.Grind.{flat_map-append}
 use Rattle.std.proofs.lemmas.List.Elements.{All-from_recursion, recursion_from_All}
@@ -11,10 +12,10 @@ use Rattle.sofh_frame.proofs.SplitLemmas.{spelled_all-push, AllByRecursion-push,
 use Rattle.session_model.specs.Journal.{Entry, History}
 use Rattle.session_model.proofs.Lists.{all_append, all_first, all_second}
 use Rattle.fixp_replies.specs.Incoming.{Incoming, application, session, wrong_order, too_short, unknown, IsIncoming}
-use Rattle.fixp_machine.specs.Machine.{State, Call, did, link_end}
+use Rattle.fixp_machine.specs.Machine.{State, Call, did, link_end, held_done}
 use Rattle.fixp_machine.specs.Machine as calls
-use Rattle.conn_turns.specs.Lines.{Line, TakenFrame, size_of, frame_calls, IsNext, line_after, lines_after, AreTaken}
-use Rattle.conn_turns.specs.Turns.{Work, Turn, only_sends, works, link_lost, cut_short, not_begun, first_calls, calls_of_frames, closing_calls, outbox_calls, sending_calls, calls_of}
+use Rattle.conn_turns.specs.Lines.{Line, TakenFrame, size_of, frame_calls, IsNext, line_after, lines_after, AreTaken, act_calls}
+use Rattle.conn_turns.specs.Turns.{Work, Turn, only_sends, works, link_lost, cut_short, not_begun, first_calls, calls_of_frames, closing_calls, outbox_calls, sending_calls, calls_of, Refusal, of_act, of_held, refused_calls}
 use Rattle.connection_laws.specs.Ranges.{IsInTime, FitsIncoming, FitsCall}
 use Rattle.connection_laws.proofs.Spelled.{spelled_fits}
 use Rattle.two_ends.specs.Hearing.{came_by, came, AreFirstOf}
@@ -39,8 +40,12 @@ abbrev incomings : List TakenFrame → List Incoming
 incomings = map (λ (t : TakenFrame). t.incoming)
 
 frame_came : (now : ℕ) (t : TakenFrame) → came (frame_calls now t) ≡ t.incoming ∷ []
-frame_came now t = by_test t.recorded
+frame_came now t = came_append (act_calls now t) (replicate t.helds held_done) ∙ (ap (λ (is : List Incoming). is ++ came (replicate t.helds held_done)) (by_test t.recorded) ∙ ap (λ (is : List Incoming). t.incoming ∷ is) (none_came t.helds))
   where
+    none_came : (n : ℕ) → came (replicate n held_done) ≡ []
+    none_came zero = refl
+    none_came (suc n) = none_came n
+
     by_test : (b : Bool) → came (calls.frame t.incoming t.at now ∷ (if b then did now ∷ [] else [])) ≡ t.incoming ∷ []
     by_test true = refl
     by_test false = refl
@@ -150,15 +155,30 @@ cut_reads l (cut_short now received frames None) given is r k =
     let m : Line = line_received l now received k.got in
     let x = reads_frames now m frames (given ++ received) is (reads_more given is l.held received r) k.taken in
     ((lines_after now m frames).held, subst (λ (js : List Incoming). Reads (given ++ received) (is ++ js) (lines_after now m frames).held) (sym (frames_came now frames)) x)
-cut_reads l (cut_short now received frames (Some t)) given is r k =
-    let m : Line = line_received l now received k.got in
-    let n : Line = lines_after now m frames in
-    let x = reads_next (given ++ received) (is ++ incomings frames) n t (reads_frames now m frames (given ++ received) is (reads_more given is l.held received r) k.taken) k.next in
-    let same : came (calls_of_frames now frames ++ calls.frame t.incoming t.at now ∷ []) ≡ incomings frames ++ t.incoming ∷ [] =
-    came_append (calls_of_frames now frames) (calls.frame t.incoming t.at now ∷ []) ∙ ap (λ (js : List Incoming). js ++ t.incoming ∷ []) (frames_came now frames) in (
-      drop (size_of t.frame) n.held,
-      subst (λ (js : List Incoming). Reads (given ++ received) js (drop (size_of t.frame) n.held)) (append_assoc is (incomings frames) (t.incoming ∷ []) ∙ ap (λ (js : List Incoming). is ++ js) (sym same)) x,
-    )
+cut_reads l (cut_short now received frames (Some r)) given is b k = by_refusal r k.is
+  where
+    m : Line
+    m = line_received l now received k.got
+
+    n : Line
+    n = lines_after now m frames
+
+    so_far : Reads (given ++ received) (is ++ incomings frames) n.held
+    so_far = reads_frames now m frames (given ++ received) is (reads_more given is l.held received b) k.taken
+
+    -- behind the calls of the next frame
+    behind : (t : TakenFrame) (cs : List Call) → came cs ≡ t.incoming ∷ [] → IsNext n t → (held : List ℕ) × Reads (given ++ received) (is ++ came (calls_of_frames now frames ++ cs)) held
+    behind t cs came_is next =
+        let x = reads_next (given ++ received) (is ++ incomings frames) n t so_far next in
+        let same : came (calls_of_frames now frames ++ cs) ≡ incomings frames ++ t.incoming ∷ [] =
+        came_append (calls_of_frames now frames) cs ∙ (ap (λ (js : List Incoming). js ++ came cs) (frames_came now frames) ∙ ap (λ (js : List Incoming). incomings frames ++ js) came_is) in (
+          drop (size_of t.frame) n.held,
+          subst (λ (js : List Incoming). Reads (given ++ received) js (drop (size_of t.frame) n.held)) (append_assoc is (incomings frames) (t.incoming ∷ []) ∙ ap (λ (js : List Incoming). is ++ js) (sym same)) x,
+        )
+
+    by_refusal : (q : Refusal) → IsRefused now n q → (held : List ℕ) × Reads (given ++ received) (is ++ came (calls_of_frames now frames ++ refused_calls now q)) held
+    by_refusal (of_act t) next = behind t (calls.frame t.incoming t.at now ∷ []) refl next
+    by_refusal (of_held t message) awaited = behind t (frame_calls now t) (frame_came now t) awaited.next
 cut_reads l not_begun given is r k = absurd k
 
 last_reads : (l : Line) (cut : Option Turn) (given : List ℕ) (is : List Incoming) → Reads given is l.held → IfSome cut (IsCut l)
@@ -220,13 +240,24 @@ abbrev IsOnTime : Call → Type 0
 IsOnTime (calls.frame incoming at now) = IsInTime now
 IsOnTime _ = ⊤
 
-frames_on_time : (now : ℕ) (frames : List TakenFrame) → IsInTime now → AllByRecursion IsOnTime (calls_of_frames now frames)
-frames_on_time now [] time = tt
-frames_on_time now (t ∷ later) time = all_append IsOnTime (frame_calls now t) (calls_of_frames now later) (time, by_test t.recorded) (frames_on_time now later time)
+frame_on_time : (now : ℕ) (t : TakenFrame) → IsInTime now → AllByRecursion IsOnTime (frame_calls now t)
+frame_on_time now t time = all_append IsOnTime (act_calls now t) (replicate t.helds held_done) (time, by_test t.recorded) (all_held t.helds)
   where
+    all_held : (n : ℕ) → AllByRecursion IsOnTime (replicate n held_done)
+    all_held zero = tt
+    all_held (suc n) = (tt, all_held n)
+
     by_test : (b : Bool) → AllByRecursion IsOnTime (if b then did now ∷ [] else [])
     by_test true = (tt, tt)
     by_test false = tt
+
+frames_on_time : (now : ℕ) (frames : List TakenFrame) → IsInTime now → AllByRecursion IsOnTime (calls_of_frames now frames)
+frames_on_time now [] time = tt
+frames_on_time now (t ∷ later) time = all_append IsOnTime (frame_calls now t) (calls_of_frames now later) (frame_on_time now t time) (frames_on_time now later time)
+
+refused_on_time : (now : ℕ) (r : Refusal) → IsInTime now → AllByRecursion IsOnTime (refused_calls now r)
+refused_on_time now (of_act t) time = (time, tt)
+refused_on_time now (of_held t m) time = frame_on_time now t time
 
 sending_on_time : (sent : List ℕ) (lost : Bool) → AllByRecursion IsOnTime (sending_calls sent lost)
 sending_on_time sent true = (tt, tt)
@@ -245,8 +276,7 @@ turn_on_time (works w) time = (
 )
 turn_on_time (link_lost now) time = (tt, (tt, (tt, tt)))
 turn_on_time (cut_short now received frames None) time = (tt, (tt, frames_on_time now frames time))
-turn_on_time (cut_short now received frames (Some t)) time =
-    (tt, (tt, all_append IsOnTime (calls_of_frames now frames) (calls.frame t.incoming t.at now ∷ []) (frames_on_time now frames time) (time, tt)))
+turn_on_time (cut_short now received frames (Some r)) time = (tt, (tt, all_append IsOnTime (calls_of_frames now frames) (refused_calls now r) (frames_on_time now frames time) (refused_on_time now r time)))
 turn_on_time not_begun time = tt
 
 turns_on_time : (turns : List Turn) → AllByRecursion IsTimelyTurn turns → AllByRecursion IsOnTime (flat_map calls_of turns)
@@ -274,6 +304,7 @@ call_fits (calls.live payloads now) fits time = tt
 call_fits (calls.again payloads now) fits time = tt
 call_fits (calls.taken count) fits time = tt
 call_fits calls.reserve fits time = tt
+call_fits calls.held_done fits time = tt
 
 each_fits : (cs : List Call) → AllByRecursion FitsIncoming (came cs) → AllByRecursion IsOnTime cs → AllByRecursion FitsCall cs
 each_fits [] fits time = tt

@@ -1,4 +1,5 @@
 -- An end over its lives, turn by turn.
+use Rattle.two_ends.specs.Meeting.{Refusal, of_frame, of_held, IsRefusedAt}
 use Rattle.std.proofs.Common.{◌≡◌, ◌⊎◌, inl, inr, ◌≤◌, List, [], ◌∷◌, ◌++◌, length, Option, None, Some, refl, sym, ap, subst, ◌∙◌, append-nil, append_assoc, false}
 use Rattle.std.specs.Prelude.{IfSome, option_to_list}
 use Rattle.std.specs.List.{flat_map, AllByRecursion}
@@ -9,25 +10,24 @@ use Rattle.session_model.specs.Inbox.{InboxRecord, next_number}
 use Rattle.session_model.proofs.Lists.{prefix_self, prefix_trans, prefix_of_append, all_append}
 use Rattle.fixp_machine.specs.Machine.{State, Call, connected}
 use Rattle.conn_turns.specs.Lines.{Line}
-use Rattle.conn_turns.specs.Frames.{added}
 use Rattle.conn_turns.specs.Turns.{Turn, IsFaithful, cut_short, calls_of}
 use Rattle.connection_laws.specs.Courses.{Course, inbox_of, beginning, course_after}
 use Rattle.connection_laws.proofs.Living.{none_refused, closing_on}
 use Rattle.connection_laws.specs.Standing.{Stands}
 use Rattle.connection_laws.proofs.Going.{calls_keep, connection_begins}
 use Rattle.connection_laws.proofs.Continuing.{calls_go_on}
-use Rattle.turn_laws.specs.Turns.{line_received, IsTurn, IsCut, adds_in}
-use Rattle.turn_laws.specs.Standing.{Has, Waits}
+use Rattle.turn_laws.specs.Turns.{line_received, IsTurn, IsCut, adds_in, adds_cut}
+use Rattle.turn_laws.specs.Standing.{Has, Waits, for_act, for_held}
 use Rattle.turn_laws.specs.Legs.{AreTurns, TurnedLeg, calls_on, first_line, AreTurnsOf, IsTimelyTurn, IsTimely, course_on}
 use Rattle.turn_laws.specs.Lives.{AllAreTurns, legs_of, state_after, inbox_after}
 use Rattle.turn_laws.proofs.Going.{after_append}
 use Rattle.turn_laws.proofs.Working.{turn_may_stand, cut_may_stand}
 use Rattle.turn_laws.proofs.Running.{TurnsStand, turns_stand, begin_stands, leg_stands}
 use Rattle.turn_laws.proofs.Adding.{turn_adds}
-use Rattle.turn_laws.proofs.Refusing.{cut_turn_adds}
+use Rattle.turn_laws.proofs.Adding.{cut_adds}
 use Rattle.turn_laws.proofs.Sent.{given_up_begins}
 use Rattle.two_ends.specs.Driving.{EndNow, Beginning, Awaits, WereMade, machine_behind, list_behind, with_turn, cut_leg, IsBetween, IsDuring}
-use Rattle.two_ends.specs.Stories.{IsOver}
+use Rattle.two_ends.specs.Stories.{IsOver, life_of, served_by}
 use Rattle.two_ends.specs.DrivingLaws.{LegBegins, TurnGoesOn, LegEnds, CutEnds, LifeEnds, LifeFails}
 
 -- ---- lists of turns, and of connections
@@ -217,7 +217,7 @@ life_ends b legs e closing awaits k has =
     none_left closing b legs e.inbox awaits r.made r.inbox
 
 pub life_fails : LifeFails
-life_fails b past leg e now received frames next refused closing awaits k cut timely left has = by_left (left h c x.after)
+life_fails b past leg e now received frames refusal refused closing awaits k cut timely left has = by_left (left h c x.after)
   where
     h : List Entry
     h = entries closing
@@ -232,7 +232,7 @@ life_fails b past leg e now received frames next refused closing awaits k cut ti
     i = list_behind b past
 
     t : Turn
-    t = cut_short now received frames next
+    t = cut_short now received frames refusal
 
     broken : TurnedLeg
     broken = cut_leg leg t
@@ -244,7 +244,7 @@ life_fails b past leg e now received frames next refused closing awaits k cut ti
     x = during_stands h b past leg e awaits has d
 
     gained : List InboxRecord
-    gained = added now (line_received e.line now received cut.got) frames
+    gained = adds_cut now (line_received e.line now received cut.got) frames refusal
 
     are : AreTurnsOf h s broken
     are = record { before = d.before; after = e.seen; last = e.line; turns = d.made; cut = cut; has = has; faithful = d.faithful }
@@ -257,7 +257,7 @@ life_fails b past leg e now received frames next refused closing awaits k cut ti
     begun = (calls_go_on h c (calls_of t) (cut_may_stand h e.line t c x.after cut)).start
 
     more : (course_after c (calls_of t)).added ≡ c.added ++ gained
-    more = cut_turn_adds h e.line now received frames next c x.after cut
+    more = cut_adds h e.line now received frames refusal c x.after cut
 
     is : inbox_of (course_on s i broken) ≡ e.inbox ++ gained
     is = ap (λ (y : Course). inbox_of y) joined
@@ -277,16 +277,22 @@ life_fails b past leg e now received frames next refused closing awaits k cut ti
 
     by_left : (refused ≡ []) ⊎ Waits (course_after c (calls_of t)) refused → IsOver closing b (past ++ broken ∷ []) (e.inbox ++ gained) refused
     by_left (inl none) = subst (λ (rs : List InboxRecord). IsOver closing b (past ++ broken ∷ []) (e.inbox ++ gained) rs) (sym none) (none_left closing b (past ++ broken ∷ []) (e.inbox ++ gained) awaits made behind_all)
-    by_left (inr w) =
-        let v : Waits (course_on s i broken) refused = subst (λ (y : Course). Waits y refused) (sym joined) w in
-        record {
+    by_left (inr w) = by_refusal (subst (λ (y : Course). Waits y refused) (sym joined) w)
+      where
+        over : (r : Refusal) → IsRefusedAt (course_on s i broken) r → (served_by (life_of b closing past (Some (record { leg = broken; refusal = r })))).closing_inbox ≡ e.inbox ++ gained
+            → (served_by (life_of b closing past (Some (record { leg = broken; refusal = r })))).refused_inbox ≡ refused → IsOver closing b (past ++ broken ∷ []) (e.inbox ++ gained) refused
+        over r at came left_are = record {
           done = past;
-          last = Some (record { leg = broken; waiting = v.waiting });
+          last = Some (record { leg = broken; refusal = r });
           legs_are = refl;
           made = d.behind;
-          waits = record { turns = are; waits = v.is };
+          waits = record { turns = are; refuses = at };
           timely = made.timely;
           grows = subst (λ (rs : List InboxRecord). IsPrefix b.inbox rs) behind_all (life_behind h b (past ++ broken ∷ []) awaits made).grows;
-          inbox_is = is;
-          refused_are = v.left_are;
+          inbox_is = came;
+          refused_are = left_are;
         }
+
+        by_refusal : Waits (course_on s i broken) refused → IsOver closing b (past ++ broken ∷ []) (e.inbox ++ gained) refused
+        by_refusal (for_act v at left_are) = over (of_frame v) at is left_are
+        by_refusal (for_held m at left_are) = over (of_held m) at is left_are

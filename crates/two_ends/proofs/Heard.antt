@@ -7,7 +7,7 @@ use mathlib.Core.List.{IsPrefix}
 use Rattle.sofh_frame.specs.Framing.{Frame}
 use Rattle.sofh_frame.specs.Splits.{frames_of}
 use Rattle.session_model.specs.Journal.{Entry}
-use Rattle.session_model.specs.Inbox.{InboxRecord, next_number}
+use Rattle.session_model.specs.Inbox.{InboxRecord, Numbered, next_number}
 use Rattle.session_model.specs.Events.{Event, announce, handshake}
 use Rattle.session_model.specs.Lives.{TakenFrom, rest_lost, taken as taken_event, rejected as rejected_event}
 use Rattle.session_model.proofs.Lists.{prefix_trans}
@@ -15,12 +15,12 @@ use Rattle.fixp_shake.specs.declared.violation.Violation.{Violation}
 use Rattle.fixp_shake.specs.Phases.{is_closing}
 use Rattle.fixp_replies.specs.Acts.{is_record}
 use Rattle.fixp_replies.specs.Events.{heartbeats, lateness, link_ending}
-use Rattle.fixp_replies.specs.Incoming.{Incoming}
+use Rattle.fixp_replies.specs.Incoming.{Incoming, payload_in}
 use Rattle.fixp_replies.specs.Outcomes.{Outcome}
-use Rattle.fixp_machine.specs.Machine.{State, Call, begin, frame, bad_frame, did, tick, turn_done, closed, link_end, live, again, taken, reserve, around, bytes_of, wrote, reply_applied, after_frame, broken_by, done_pending, step}
+use Rattle.fixp_machine.specs.Machine.{State, Call, begin, frame, bad_frame, did, tick, turn_done, closed, link_end, live, again, taken, reserve, held_done, held_with, front_of, around, bytes_of, wrote, reply_applied, after_frame, broken_by, done_pending, step}
 use Rattle.fixp_machine.specs.Accepting.{event_of}
 use Rattle.connection_laws.specs.Writing.{Piece, events_of_piece, events_written}
-use Rattle.connection_laws.specs.Courses.{Waiting, Course, beginning, reply_to, accepted_by, counting, still_waiting, called, next_done, next_course, course_after}
+use Rattle.connection_laws.specs.Courses.{Waiting, Course, beginning, reply_to, accepted_by, counting, still_waiting, called, next_done, next_held, next_course, course_after}
 use Rattle.connection_laws.specs.Standing.{Stands, MayStand, AllMayStand}
 use Rattle.connection_laws.proofs.Going.{call_keeps, calls_keep, connection_begins}
 use Rattle.two_ends.specs.Reading.{ReadsAs}
@@ -113,12 +113,12 @@ heard s w es accepted f = by_acceptance o.accepted refl
     by_acceptance false out = by_refusal out (refusal_ends (around s w.at w.moment) s.facts i out)
 
 -- a frame whose act is no record, and that ends the connection, leaves it deaf
-deaf_frame : (s : State) (o : Outcome) (now : ℕ) → is_record o.act ≡ false → IsSome o.ending → IsDeaf (after_frame s o now)
-deaf_frame s o now none e = by_record (is_record o.act) none
+deaf_frame : (s : State) (i : Incoming) (o : Outcome) (now : ℕ) → is_record o.act ≡ false → IsSome o.ending → IsDeaf (after_frame s i o now)
+deaf_frame s i o now none e = by_record (is_record o.act) none
   where
     by_record : (b : Bool) → b ≡ false → IsDeaf (
         if b then record s { moment = now; last_received = now; room = s.room - 1; pending = Some o }
-        else reply_applied (record s { moment = now; last_received = now; room = s.room - 1 }) o now
+        else reply_applied (record s { moment = now; last_received = now; room = s.room - 1; held = held_with o.holds (payload_in i) s.held }) o now
         )
     by_record true k = absurd (true≢false k)
     by_record false k = record { done = refl; over = inl e }
@@ -152,8 +152,8 @@ keeps_tick s now = by_test (is_some s.ending) (lateness (around s 0 now) s.facts
 keeps_end : (s : State) → Keeps s link_end
 keeps_end s = by_test (is_some s.ending)
   where
-    by_test : (b : Bool) → IsDeaf (if b then s else record s { ending = Some (link_ending (around s 0 s.moment) s.facts); pending = None })
-        ⊎ (pending_of (if b then s else record s { ending = Some (link_ending (around s 0 s.moment) s.facts); pending = None }) ≡ s.pending)
+    by_test : (b : Bool) → IsDeaf (if b then s else record s { ending = Some (link_ending (around s 0 s.moment) s.facts); pending = None; held = [] })
+        ⊎ (pending_of (if b then s else record s { ending = Some (link_ending (around s 0 s.moment) s.facts); pending = None; held = [] }) ≡ s.pending)
     by_test true = inr refl
     by_test false = inl (record { done = refl; over = inl refl })
 
@@ -194,7 +194,7 @@ step_hearing h c (frame i at now) es st may f none = subst (λ k. Hears (next_co
 
     by_heard : is_record o.act ≡ false → Heard es c.accepted i o (is_closing c.state.facts.connection.phase ≡ true) → Hears (counting k o i) (es ++ option_to_list (event_of i))
     by_heard n (follows g) = hearing g refl
-    by_heard n (stops t (inl e)) = deaf t (deaf_frame c.state o now n e)
+    by_heard n (stops t (inl e)) = deaf t (deaf_frame c.state i o now n e)
     by_heard n (stops t (inr cl)) = deaf t (deaf_step h c.state (frame i at now) (record { done = may.comes.done; over = inr cl }) may)
 
     by_record : (b : Bool) → is_record o.act ≡ b → Hears (if b then record k { waiting = Some w } else counting k o i) (es ++ option_to_list (event_of i))
@@ -213,6 +213,11 @@ step_hearing h c link_end es st may f none = called_hearing c link_end es f none
 step_hearing h c (live ps now) es st may f none = called_hearing c (live ps now) es f none
 step_hearing h c (again ps now) es st may f none = called_hearing c (again ps now) es f none
 step_hearing h c reserve es st may f none = called_hearing c reserve es f none
+step_hearing h c held_done es st may f none = by_front (front_of c.state)
+  where
+    by_front : (m : Option Numbered) → Hears (next_held (called c held_done) m) (es ++ [])
+    by_front None = called_hearing c held_done es f none
+    by_front (Some m) = subst (λ w. Hears (next_held (called c held_done) (Some m)) w) (sym (append-nil es)) (hearing f (still_none (step c.state held_done).pending c.waiting none))
 
 -- nothing but the act is done while a frame waits
 not_done : (c : Course) (es : List Event) → Waits c es → c.state.pending ≡ None → ⊥
@@ -241,14 +246,15 @@ step_waiting h c (did now) es may w =
     by_heard (stops t (inl e)) = deaf t (subst (λ p. IsDeaf (done_pending c.state p now)) (sym w.pending) (record { done = refl; over = inl e }))
     by_heard (stops t (inr cl)) = absurd (true≢false (sym w.records ∙ (closing_is_deaf (around c.state w.frame.at w.frame.moment) c.state.facts i cl).unrecorded))
 step_waiting h c (tick now) es may w = called_waiting c (tick now) es w (keeps_tick c.state now)
-step_waiting h c (turn_done now) es may w = absurd (not_done c es w may.may_call)
-step_waiting h c (closed last now) es may w = absurd (not_done c es w may.may_call)
+step_waiting h c (turn_done now) es may w = absurd (not_done c es w may.may_call.0)
+step_waiting h c (closed last now) es may w = absurd (not_done c es w may.may_call.0)
 step_waiting h c link_end es may w = called_waiting c link_end es w (keeps_end c.state)
 step_waiting h c (live ps now) es may w = absurd (not_done c es w may.may_call.0)
 step_waiting h c (again ps now) es may w = absurd (not_done c es w may.may_call)
 step_waiting h c (taken count) es may w =
     waits w.frame w.before (append-nil es ∙ w.splits) w.follows (still_some (step c.state (taken count)).pending c.waiting (reply_to c.state w.frame) w.pending ∙ w.waiting)
 step_waiting h c reserve es may w = called_waiting c reserve es w (inr refl)
+step_waiting h c held_done es may w = absurd (not_done c es w may.may_call.0)
 
 -- the frame that waits, on a connection that stands
 waits_for : (h : List Entry) (c : Course) (es : List Event) (w : Waiting) (before : List Event) → Stands h c → es ≡ before ++ option_to_list (event_of w.incoming)

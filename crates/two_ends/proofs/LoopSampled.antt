@@ -77,7 +77,7 @@ unfolding line_after
 works_a = record {
   behind = served_in mid_a work_a;
   served = record {
-    frames = (record { next = next_is (received_in mid_a work_a) answer answer_is_legal (record { goes_on = refl; free = refl }) refl refl; recorded = refl }, tt);
+    frames = (record { next = next_is (received_in mid_a work_a) answer answer_is_legal (record { goes_on = refl; free = refl }) refl refl; recorded = refl; helds = refl }, tt);
     few = omega arith;
     last = inr (inr (inr refl));
     broken = refl;
@@ -121,7 +121,7 @@ unfolding line_after
 works_b = record {
   behind = served_in first_b work_b;
   served = record {
-    frames = (record { next = next_is (received_in first_b work_b) opening opening_is_legal (record { goes_on = refl; free = refl }) refl refl; recorded = refl }, tt);
+    frames = (record { next = next_is (received_in first_b work_b) opening opening_is_legal (record { goes_on = refl; free = refl }) refl refl; recorded = refl; helds = refl }, tt);
     few = omega arith;
     last = inr (inr (inr refl));
     broken = refl;

@@ -2,8 +2,8 @@
 use Rattle.std.proofs.Common.{◌≡◌, ℕ, ◌&&◌, not, Bool, true, false, if◌then◌else◌, List, [], ◌∷◌, Option, Some, None, refl, sym, ap, ◌∙◌, true≢false}
 use Rattle.std.specs.Prelude.{is_some, unwrap_or}
 use Rattle.std.specs.Cmp.{first_so}
-use Rattle.flow_recover.specs.declared.receiver.Seen.{Seen}
-use Rattle.flow_recover.specs.declared.receiver.Seen.TheVariants.{Deliver, Gap, Repeat}
+use Rattle.flow_recover.specs.declared.numbers.Seen.{Seen}
+use Rattle.flow_recover.specs.declared.numbers.Seen.TheVariants.{Deliver, Hold, Gap, Repeat}
 use Rattle.flow_recover.specs.Receiving as receiver_is
 use Rattle.flow_retrans.specs.declared.requester.BadStart.{BadStart}
 use Rattle.flow_retrans.specs.Requests as request_is
@@ -70,7 +70,7 @@ establish_all x f id timestamp keepalive next expected credentials = by_place (a
 sequence_all : (x : Around) (f g : Facts) (i : Incoming) (next : ℕ) (a : Announced) → Refuses f i (sequence_follows x g next a)
 sequence_all x f g i next a =
     by_row (Refuses f i) (is_past_finish x g next) _ (sequence_taken x a) (λ _ _. ended refl)
-    (λ _. by_row (Refuses f i) (is_filled a.facts) (answers_finish x a.facts last) _ (λ _. takes f i (answers_finish x a.facts last) refl)
+    (λ _. by_row (Refuses f i) (is_filled x a.facts) (answers_finish x a.facts last) _ (λ _. takes f i (answers_finish x a.facts last) refl)
     (λ _. takes f i (goes_on x (skip_of a.skipped) (told_skip a.skipped) a.facts) refl))
   where
     last : ℕ
@@ -78,6 +78,7 @@ sequence_all x f g i next a =
 
 taking : (x : Around) (f g : Facts) (i : Incoming) (s : Seen) → Refuses f i (taken_as x g s)
 taking x f g i (Deliver n) out = absurd (true≢false out)
+taking x f g i (Hold n) out = absurd (true≢false out)
 taking x f g i (Gap n) out = absurd (true≢false out)
 taking x f g i (Repeat n) out = absurd (true≢false out)
 

@@ -96,7 +96,7 @@ handshake_sample = (
         opens = record { awaits = refl; enough = omega arith; before = λ _. omega arith };
         legs = (
           record {
-            calls = (record { may_call = tt; comes = omega arith }, (record { may_call = refl; comes = record { begun = refl; going = refl; done = refl } }, tt));
+            calls = (record { may_call = tt; comes = omega arith }, (record { may_call = (refl, refl); comes = record { begun = refl; going = refl; done = refl } }, tt));
             taken = record { first = prefix_self (said opening ∷ []); all = λ _. refl };
           },
           tt,
@@ -112,7 +112,7 @@ handshake_sample = (
         opens = record { awaits = refl; enough = omega arith; before = λ _. omega arith };
         legs = (
           record {
-            calls = (record { may_call = refl; comes = record { begun = refl; going = refl; done = refl } }, (record { may_call = tt; comes = omega arith }, tt));
+            calls = (record { may_call = (refl, refl); comes = record { begun = refl; going = refl; done = refl } }, (record { may_call = tt; comes = omega arith }, tt));
             taken = record { first = prefix_self (said answer ∷ []); all = λ _. refl };
           },
           tt,

@@ -1,5 +1,5 @@
 -- Connections that are linked by their bytes are linked, and so two ends are a session.
-use Rattle.std.proofs.Common.{◌≡◌, ℕ, List, [], ◌∷◌, ◌++◌, map, Option, Some, None, IfSome, refl, sym, ap, subst, ◌∙◌, append-nil}
+use Rattle.std.proofs.Common.{◌≡◌, ℕ, Bool, List, [], ◌∷◌, ◌++◌, map, Option, Some, None, IfSome, refl, sym, ap, subst, ◌∙◌, append-nil}
 use Rattle.std.specs.Prelude.{flat_map}
 use Rattle.std.specs.List.{AllByRecursion}
 use Rattle.std.proofs.lemmas.List.{map-append}
@@ -7,7 +7,7 @@ use Rattle.sofh_frame.specs.Splits.{frames_of}
 use Rattle.session_model.specs.Journal.{Entry, entries}
 use Rattle.session_model.specs.Inbox.{InboxRecord}
 use Rattle.session_model.specs.Events.{Event}
-use Rattle.session_model.specs.Lives.{Connection, Served, Life, KeepsConnections, KeepsOutbox, KeepsContract, TakenFrom, rest_lost, taken, rejected, Linked}
+use Rattle.session_model.specs.Lives.{Served, served_on, Life, KeepsConnections, KeepsOutbox, KeepsContract, TakenFrom, rest_lost, taken, rejected, Linked}
 use Rattle.session_model.specs.Lives
 use Rattle.session_model.proofs.Lists.{prefix_trans, all_append}
 use Rattle.session_model.specs.Growth as model
@@ -18,19 +18,21 @@ use Rattle.fixp_msgs.specs.declared.flow.Flow.TheVariants as flows
 use Rattle.fixp_machine.specs.Machine.{State}
 use Rattle.fixp_machine.specs.Accepting.{model_flow}
 use Rattle.connection_laws.specs.Writing.{Piece, bytes_written, events_written}
-use Rattle.connection_laws.specs.Courses.{Waiting, Course, inbox_of}
-use Rattle.connection_laws.specs.Living.{Leg, course_of, AllMayRun, state_behind, inbox_behind, life_on, Opens}
-use Rattle.connection_laws.proofs.Living.{ran, behind, life_serves, life_refused}
+use Rattle.connection_laws.specs.Courses.{Course, inbox_of}
+use Rattle.connection_laws.specs.Living.{Leg, course_of, MayRun, AllMayRun, state_behind, inbox_behind, life_on, Opens}
+use Rattle.connection_laws.specs.Connections.{connection_of}
+use Rattle.connection_laws.proofs.Living.{ran, behind, life_serves, life_refused, life_refused_held}
 use Rattle.two_ends.specs.Reading.{AreRead}
 use Rattle.two_ends.specs.Hearing.{came, AreFirstOf, TakesFrom}
-use Rattle.two_ends.specs.Meeting.{Run, course_in, accepted_in, connection_in, MayBegin, ReadsFrom, no_more, left_alone, right_alone, paired, LinksHold, Refused, MachineLife, served_with, life_in, runs_on, last_run, runs_of, MayRefuse, MayLive, end_in, SessionOfEnds, Holds, EndsHold}
+use Rattle.two_ends.specs.Meeting.{Refusal, of_frame, of_held, IsRefusedAt, refused_of, Run, course_in, accepted_in, connection_in, MayBegin, ReadsFrom, no_more, left_alone, right_alone, paired, LinksHold, Refused, MachineLife, served_with, life_in, runs_on, last_run, runs_of, MayRefuse, MayLive, end_in, SessionOfEnds, Holds, EndsHold}
 use Rattle.two_ends.proofs.Cutting.{written_is_read}
 use Rattle.two_ends.proofs.Heard.{events_begin, heard_from}
 
 -- what is taken of the frames that came, with that of the frame whose records were refused
-takes_in : (written : List Event) (c : Course) (q : Option Waiting) → IfSome q (λ w. c.waiting ≡ Some w) → TakesFrom written c → TakenFrom written (accepted_in c q)
-takes_in written c None waits t = t.accepted
-takes_in written c (Some w) waits t = t.waiting w waits
+takes_in : (written : List Event) (c : Course) (q : Option Refusal) → IfSome q (IsRefusedAt c) → TakesFrom written c → TakenFrom written (accepted_in c q)
+takes_in written c None at t = t.accepted
+takes_in written c (Some (of_frame w)) waits t = t.waiting w waits
+takes_in written c (Some (of_held m)) front t = t.accepted
 
 -- nothing is taken of nothing
 takes_nothing : (w a : List Event) → w ≡ [] → TakenFrom w a → a ≡ []
@@ -71,6 +73,12 @@ links_hold as' (b ∷ bs) all_a all_b (right_alone none linked) = Lives.Linked.r
 links_hold (a ∷ as') (b ∷ bs) all_a all_b (paired p q linked) =
     Lives.Linked.paired (reads a b all_a.0 all_b.0 p) (reads b a all_b.0 all_a.0 q) (links_hold as' bs all_a.1 all_b.1 linked)
 
+-- the one connection on which an append failed
+refused_connection : (c : Course) (q : Refusal) (whole : List Piece) (drained : Bool)
+    → record (connection_of c whole drained) { accepted = accepted_in c (Some q) } ∷ [] ≡ (refused_of c q whole drained).connections
+refused_connection c (of_frame w) whole drained = refl
+refused_connection c (of_held m) whole drained = refl
+
 -- the connections of a life are those of its runs
 connections_on : (h : List Entry) (s : State) (inbox : List InboxRecord) (legs : List Leg) → map connection_in (runs_on h s inbox legs) ≡ (life_on s inbox legs).connections
 connections_on h s inbox [] = refl
@@ -97,7 +105,7 @@ connections_in l =
 
     by_last : (q : Option Refused) → first.connections ++ map connection_in (last_run h s inbox q) ≡ (served_with first s inbox q).connections
     by_last None = append-nil first.connections
-    by_last (Some r) = refl
+    by_last (Some r) = ap (λ cs. first.connections ++ cs) (refused_connection (course_of s inbox r.leg) r.refusal r.leg.whole r.leg.drained)
 
 connections_of_all : (lives : List MachineLife) → map connection_in (flat_map runs_of lives) ≡ flat_map (λ (life : Life). life.served.connections) (map life_in lives)
 connections_of_all [] = refl
@@ -115,7 +123,7 @@ may_begin_on opened h s inbox (leg ∷ later) o all = (
 
 may_begin_last : (opened h : List Entry) (s : State) (inbox : List InboxRecord) (q : Option Refused) → Opens opened h s inbox → IfSome q (MayRefuse h s inbox) → AllByRecursion MayBegin (last_run h s inbox q)
 may_begin_last opened h s inbox None o may = tt
-may_begin_last opened h s inbox (Some r) o may = (record { awaits = o.awaits; enough = o.enough; calls = may.runs.calls; refused = may.waits }, tt)
+may_begin_last opened h s inbox (Some r) o may = (record { awaits = o.awaits; enough = o.enough; calls = may.runs.calls; refused = may.refuses }, tt)
 
 may_begin : (own peer : Flow) (lives : List MachineLife) → AllByRecursion (MayLive own peer) lives → AllByRecursion MayBegin (flat_map runs_of lives)
 may_begin own peer [] all = tt
@@ -149,10 +157,16 @@ keeps own peer l may =
     inbox : List InboxRecord
     inbox = inbox_behind l.state l.inbox l.legs
 
+    by_refusal : (leg : Leg) (q : Refusal) → MayRun h s inbox leg → IsRefusedAt (course_of s inbox leg) q
+        → KeepsConnections (model_flow l.state.config.own_flow) (model_flow l.state.config.peer_flow) opened h
+        (served_on (life_on l.state l.inbox l.legs) (refused_of (course_of s inbox leg) q leg.whole leg.drained))
+    by_refusal leg (of_frame w) runs waits = life_refused opened h l.state l.inbox l.legs leg w may.opens may.legs runs waits
+    by_refusal leg (of_held m) runs front = life_refused_held opened h l.state l.inbox l.legs leg m may.opens may.legs runs front
+
     by_last : (q : Option Refused) → IfSome q (MayRefuse h s inbox)
         → KeepsConnections (model_flow l.state.config.own_flow) (model_flow l.state.config.peer_flow) opened h (served_with (life_on l.state l.inbox l.legs) s inbox q)
     by_last None none = life_serves opened h l.state l.inbox l.legs may.opens may.legs
-    by_last (Some r) last = life_refused opened h l.state l.inbox l.legs r.leg r.waiting may.opens may.legs last.runs last.waits
+    by_last (Some r) last = by_refusal r.leg r.refusal last.runs last.refuses
 
 contracts : (own peer : Flow) (plan : ℕ → List (List ℕ) → List (List ℕ)) (lives : List MachineLife) → AllByRecursion (MayLive own peer) lives
     → AllByRecursion (KeepsOutbox plan) (map life_in lives) → AllByRecursion (KeepsContract (model_flow own) (model_flow peer) plan) (map life_in lives)

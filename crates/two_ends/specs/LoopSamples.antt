@@ -25,7 +25,7 @@ nothing = record { made = []; finished = false }
 
 -- the frame of a message, at the front of its connection
 abbrev pub frame_of : Message → TakenFrame
-frame_of m = record { at = 0; frame = record { order = Little; message = message_bytes m }; incoming = session m; recorded = false }
+frame_of m = record { at = 0; frame = record { order = Little; message = message_bytes m }; incoming = session m; recorded = false; helds = 0 }
 
 -- a turn that received this frame, and sent these bytes
 abbrev pub hears : Message → (sent : List ℕ) → Work

@@ -10,17 +10,16 @@ use Rattle.session_model.specs.Guarantee.{OneEnd}
 use Rattle.fixp_msgs.specs.Payload.{IsApplication}
 use Rattle.fixp_msgs.specs.declared.flow.Flow.{Flow}
 use Rattle.fixp_machine.specs.Machine.{State}
-use Rattle.connection_laws.specs.Courses.{Waiting}
 use Rattle.connection_laws.specs.Living.{Opens}
 use Rattle.connection_laws.specs.Ranges.{IsInRange}
-use Rattle.two_ends.specs.Meeting.{Refused, MachineLife, life_in}
+use Rattle.two_ends.specs.Meeting.{Refusal, IsRefusedAt, Refused, MachineLife, life_in}
 use Rattle.turn_laws.specs.Legs.{TurnedLeg, IsTimely, AreTurnsOf, given_on, sent_on, course_on, leg_of}
 use Rattle.turn_laws.specs.Lives.{AllAreTurns, legs_of, state_after, inbox_after}
 
--- a last connection of a life, on which the append of the records of the frame that waits failed
+-- a last connection of a life, on which an append failed
 pub record RefusedLeg : Type 0 where
   pub leg : TurnedLeg
-  pub waiting : Waiting
+  pub refusal : Refusal
 
 -- a life of the loop: its outbox, the state and the inbox on which it opened, its connections by their turns, and such a last one,
 -- if any
@@ -34,7 +33,7 @@ pub record LoopLife : Type 0 where
   pub last : Option RefusedLeg
 
 abbrev pub refused_leg : State → List InboxRecord → RefusedLeg → Refused
-refused_leg s inbox r = record { leg = leg_of s inbox r.leg; waiting = r.waiting }
+refused_leg s inbox r = record { leg = leg_of s inbox r.leg; refusal = r.refusal }
 
 -- as a life of the machine, and as one of the session model
 abbrev pub machine_life : LoopLife → MachineLife
@@ -51,10 +50,10 @@ machine_life l = record {
 abbrev pub lives_of : List LoopLife → List Life
 lives_of lives = map life_in (map machine_life lives)
 
--- a last connection is turns over this outbox, and the frame waits there
+-- a last connection is turns over this outbox, and has come to that append
 pub record IsRefusedOn (h : List Entry) (s : State) (inbox : List InboxRecord) (r : RefusedLeg) : Type 0 where
   pub turns : AreTurnsOf h s r.leg
-  pub waits : (course_on s inbox r.leg).waiting ≡ Some r.waiting
+  pub refuses : IsRefusedAt (course_on s inbox r.leg) r.refusal
 
 -- its connections, one behind another
 abbrev pub last_leg : Option RefusedLeg → List TurnedLeg

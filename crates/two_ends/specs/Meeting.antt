@@ -1,9 +1,9 @@
 -- Two ends over their lives, whose connections are linked by the bytes that went over them.
-use Rattle.std.specs.Prelude.{◌≡◌, ℕ, ◌≤◌, List, [], ◌∷◌, ◌++◌, map, flat_map, length, Option, Some, None, IfSome}
+use Rattle.std.specs.Prelude.{◌≡◌, ℕ, ◌≤◌, Bool, List, [], ◌∷◌, ◌++◌, map, flat_map, length, Option, Some, None, IfSome}
 use Rattle.std.specs.List.{AllByRecursion}
 use mathlib.Core.List.{IsPrefix}
 use Rattle.session_model.specs.Journal.{Entry, OutboxRecord, entries}
-use Rattle.session_model.specs.Inbox.{InboxRecord, next_number, applied, skips}
+use Rattle.session_model.specs.Inbox.{InboxRecord, Numbered, next_number, applied, skips}
 use Rattle.session_model.specs.Events.{Event}
 use Rattle.session_model.specs.Growth as model
 use Rattle.session_model.specs.Growth.{AppliesPrefix, SettlesOnce, DeliversRising}
@@ -11,32 +11,48 @@ use Rattle.session_model.specs.Lives.{Connection, Served, Life, served_on, Keeps
 use Rattle.session_model.specs.Guarantee.{OneEnd, Session}
 use Rattle.fixp_msgs.specs.declared.flow.Flow.{Flow}
 use Rattle.fixp_msgs.specs.declared.flow.Flow.TheVariants as flows
-use Rattle.fixp_machine.specs.Machine.{State}
+use Rattle.fixp_machine.specs.Machine.{State, front_of}
 use Rattle.fixp_machine.specs.Accepting.{model_flow}
 use Rattle.connection_laws.specs.Writing.{Piece, bytes_written}
 use Rattle.connection_laws.specs.Framed.{IsLegalPiece}
 use Rattle.connection_laws.specs.Courses.{Waiting, Course, inbox_of, beginning, reply_to, accepted_by}
 use Rattle.connection_laws.specs.Standing.{AllMayStand}
-use Rattle.connection_laws.specs.Connections.{connection_of, refused_by}
+use Rattle.connection_laws.specs.Connections.{connection_of, refused_by, refused_held}
 use Rattle.connection_laws.specs.Living.{Leg, course_of, MayRun, AllMayRun, state_behind, inbox_behind, life_on, Opens}
 use Rattle.two_ends.specs.Hearing.{came, CameFrom}
 
--- One connection of the machine: over an outbox with these entries it begins in this state, over this inbox. Where the append
--- of the records of the frame that waits failed, this is the frame
+-- what an append that failed was to add: the records of the frame that waits, or that of the held message that the inbox awaits
+pub data Refusal : Type 0 where
+  of_frame : Waiting → Refusal
+  of_held : Numbered → Refusal
+
+-- a connection has come to such an append
+abbrev pub IsRefusedAt : Course → Refusal → Type 0
+IsRefusedAt c (of_frame w) = c.waiting ≡ Some w
+IsRefusedAt c (of_held m) = front_of c.state ≡ Some m
+
+-- what a life served on it
+abbrev pub refused_of : Course → Refusal → List Piece → Bool → Served
+refused_of c (of_frame w) whole drained = refused_by c w whole drained
+refused_of c (of_held m) whole drained = refused_held c m whole drained
+
+-- One connection of the machine: over an outbox with these entries it begins in this state, over this inbox. Where an append
+-- failed on it, this is what was to be added
 pub record Run : Type 0 where
   pub outbox : List Entry
   pub state : State
   pub inbox : List InboxRecord
   pub leg : Leg
-  pub refused : Option Waiting
+  pub refused : Option Refusal
 
 abbrev pub course_in : Run → Course
 course_in r = course_of r.state r.inbox r.leg
 
--- what it accepted, with the event of that frame
-abbrev pub accepted_in : Course → Option Waiting → List Event
+-- what it accepted, with the event of the frame whose records were to be added
+abbrev pub accepted_in : Course → Option Refusal → List Event
 accepted_in c None = c.accepted
-accepted_in c (Some w) = c.accepted ++ accepted_by (reply_to c.state w) w.incoming
+accepted_in c (Some (of_frame w)) = c.accepted ++ accepted_by (reply_to c.state w) w.incoming
+accepted_in c (Some (of_held m)) = c.accepted
 
 -- the connection in the session model's words
 abbrev pub connection_in : Run → Connection
@@ -47,7 +63,7 @@ pub record MayBegin (r : Run) : Type 0 where
   pub awaits : r.state.facts.recorded.inbox_next ≡ next_number r.inbox
   pub enough : r.state.facts.recorded.sent ≤ length r.outbox
   pub calls : AllMayStand r.outbox (beginning r.state r.inbox r.leg.moment) r.leg.calls
-  pub refused : IfSome r.refused (λ w. (course_in r).waiting ≡ Some w)
+  pub refused : IfSome r.refused (IsRefusedAt (course_in r))
 
 -- the frames that the link took whole, where these are the bytes that it took: of those written, the first, as far as it took all
 -- of their bytes
@@ -77,10 +93,10 @@ abbrev pub LinksHold : Type 0
 LinksHold = (as' bs : List Run) → AllByRecursion MayBegin as' → AllByRecursion MayBegin bs → LinkedByBytes as' bs
     → Linked (map connection_in as') (map connection_in bs)
 
--- a last connection of a life, on which the append of the records of the frame that waits failed
+-- a last connection of a life, on which an append failed
 pub record Refused : Type 0 where
   pub leg : Leg
-  pub waiting : Waiting
+  pub refusal : Refusal
 
 -- a life of the machine: its outbox, the state and the inbox on which it opened, its connections, and such a last one, if any
 pub record MachineLife : Type 0 where
@@ -95,7 +111,7 @@ pub record MachineLife : Type 0 where
 -- what it served
 abbrev pub served_with : Served → State → List InboxRecord → Option Refused → Served
 served_with served s inbox None = served
-served_with served s inbox (Some r) = served_on served (refused_by (course_of s inbox r.leg) r.waiting r.leg.whole r.leg.drained)
+served_with served s inbox (Some r) = served_on served (refused_of (course_of s inbox r.leg) r.refusal r.leg.whole r.leg.drained)
 
 abbrev pub life_in : MachineLife → Life
 life_in l = record {
@@ -114,17 +130,17 @@ runs_on h s inbox (leg ∷ later) =
 
 abbrev pub last_run : List Entry → State → List InboxRecord → Option Refused → List Run
 last_run h s inbox None = []
-last_run h s inbox (Some r) = record { outbox = h; state = s; inbox = inbox; leg = r.leg; refused = Some r.waiting } ∷ []
+last_run h s inbox (Some r) = record { outbox = h; state = s; inbox = inbox; leg = r.leg; refused = Some r.refusal } ∷ []
 
 abbrev pub runs_of : MachineLife → List Run
 runs_of l =
     runs_on (entries l.closing_outbox) l.state l.inbox l.legs
     ++ last_run (entries l.closing_outbox) (state_behind l.state l.inbox l.legs) (inbox_behind l.state l.inbox l.legs) l.last
 
--- on the last connection each call may come, and the frame waits there
+-- on the last connection each call may come, and it has come to that append
 pub record MayRefuse (h : List Entry) (s : State) (inbox : List InboxRecord) (r : Refused) : Type 0 where
   pub runs : MayRun h s inbox r.leg
-  pub waits : (course_of s inbox r.leg).waiting ≡ Some r.waiting
+  pub refuses : IsRefusedAt (course_of s inbox r.leg) r.refusal
 
 -- the life is of an end with these flows, opens where it may, and on each of its connections each call may come
 pub record MayLive (own peer : Flow) (l : MachineLife) : Type 0 where

@@ -28,8 +28,8 @@ life_of b closing done last = record {
 abbrev pub served_by : LoopLife → Served
 served_by life = (life_in (machine_life life)).served
 
--- A life that is over, with these connections, over an outbox with these records: they are turns, of bytes and in time; where the act of a frame was
--- refused on the last one, that frame waits. Its inbox came to this list, and a stop may leave a beginning of what was refused behind it
+-- A life that is over, with these connections, over an outbox with these records: they are turns, of bytes and in time; where something was
+-- refused on the last one, it is still to be added. Its inbox came to this list, and a stop may leave a beginning of what was refused behind it
 pub record IsOver (closing : List OutboxRecord) (b : Beginning) (legs : List TurnedLeg) (inbox refused : List InboxRecord) : Type 0 where
   pub done : List TurnedLeg
   pub last : Option RefusedLeg
