@@ -13,7 +13,7 @@ use std::marker::Model;
 use std::slice::from_ref;
 
 /// The identifier of the session.
-const ID: [u8; 16] = [
+pub const ID: [u8; 16] = [
     0x00, 0x11, 0x22, 0x33, 0x44, 0x55, 0x66, 0x77, 0x88, 0x99, 0xAA, 0xBB, 0xCC, 0xDD, 0xEE, 0xFF,
 ];
 
@@ -34,7 +34,7 @@ const FRAMES: u64 = 9_000;
 pub struct Driven {
     end: End,
     own_flow: Flow,
-    now: u64,
+    moment: u64,
     /// How many frames came since the last turn ended, at least.
     heard: u64,
 }
@@ -47,7 +47,7 @@ impl Model for Driven {
 
     ghost view = { λ s. s.end };
 
-    ghost invariant = { λ s. (s.end.begun ≡ true) × (s.end.pending ≡ None) × (s.end.moment ≤ s.now) × (s.now ≤ 1000000) × (s.end.config.own_flow ≡ s.own_flow) × (length s.end.untold ≤ s.heard) };
+    ghost invariant = { λ s. (s.end.begun ≡ true) × (s.end.pending ≡ None) × (s.end.moment ≤ s.moment) × (s.moment ≤ 1000000) × (s.end.config.own_flow ≡ s.own_flow) × (length s.end.untold ≤ s.heard) };
 }
 
 /// The configuration of an end of this version of the session schema, which sends one flow and receives the other.
@@ -82,6 +82,9 @@ fn entry_of(entries: &[Stable], wanted: u64) -> Option<&Stable>
 }
 
 impl Driven {
+    ghost use Rattle.std.specs.Prelude.{◌↔◌, IsTrue};
+    ghost use Rattle.fixp_machine.specs.Machine.{front_of};
+
     /// An end of this version, of a session of which this is recorded, which sends one flow and receives the other, in its first
     /// connection, from this moment on.
     pub fn new(
@@ -104,7 +107,7 @@ impl Driven {
         Ok(Driven {
             end,
             own_flow,
-            now,
+            moment: now,
             heard: 0,
         })
     }
@@ -112,7 +115,7 @@ impl Driven {
     /// The next connection begins where one has ended.
     pub fn begin(&mut self) {
         if self.end.ending().is_some() {
-            self.end.begin(self.now);
+            self.end.begin(self.moment);
         }
     }
 
@@ -121,30 +124,57 @@ impl Driven {
         self.end.on_link_end();
     }
 
+    /// How many entries were sent or begun.
+    pub fn sent(&self) -> u64 {
+        self.end.sent()
+    }
+
     /// The last moment that it was told.
     pub fn now(&self) -> u64 {
-        self.now
+        self.moment
     }
 
     /// The clock ticks at this moment.
     pub fn tick(&mut self, moment: u64) {
-        self.now = self.now.max(moment.min(LAST_MOMENT));
+        self.moment = self.moment.max(moment.min(LAST_MOMENT));
         if self.end.out().is_empty() {
-            self.end.on_tick(self.now);
+            self.end.on_tick(self.moment);
         }
     }
 
-    /// A turn ends.
+    /// A turn ends, where no held message is to be applied first.
     pub fn turn_done(&mut self) {
-        if self.end.out().len() <= UNSENT && self.heard <= 10_000 {
-            self.end.turn_done(self.now);
+        if self.is_drained() && self.end.out().len() <= UNSENT && self.heard <= 10_000 {
+            self.end.turn_done(self.moment);
         }
     }
 
-    /// The outbox has its finish behind so many entries.
+    /// The outbox has its finish behind so many entries, where no held message is to be applied first.
     pub fn closed(&mut self, last: u64) {
-        if self.end.out().len() <= UNSENT {
-            self.end.closed(last, self.now);
+        if self.is_drained() && self.end.out().len() <= UNSENT {
+            self.end.closed(last, self.moment);
+        }
+    }
+
+    /// Whether no held message is to be applied first.
+    fn is_drained(&self) -> bool
+        ensures { IsTrue result ↔ front_of self.now ≡ None }
+    {
+        match self.end.held() {
+            Some(_) => false,
+            None => true,
+        }
+    }
+
+    /// The held message that the inbox awaits, with its number.
+    pub fn held(&self) -> Option<(u64, &[u8])> {
+        self.end.held()
+    }
+
+    /// That message was applied, if there is one.
+    pub fn held_done(&mut self) {
+        if !self.is_drained() {
+            self.end.held_done();
         }
     }
 
@@ -161,7 +191,7 @@ impl Driven {
             return;
         };
         if self.end.out().len() <= UNSENT {
-            self.end.send_live(from_ref(entry), self.now);
+            self.end.send_live(from_ref(entry), self.moment);
         }
     }
 
@@ -175,12 +205,13 @@ impl Driven {
         };
         let is_open = self.end.ending().is_none() && range.count > 0;
         if is_open && self.end.out().len() <= UNSENT {
-            self.end.send_again(from_ref(entry), self.now);
+            self.end.send_again(from_ref(entry), self.moment);
         }
     }
 
     /// Its act at the message of a frame that begins at this place of the connection's bytes, once that is done, and how many bytes
-    /// were unsent before; none where the connection has ended, or too much is unsent or came in one turn.
+    /// were unsent before; none where the connection has ended, a held message is to be applied first, or too much is unsent or came in
+    /// one turn.
     pub fn act(
         &mut self,
         order: Order,
@@ -191,23 +222,23 @@ impl Driven {
         requires most { length message.now ≤ 16384 }
     {
         let is_full = self.end.out().len() > UNSENT_AT_FRAME || self.heard > FRAMES;
-        if self.end.ending().is_some() || is_full {
+        if self.end.ending().is_some() || !self.is_drained() || is_full {
             return Ok(None);
         }
         self.end.reserve()?;
         self.heard += 1;
-        let act = self.end.on_frame(order, message, place, self.now);
+        let act = self.end.on_frame(order, message, place, self.moment);
         let before = self.end.out().len();
         if act.is_record() {
-            self.end.did(self.now);
+            self.end.did(self.moment);
         }
         Ok(Some((act, before)))
     }
 
-    /// Bytes come at this place that are no frame.
+    /// Bytes come at this place that are no frame, where no held message is to be applied first.
     pub fn refuse(&mut self, place: u64) {
-        if self.end.ending().is_none() && self.end.out().len() <= UNSENT {
-            self.end.on_bad_frame(place, self.now);
+        if self.end.ending().is_none() && self.is_drained() && self.end.out().len() <= UNSENT {
+            self.end.on_bad_frame(place, self.moment);
         }
     }
 

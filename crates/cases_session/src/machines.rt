@@ -1,4 +1,4 @@
-//! Cases of two session machines, the two ends of one session: for each pair of flows their connections are cut at every
+//! Cases of two session machines, the two ends of one session: for each pair of flows and of versions their connections are cut at every
 //! place, and what each end settles is judged by plain lists. What it has to print stands in `stdout`, worked out by hand.
 
 mod cuts;
@@ -25,6 +25,9 @@ const FLOWS: [Flow; 4] = [
     Flow::None,
 ];
 
+/// The versions of an initiator and of an acceptor, of which one at least is 1.
+const VERSIONS: [[u16; 2]; 3] = [[0, 1], [1, 0], [1, 1]];
+
 /// Prints what the section shows.
 pub fn print<R: Print + AllocGlobal>(rt: &R) -> io::Result<()> {
     let alloc = rt.alloc();
@@ -33,6 +36,15 @@ pub fn print<R: Print + AllocGlobal>(rt: &R) -> io::Result<()> {
         for acceptor in FLOWS {
             rt.println(cuts::at_once(alloc, initiator, acceptor, entries.as_slice())?)?;
             rt.println(cuts::by_threes(alloc, initiator, acceptor, entries.as_slice())?)?;
+            for versions in VERSIONS {
+                rt.println(cuts::by_versions(
+                    alloc,
+                    initiator,
+                    acceptor,
+                    entries.as_slice(),
+                    versions,
+                )?)?;
+            }
         }
     }
     Ok(())

@@ -8,8 +8,8 @@ use fixp_end::Flow;
 use jr_kept::Stable;
 use std::alloc::{AllocError, Global};
 
-/// At how many places a second connection is cut, at most: at more than it has.
-const MOST: u64 = 400;
+/// More places than a connection has.
+const ALL: u64 = 400;
 
 /// What one run showed.
 #[derive(Clone, Copy)]
@@ -31,6 +31,10 @@ struct Runs<'a> {
     entries: &'a [Stable],
     /// How many messages an end sends live in a turn, at most.
     pace: u64,
+    /// The versions of the initiator and of the acceptor.
+    versions: [u16; 2],
+    /// At how many places a second connection is cut too, at most.
+    most: u64,
     /// How many frames a connection carries that is not cut.
     frames: u64,
     /// At how many places the first connection alone was cut.
@@ -51,6 +55,8 @@ impl<'a> Runs<'a> {
         acceptor: Flow,
         entries: &'a [Stable],
         pace: u64,
+        versions: [u16; 2],
+        most: u64,
     ) -> Runs<'a> {
         Runs {
             alloc,
@@ -58,6 +64,8 @@ impl<'a> Runs<'a> {
             acceptor,
             entries,
             pace,
+            versions,
+            most,
             frames: 0,
             places: 0,
             requests: 0,
@@ -80,7 +88,13 @@ impl<'a> Runs<'a> {
 
     /// Runs a session whose first connections are cut at these places, and one more that is not.
     fn run(&mut self, cuts: &[u64]) -> Result<Run, AllocError> {
-        let mut session = Session::new(self.alloc, self.initiator, self.acceptor, self.pace)?;
+        let mut session = Session::new(
+            self.alloc,
+            self.initiator,
+            self.acceptor,
+            self.pace,
+            self.versions,
+        )?;
         let mut cut = false;
         for place in cuts {
             cut = !session.connect(self.entries, &mut Passage::cut_at(*place))?;
@@ -101,7 +115,7 @@ impl<'a> Runs<'a> {
         let single = self.run(&[first])?;
         self.places = self.places.saturating_add(1);
         self.requests = self.requests.saturating_add(single.requests);
-        for second in 0..MOST {
+        for second in 0..self.most {
             if !self.run(&[first, second])?.cut {
                 return Ok(());
             }
@@ -139,7 +153,7 @@ pub fn at_once(
     acceptor: Flow,
     entries: &[Stable],
 ) -> Result<String, AllocError> {
-    let mut runs = Runs::none(alloc, initiator, acceptor, entries, COUNT);
+    let mut runs = Runs::none(alloc, initiator, acceptor, entries, COUNT, [0, 0], ALL);
     runs.run_all()?;
     format!(in alloc;
         "{initiator:?} and {acceptor:?}: {} frames, one cut at {} places with {} requests behind, two cuts at {} places, {}",
@@ -159,12 +173,37 @@ pub fn by_threes(
     acceptor: Flow,
     entries: &[Stable],
 ) -> Result<String, AllocError> {
-    let mut runs = Runs::none(alloc, initiator, acceptor, entries, 3);
+    let mut runs = Runs::none(alloc, initiator, acceptor, entries, 3, [0, 0], ALL);
     runs.run_all()?;
     format!(in alloc;
         "{initiator:?} and {acceptor:?} by threes: {} frames, one cut at {} places and two cuts, {}",
         runs.frames,
         runs.places,
+        runs.verdict()?
+    )
+}
+
+/// The same where the ends are of these versions, of which one at least is 1. A second connection is cut too where both are, and both
+/// flows are recoverable.
+pub fn by_versions(
+    alloc: Global,
+    initiator: Flow,
+    acceptor: Flow,
+    entries: &[Stable],
+    versions: [u16; 2],
+) -> Result<String, AllocError> {
+    let (most, twice) = match (initiator, acceptor, versions) {
+        (Flow::Recoverable, Flow::Recoverable, [1, 1]) => (ALL, " and two cuts"),
+        _ => (0, ""),
+    };
+    let mut runs = Runs::none(alloc, initiator, acceptor, entries, COUNT, versions, most);
+    runs.run_all()?;
+    let [first, second] = versions;
+    format!(in alloc;
+        "{initiator:?} and {acceptor:?} of versions {first} and {second}: {} frames, one cut at {} places with {} requests behind{twice}, {}",
+        runs.frames,
+        runs.places,
+        runs.requests,
         runs.verdict()?
     )
 }

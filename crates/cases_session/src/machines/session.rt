@@ -25,16 +25,32 @@ pub struct Session {
 
 impl Session {
     /// A new session, in which the initiator sends the first flow and the acceptor the second, in its first connection.
-    /// `pace` is how many messages an end sends live in a turn, at most.
+    /// `pace` is how many messages an end sends live in a turn, at most, and `versions` are those of the initiator and of the acceptor.
     pub fn new(
         alloc: Global,
         from_initiator: Flow,
         from_acceptor: Flow,
         pace: u64,
+        versions: [u16; 2],
     ) -> Result<Session, AllocError> {
+        let [first, second] = versions;
         Ok(Session {
-            initiator: Side::new(alloc, Role::Initiator, from_initiator, from_acceptor, pace)?,
-            acceptor: Side::new(alloc, Role::Acceptor, from_acceptor, from_initiator, pace)?,
+            initiator: Side::new(
+                alloc,
+                Role::Initiator,
+                from_initiator,
+                from_acceptor,
+                pace,
+                first,
+            )?,
+            acceptor: Side::new(
+                alloc,
+                Role::Acceptor,
+                from_acceptor,
+                from_initiator,
+                pace,
+                second,
+            )?,
             from_initiator,
             from_acceptor,
             to_initiator: Line::new(alloc),

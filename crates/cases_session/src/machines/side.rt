@@ -43,14 +43,23 @@ fn front(message: &[u8]) -> [u8; 8] {
     front
 }
 
+/// The message of a payload, which begins with two bytes for its encoding.
+fn message_of(payload: &[u8]) -> &[u8] {
+    match payload.split_at_checked(2) {
+        Some((_, message)) => message,
+        None => payload,
+    }
+}
+
 impl Side {
-    /// An end of a new session, in its first connection. `pace` is how many messages it sends live in a turn, at most.
+    /// An end of this version, of a new session, in its first connection. `pace` is how many messages it sends live in a turn, at most.
     pub fn new(
         alloc: Global,
         role: Role,
         own_flow: Flow,
         peer_flow: Flow,
         pace: u64,
+        version: u16,
     ) -> Result<Side, AllocError> {
         let recorded = EndState {
             negotiated: false,
@@ -59,7 +68,7 @@ impl Side {
             sent: 0,
             finish: None,
         };
-        let driven = Driven::new(alloc, role, own_flow, peer_flow, recorded, 0, 0)?;
+        let driven = Driven::new(alloc, role, own_flow, peer_flow, recorded, 0, version)?;
         Ok(Side {
             driven,
             own_flow,
@@ -149,9 +158,25 @@ impl Side {
         requires most { length message.now ≤ 16384 }
     {
         match self.driven.act(order, message, 0)? {
-            Some((act, _)) => self.settle(act, message),
+            Some((act, _)) => {
+                self.settle(act, message)?;
+                self.apply_held()
+            }
             None => Ok(()),
         }
+    }
+
+    /// Applies the held messages that the inbox awaits, one after another.
+    fn apply_held(&mut self) -> Result<(), AllocError> {
+        for _ in 0..COUNT {
+            let Some((number, payload)) = self.driven.held() else {
+                return Ok(());
+            };
+            let message = front(message_of(payload));
+            self.inbox.push(Settled::Applied { number, message })?;
+            self.driven.held_done();
+        }
+        Ok(())
     }
 
     /// Records what an act settles.

@@ -19,7 +19,7 @@ const BEGINNING: u64 = 5;
 const PLACE: u64 = 7;
 
 /// A flow by its name.
-fn flow_of(word: &str) -> Flow {
+pub fn flow_of(word: &str) -> Flow {
     match word {
         "recoverable" => Flow::Recoverable,
         "idempotent" => Flow::Idempotent,
@@ -28,7 +28,8 @@ fn flow_of(word: &str) -> Flow {
     }
 }
 
-fn role_of(side: &str) -> Role {
+/// A role by its name.
+pub fn role_of(side: &str) -> Role {
     match side {
         "initiator" => Role::Initiator,
         _ => Role::Acceptor,
@@ -163,6 +164,19 @@ fn call_of(event: &str) -> Option<Call> {
     }
 }
 
+/// Adds the held message that the inbox of an end awaits, and it is applied.
+fn push_held(alloc: Global, line: &mut String, driven: &mut Driven) -> Result<(), AllocError> {
+    match driven.held() {
+        Some((number, payload)) => {
+            let payload = digits(alloc, payload)?;
+            write!(line, "applied {number} {payload}")?;
+        }
+        None => line.push_str("none")?,
+    }
+    driven.held_done();
+    Ok(())
+}
+
 /// What an end is told from: frames by name, and the entries that it may send.
 #[derive(Clone, Copy)]
 pub struct Sources<'a> {
@@ -170,7 +184,7 @@ pub struct Sources<'a> {
     pub entries: &'a [Stable],
 }
 
-/// Adds what an end does at an event: a call, or a frame by name.
+/// Adds what an end does at an event: a call, a held message that is applied, or a frame by name.
 fn push_event(
     alloc: Global,
     line: &mut String,
@@ -178,12 +192,31 @@ fn push_event(
     sources: Sources<'_>,
     event: &str,
 ) -> Result<(), AllocError> {
+    if event == "held" {
+        return push_held(alloc, line, driven);
+    }
     if let Some(call) = call_of(event) {
         call_end(driven, sources.entries, call);
         return line.push_str("told");
     }
     let bytes = sources.named.bytes(alloc, event)?;
     push_bytes(line, driven, bytes.as_slice())
+}
+
+/// Adds what an end does at an event: at the last of them where it comes more than once, as in `256*application`.
+fn push_last(
+    alloc: Global,
+    line: &mut String,
+    driven: &mut Driven,
+    sources: Sources<'_>,
+    event: &str,
+) -> Result<(), AllocError> {
+    let (times, event) = event.split_once("*").unwrap_or(("1", event));
+    for _ in 1..number(times) {
+        let mut unsaid = String::new(alloc);
+        push_event(alloc, &mut unsaid, driven, sources, event)?;
+    }
+    push_event(alloc, line, driven, sources, event)
 }
 
 /// Adds the line of an event.
@@ -195,7 +228,7 @@ fn push_event_line(
     event: &str,
 ) -> Result<(), AllocError> {
     write!(line, "\n  {event}: ")?;
-    push_event(alloc, line, driven, sources, event)?;
+    push_last(alloc, line, driven, sources, event)?;
     push_taken(alloc, line, driven, ", ")
 }
 
