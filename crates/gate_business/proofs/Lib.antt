@@ -1,3 +1,4 @@
 pub mod Making
 pub mod Resuming
 pub mod Parting
+pub mod Seeing

@@ -16,22 +16,29 @@ use Rattle.jr_boxes.specs.declared.faults.SubmitFault.{SubmitFault}
 use Rattle.jr_boxes.specs.declared.faults.SubmitFault.TheVariants as submit
 use Rattle.gate_turn.specs.Views.{Part}
 use Rattle.gate_turn.specs.Rule.{In}
-use Rattle.gate_turn.proofs.Histories.{begins_on}
+use Rattle.gate_turn.proofs.Histories.{begins_self, begins_on}
 use Rattle.gate_turn.proofs.Failing.{failed_before}
 use Rattle.gate_business.specs.Made.{LosesMessage, SeesMark, MetFull}
-use Rattle.gate_business.specs.Business.{StaysPass, AllMade, Loses, Grew, Whole, ShownByOne, StandsOn, StandsOnResume, LoseNothing, SendNothing, Answered, Resumed}
+use Rattle.gate_business.specs.Business.{StaysPass, AllStay, AllMade, Loses, Grew, Whole, ShownByOne, StandsOn, StandsOnResume, LoseNothing, SendNothing, Answered, Resumed}
 use Rattle.gate_business.specs.declared.business.ResumeFault.{ResumeFault}
 use Rattle.gate_business.specs.declared.business.ResumeFault.TheVariants as resuming
 use Rattle.gate_business.proofs.Making.{Makes, makes, made_of, over_longer, makes_on, all_made_on}
 
+pub stays_self : (p : Part) → StaysPass p p
+stays_self p = record { seen = begins_self p.seen; own = λ own. own; faults = omega arith; number = refl; made = refl; opening = refl }
+
 pub stays_on : (p r q : Part) → StaysPass p r → StaysPass r q → StaysPass p q
 stays_on p r q a b = record {
   seen = begins_on p.seen r.seen q.seen a.seen b.seen;
+  own = λ own. b.own (a.own own);
   faults = omega (arith, a.faults, b.faults);
   number = b.number ∙ a.number;
   made = b.made ∙ a.made;
   opening = b.opening ∙ a.opening;
 }
+
+pub all_stay : (count : ℕ) (p r q : ℕ → Part) → AllStay count p r → AllStay count r q → AllStay count p q
+all_stay count p r q a b = λ n inside. stays_on (p n) (r n) (q n) (a n inside) (b n inside)
 
 -- up to a list of applied messages, calls sent what the plans say of them, added no mark and lost nothing
 pub record Upto (plan : ℕ → List (List ℕ)) (count : ℕ) (p q : ℕ → Part) : Type 0 where

@@ -13,7 +13,7 @@ use Rattle.gate_turn.specs.Calls.{IsFree}
 use Rattle.gate_turn.specs.declared.pass.Pass.{Pass}
 use Rattle.gate_turn.specs.declared.passes.Passes.{Passes}
 use Rattle.gate_senders.specs.declared.gate.Gate.{Gate}
-use Rattle.gate_business.specs.Made.{MadeOf, IsAllMade, LosesMessage, SeesMark, MetFull}
+use Rattle.gate_business.specs.Made.{SeesOwn, MadeOf, IsAllMade, LosesMessage, SeesMark, MetFull}
 use Rattle.gate_business.specs.declared.business.ResumeFault.{ResumeFault}
 use Rattle.gate_business.specs.declared.business.ResumeFault.TheVariants as resuming
 
@@ -26,13 +26,19 @@ pub record HasThese {T : Type 0} (lock : TableId) (passes : Passes T) (count : �
   pub each : (n : ℕ) → In count n → (p : Pass T) × (pass_at passes n ≡ Some p) × (p.seat.table_id ≡ lock) × IsFree p
   pub others : (n : ℕ) → ¬ In count n → pass_at passes n ≡ None
 
--- it is the same pass: what it has seen begins with all that it had seen, and its count of faults did not fall
+-- it is the same pass: what it has seen begins with all that it had seen, and has all entries of its own where that had; and its count of faults
+-- did not fall
 pub record StaysPass (p q : Part) : Type 0 where
   pub seen : BeginsHistory p.seen q.seen
+  pub own : SeesOwn p → SeesOwn q
   pub faults : p.faults ≤ q.faults
   pub number : q.number ≡ p.number
   pub made : q.made ≡ p.made
   pub opening : q.opening ≡ p.opening
+
+-- each is the same pass
+abbrev pub AllStay : (count : ℕ) (p q : ℕ → Part) → Type 0
+AllStay count p q = (n : ℕ) → In count n → StaysPass (p n) (q n)
 
 -- each pass made all of its plan
 abbrev pub AllMade : (plan : ℕ → List (List ℕ)) (count : ℕ) (p q : ℕ → Part) → Type 0
@@ -49,7 +55,7 @@ pub record Loses (plan : ℕ → List (List ℕ)) (count : ℕ) (p q : ℕ → P
 -- Whatever the call answered: behind its own entries each pass made messages of its plan, from there on; it added the mark only where the
 -- peer's finish is recorded and each pass made all of its plan; and it lost nothing but what comes next
 pub record Grew (plan : ℕ → List (List ℕ)) (count : ℕ) (p q : ℕ → Part) (finished : Bool) : Type 0 where
-  pub same : (n : ℕ) → In count n → StaysPass (p n) (q n)
+  pub same : AllStay count p q
   pub each : (n : ℕ) → In count n → MadeOf (p n).mine n (plan n) (q n).mine
   pub ended : (n : ℕ) → In count n → (q n).ended ≡ true → ((p n).ended ≡ true) ⊎ ((finished ≡ true) × AllMade plan count p q)
   pub lost : (n : ℕ) → In count n → ((q n).lost ≡ (p n).lost) ⊎ Loses plan count p q finished n
@@ -85,7 +91,7 @@ LoseNothing count p q = (n : ℕ) → In count n → (q n).lost ≡ (p n).lost
 
 -- a turn in which the passes sent nothing
 pub record SendNothing (count : ℕ) (p q : ℕ → Part) : Type 0 where
-  pub same : (n : ℕ) → In count n → StaysPass (p n) (q n)
+  pub same : AllStay count p q
   pub mine : (n : ℕ) → In count n → (q n).mine ≡ (p n).mine
   pub ended : (n : ℕ) → In count n → (q n).ended ≡ (p n).ended
   pub unlost : LoseNothing count p q

@@ -13,7 +13,7 @@ ghost use Rattle.gate_turn.specs.Rule.{In};
 ghost use Rattle.gate_turn.specs.Listed.{known_at};
 ghost use Rattle.gate_senders.specs.Gate.{senders_of};
 ghost use Rattle.gate_business.specs.Made.{SeesMark};
-ghost use Rattle.gate_business.specs.Business.{lock_of, HasThese, SendNothing, Answered, Resumed, ShownByOne, StandsOn, StandsOnResume};
+ghost use Rattle.gate_business.specs.Business.{lock_of, HasThese, AllStay, SendNothing, Answered, Resumed, ShownByOne, StandsOn, StandsOnResume};
 ghost use Rattle.gate_business.specs.Hands.{hands_in, HasAgain};
 ghost use Rattle.gate_business.specs.declared.business.ResumeFault.TheVariants as resuming;
 
@@ -131,6 +131,9 @@ pub trait Business<J: Journal + Send> {
         ensures own { (before : Self) → has before (lock_of gate.now) → count before ≤ senders_of gate.now
             → HasAgain took (worked (lock_of gate.now) (senders_of gate.now) payloads.now) before self.old
             → has self.new (lock_of gate.now) × (count self.new ≡ count before) × (plan self.new ≡ plan before) }
+        ensures stays { (before : Self) → has before (lock_of gate.now) → count before ≤ senders_of gate.now
+            → HasAgain took (worked (lock_of gate.now) (senders_of gate.now) payloads.now) before self.old
+            → AllStay (count before) (part before) (part self.new) }
         ensures stands { (before : Self) → has before (lock_of gate.now) → count before ≤ senders_of gate.now
             → HasAgain took (worked (lock_of gate.now) (senders_of gate.now) payloads.now) before self.old
             → (l : List (List ℕ)) → stands before l → StandsOn result (stands self.new (l ++ payloads.now)) }
@@ -188,6 +191,7 @@ pub trait Business<J: Journal + Send> {
         requires most { length payloads.now ≤ 512 }
         ensures own { has self.new (lock_of gate.now) }
         ensures same { (count self.new ≡ count self.old) × (plan self.new ≡ plan self.old) }
+        ensures stays { AllStay (count self.old) (part self.old) (part self.new) }
         ensures stands { (l : List (List ℕ)) → stands self.old l → StandsOn result (stands self.new (l ++ payloads.now)) }
         ensures answered { (l : List (List ℕ)) → stands self.old l → Answered (λ n. plan self.old n (l ++ payloads.now)) (count self.old) (part self.old) (part self.new) finished result }
         ensures refused { (f : SubmitFault) → result ≡ Err f → f ≢ submit.Memory → ShownByOne (count self.old) (part self.old) (part self.new) f }
@@ -219,6 +223,7 @@ pub trait Business<J: Journal + Send> {
         requires sound { is_broken inbox.old ≡ false }
         ensures own { has self.new (lock_of gate.now) }
         ensures same { (count self.new ≡ count self.old) × (plan self.new ≡ plan self.old) }
+        ensures stays { AllStay (count self.old) (part self.old) (part self.new) }
         ensures stands { (i : List InboxRecord) → I.tells → StandsFor inbox.old i → StandsOnResume result (stands self.new (payloads_of (applied i))) }
         ensures resumed { (i : List InboxRecord) → I.tells → StandsFor inbox.old i → Resumed (λ n. plan self.old n (payloads_of (applied i))) (count self.old) (part self.old) (part self.new) (has_peer_finished i) result }
         ensures read { (i : List InboxRecord) → StandsFor inbox.old i → ∥ ((l : List (List ℕ)) × (length l ≡ length (applied i)) × StandsOnResume result (stands self.new l)

@@ -8,7 +8,7 @@ ghost use Rattle.jr_kept.specs.Inbox.{StandsFor, SameContent, faults_of, is_brok
 ghost use Rattle.jr_boxes.specs.declared.faults.SubmitFault.{SubmitFault};
 ghost use Rattle.jr_boxes.specs.declared.faults.SubmitFault.TheVariants as submit;
 ghost use Rattle.gate_senders.specs.Gate.{senders_of};
-ghost use Rattle.gate_business.specs.Business.{lock_of, Resumed, ShownByOne, StandsOnResume};
+ghost use Rattle.gate_business.specs.Business.{lock_of, AllStay, Resumed, ShownByOne, StandsOnResume};
 ghost use Rattle.gate_business.specs.declared.business.ResumeFault.TheVariants as resuming;
 
 use crate::business::{Business, ResumeFault};
@@ -90,6 +90,7 @@ pub(crate) fn take_place<
     requires sound { is_broken inbox.old ≡ false }
     ensures own { B.has business.new (lock_of gate.now) }
     ensures same { (B.count business.new ≡ B.count business.old) × (B.plan business.new ≡ B.plan business.old) }
+    ensures stays { AllStay (B.count business.old) (B.part business.old) (B.part business.new) }
     ensures stands { (i : List InboxRecord) → I.tells → StandsFor inbox.old i → StandsOnResume result (B.stands business.new (payloads_of (applied i))) }
     ensures resumed { (i : List InboxRecord) → I.tells → StandsFor inbox.old i → Resumed (λ n. B.plan business.old n (payloads_of (applied i))) (B.count business.old) (B.part business.old) (B.part business.new) (has_peer_finished i) result }
     ensures read { (i : List InboxRecord) → StandsFor inbox.old i → ∥ ((l : List (List ℕ)) × (length l ≡ length (applied i)) × StandsOnResume result (B.stands business.new l)

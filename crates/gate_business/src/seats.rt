@@ -21,6 +21,7 @@ pub fn take_connection<J: Journal>(
     requires made { MadeAt gate.now passes.old (senders + 1) }
     ensures own { IsPassAt gate.now result }
     ensures free { IsFree result }
+    ensures part { known result ≡ known_at passes.old (senders + 1) }
     ensures number { (known result).number ≡ senders + 1 }
     ensures alone { senders ≡ 0 → (known result).made ≡ 1 }
     ensures these { HasThese (lock_of gate.now) passes.new senders }
@@ -49,6 +50,8 @@ pub fn give_connection<J: Journal>(
     requires these { HasThese (lock_of gate.now) passes.old senders }
     requires first { 0 < senders → (known_at passes.old 1).made ≡ senders + 1 }
     ensures back { AllBackAt gate.now passes.new }
+    ensures parts { (n : ℕ) → In senders n → known_at passes.new n ≡ known_at passes.old n }
+    ensures last { known_at passes.new (senders + 1) ≡ known pass }
 {
     let _ = gate;
     let _ = senders;

@@ -9,13 +9,14 @@ use Rattle.gate_turn.specs.Views.{Part, new_part, nothing}
 use Rattle.gate_turn.specs.Rule.{In}
 use Rattle.gate_turn.specs.Listed.{known_if}
 use Rattle.gate_turn.proofs.Failing.{failed_before}
-use Rattle.gate_business.specs.Business.{ShownByOne, StandsOn, Answered}
+use Rattle.gate_business.proofs.Resuming.{stays_self}
+use Rattle.gate_business.specs.Business.{StaysPass, AllStay, ShownByOne, StandsOn, Answered}
 use Rattle.order_gate.specs.declared.desk.Desk.{Desk}
 use Rattle.order_gate.specs.Reported.{Reported, Finishing}
 use Rattle.order_gate.specs.Desks.{known_of, IsSeated, IsManned}
 use Rattle.order_gate.proofs.Parts.{long_of}
 use Rattle.order_gate.proofs.Sending.{on_ok}
-use Rattle.order_gate.proofs.Answering.{Sends, behind_owed, shown_of, answered_ok, answered_refused, answered_idle, answered_finish}
+use Rattle.order_gate.proofs.Answering.{Sends, stays, all_finished, behind_owed, shown_of, answered_ok, answered_refused, answered_idle, answered_finish}
 use Rattle.order_book_gate.specs.declared.book_desk.BookDesk.{BookDesk}
 use Rattle.order_book_gate.specs.Plan.{answers, resting_behind}
 use Rattle.order_book_gate.specs.Desk.{part_of, plan_of, HasPass, IsAble, StandsAt, StandsBehind, Took}
@@ -72,6 +73,9 @@ module _ {J : Type 0} {G : Ghosts J} where
       → Answered (λ n. plan_of b n (l ++ more)) 1 (part_of b) (part_of b) finished (Ok tt)
   idle lock b has (inl met) l more st finished = answered_idle (λ n. plan_of b n (l ++ more)) 1 (part_of b) finished (meets b lock has met)
   idle lock b has (inr un) l more st finished = absurd (cc (un, st.counted))
+
+  pub idle_stay : (b : BookDesk J G) → AllStay 1 (part_of b) (part_of b)
+  idle_stay b = λ n inside. stays_self (part_of b n)
 
   pub idle_stands : (b : BookDesk J G) → (b.met ≡ true) ⊎ (b.counted ≡ false) → (l more : List (List ℕ)) → StandsBehind b l → StandsBehind b (l ++ more)
   idle_stands b (inl met) l more st = record { counted = st.counted; there = inl met }
@@ -158,6 +162,12 @@ module _ {J : Type 0} {G : Ghosts J} where
         where
           others : (n : ℕ) → n ≢ 1 → part_of d n ≡ part_of c n
           others n ne = other_same (known_of d.desk) (known_of c.desk) n ne
+
+    pub took_stay : AllStay 1 (part_of b) (part_of c)
+    took_stay = only (λ n. StaysPass (part_of b n) (part_of c n)) (stays (known_of b.desk) (known_of c.desk) (drop b.desk.owed next) answer t.reported)
+
+    pub finish_stay : (d : BookDesk J G) (result : Result (Unit {0}) SubmitFault) → Finishing (part_of c 1) (part_of d 1) result → AllStay 1 (part_of b) (part_of d)
+    finish_stay d result fin = all_finished 1 (part_of b) (part_of c) (part_of d) result took_stay fin (λ n ne. other_same (known_of d.desk) (known_of c.desk) n ne)
 
     pub still_unmet : c.met ≡ false
     still_unmet = t.same.met ∙ unmet

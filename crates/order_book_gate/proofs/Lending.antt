@@ -103,7 +103,7 @@ module _ {J : Type 0} {G : Ghosts J} (lock : TableId) where
 
     pub begun_silent : SendNothing 1 (part_of b) (part_of begun)
     begun_silent = record {
-      same = only (λ n. StaysPass (part_of b n) (part_of begun n)) (stays (known_of b.desk) (known_of k) counted.pass);
+      same = only (λ n. StaysPass (part_of b n) (part_of begun n)) (stays (known_of b.desk) (known_of k) [] (Ok tt) counted);
       mine = only (λ n. (part_of begun n).mine ≡ (part_of b n).mine) (counted.mine ∙ nothing_sent (known_of b.desk).mine (known_of b.desk).number counted.sent counted.rest counted.are);
       ended = only (λ n. (part_of begun n).ended ≡ (part_of b n).ended) counted.pass.ended;
       unlost = only (λ n. (part_of begun n).lost ≡ (part_of b n).lost) (counted.unlost (λ x. cc x));

@@ -3,7 +3,7 @@ ghost use Rattle.std.specs.Prelude.{◌≡◌, ◌≢◌, ℕ, ◌≤◌, true, 
 ghost use Rattle.jr_boxes.specs.declared.faults.SubmitFault.{SubmitFault};
 ghost use Rattle.jr_boxes.specs.declared.faults.SubmitFault.TheVariants as submit;
 ghost use Rattle.gate_senders.specs.Gate.{senders_of};
-ghost use Rattle.gate_business.specs.Business.{lock_of, Answered, ShownByOne, StandsOn};
+ghost use Rattle.gate_business.specs.Business.{lock_of, AllStay, Answered, ShownByOne, StandsOn};
 
 use crate::book_desk::BookDesk;
 use crate::writing::written;
@@ -97,6 +97,7 @@ impl<J: Journal> BookDesk<J> {
         requires few { 1 ≤ senders_of gate.now }
         ensures own { HasPass (lock_of gate.now) self.new }
         ensures same { plan_of self.new ≡ plan_of self.old }
+        ensures stays { AllStay 1 (part_of self.old) (part_of self.new) }
         ensures stands { (l : List (List ℕ)) → StandsBehind self.old l → StandsOn result (StandsBehind self.new (l ++ payloads.now)) }
         ensures answered { (l : List (List ℕ)) → StandsBehind self.old l
             → Answered (λ n. plan_of self.old n (l ++ payloads.now)) 1 (part_of self.old) (part_of self.new) finished result }

@@ -6,15 +6,16 @@ use Rattle.jr_boxes.specs.declared.faults.SubmitFault.{SubmitFault}
 use Rattle.jr_boxes.specs.declared.faults.SubmitFault.TheVariants as submit
 use Rattle.gate_turn.specs.Views.{Part}
 use Rattle.gate_turn.specs.Rule.{In}
-use Rattle.gate_plans.specs.Sent.{entries_behind, GoesOn, IsShown}
+use Rattle.gate_plans.specs.Sent.{entries_behind, IsShown}
 use Rattle.gate_business.specs.Made.{MadeOf, IsAllMade, LosesMessage, SeesMark, MetFull}
 use Rattle.gate_business.specs.Business.{StaysPass, AllMade, Loses, Grew, Whole, ShownByOne, StandsOn, LoseNothing, Answered}
 use Rattle.std.proofs.lemmas.List.{drop_all}
 use Rattle.gate_business.proofs.Making.{made_of, length-entries}
 use Rattle.order_gate.specs.Reported.{RefusedAt, Reported, LosesFinish, Finishing}
 use Rattle.gate_turn.proofs.Failing.{failed_before}
-use Rattle.gate_business.proofs.Resuming.{stays_on}
-use Rattle.order_gate.proofs.Parts.{drop_over, goes_self}
+use Rattle.gate_business.proofs.Resuming.{stays_self, stays_on}
+use Rattle.gate_business.proofs.Seeing.{sees_still}
+use Rattle.order_gate.proofs.Parts.{drop_over}
 
 -- a desk sent what comes next of its plan
 pub record Sends (plan : List (List ℕ)) (n : ℕ) (p m : Part) (answer : Result (Unit {0}) SubmitFault) : Type 0 where
@@ -43,8 +44,26 @@ get_behind xs n k sent more x e is = at_more xs n k (length sent) x (drop_get (d
     at_more (y ∷ xs) (suc n) zero j x h is = absurd (omega (arith, is))
     at_more (y ∷ xs) (suc n) (suc k) j x h is = at_more xs n k j x h (omega (arith, is))
 
-pub stays : (p m : Part) → GoesOn p m → StaysPass p m
-stays p m g = record { seen = g.seen; faults = g.faults; number = g.number; made = g.made; opening = g.opening }
+pub stays : (p m : Part) (next : List (List ℕ)) (result : Result (Unit {0}) SubmitFault) → Reported p m next result → StaysPass p m
+stays p m next result r = record { seen = r.pass.seen; own = r.own; faults = r.pass.faults; number = r.pass.number; made = r.pass.made; opening = r.pass.opening }
+
+finish_stays : (m q : Part) (result : Result (Unit {0}) SubmitFault) → Finishing m q result → StaysPass m q
+finish_stays m q result f = record {
+  seen = f.turn.seen;
+  own = sees_still m q f.turn.seen f.mine;
+  faults = f.turn.faults;
+  number = f.turn.number;
+  made = f.turn.made;
+  opening = f.turn.opening;
+}
+
+-- each is the same pass, once that of number 1 was used for the mark
+pub all_finished : (count : ℕ) (p m q : ℕ → Part) (result : Result (Unit {0}) SubmitFault) → ((n : ℕ) → In count n → StaysPass (p n) (m n)) → Finishing (m 1) (q 1) result → ((n : ℕ) → n ≢ 1 → q n ≡ m n)
+    → (n : ℕ) → In count n → StaysPass (p n) (q n)
+all_finished count p m q result same fin others zero inside = absurd (omega (arith, inside.from_one))
+all_finished count p m q result same fin others (suc zero) inside = stays_on (p 1) (m 1) (q 1) (same 1 inside) (finish_stays (m 1) (q 1) result fin)
+all_finished count p m q result same fin others (suc (suc k)) inside =
+    subst (λ x. StaysPass (p (suc (suc k))) x) (sym (others (suc (suc k)) (λ e. omega (arith, e)))) (same (suc (suc k)) inside)
 
 module _ (plan : List (List ℕ)) (n : ℕ) (p m : Part) (answer : Result (Unit {0}) SubmitFault) (s : Sends plan n p m answer) where
   pub sends_made : MadeOf p.mine n plan m.mine
@@ -90,7 +109,7 @@ is_fault (Err (submit.Full es bs)) = inr (λ e. cc e)
 module _ (plan : ℕ → List (List ℕ)) (count : ℕ) (p m : ℕ → Part) (answer : ℕ → Result (Unit {0}) SubmitFault) (sends : (n : ℕ) → In count n → Sends (plan n) n (p n) (m n) (answer n)) where
   pub all_grew : (finished : Bool) → Grew plan count p m finished
   all_grew finished = record {
-    same = λ n inside. stays (p n) (m n) (sends n inside).reported.pass;
+    same = λ n inside. stays (p n) (m n) (drop (length (p n).mine) (plan n)) (answer n) (sends n inside).reported;
     each = λ n inside. sends_made (plan n) n (p n) (m n) (answer n) (sends n inside);
     ended = λ n inside e. inl (sym (sends n inside).reported.pass.ended ∙ e);
     lost = λ n inside. lost n inside (is_fault (answer n));
@@ -153,10 +172,10 @@ module _ (plan : ℕ → List (List ℕ)) (count : ℕ) (p m q : ℕ → Part) (
       subst (λ x. P (suc (suc k)) x) (sym (others (suc (suc k)) ne)) (rest (suc (suc k)) inside ne)
 
   pass_of : (n : ℕ) → In count n → StaysPass (p n) (m n)
-  pass_of n inside = stays (p n) (m n) (sends n inside).reported.pass
+  pass_of n inside = stays (p n) (m n) (drop (length (p n).mine) (plan n)) (answer n) (sends n inside).reported
 
   finished_same : (n : ℕ) → In count n → StaysPass (p n) (q n)
-  finished_same = by_number (λ n x. StaysPass (p n) x) (stays_on (p 1) (m 1) (q 1) (pass_of 1 one) fin.same) (λ n inside ne. pass_of n inside)
+  finished_same = all_finished count p m q result pass_of fin others
 
   finished_all : AllMade plan count p q
   finished_all =
@@ -254,6 +273,3 @@ answered_idle plan count p finished s = record {
   full = λ es bs e. absurd (cc e);
   unlost = λ n inside. refl;
 }
-  where
-    stays_self : (x : Part) → StaysPass x x
-    stays_self x = stays x x (goes_self x)

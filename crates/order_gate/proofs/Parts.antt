@@ -7,8 +7,9 @@ use Rattle.jr_boxes.specs.declared.faults.SubmitFault.TheVariants as submit
 use Rattle.gate_turn.specs.Views.{Part}
 use Rattle.gate_turn.proofs.Histories.{begins_self, begins_on}
 use Rattle.gate_turn.proofs.Failing.{failed_before}
-use Rattle.gate_senders.specs.Shown.{TakesTurn, Submitted}
+use Rattle.gate_senders.specs.Shown.{TakesTurn, Submitted, entry_after}
 use Rattle.gate_plans.specs.Sent.{entries_behind, GoesOn, IsShown}
+use Rattle.gate_business.proofs.Seeing.{sees_still, sees_last}
 use Rattle.order_gate.specs.Reported.{LosesNext, RefusedAt, Reported}
 
 pub drop_over : {A : Type 0} (n : ℕ) (xs ys : List A) → drop n (xs ++ ys) ≡ drop n xs ++ drop (n - length xs) ys
@@ -51,6 +52,7 @@ long_of p q next result r =
 pub reported_none : (p : Part) → Reported p p [] (Ok tt)
 reported_none p = record {
   pass = goes_self p;
+  own = λ own. own;
   sent = [];
   rest = [];
   are = refl;
@@ -64,6 +66,7 @@ reported_none p = record {
 pub reported_counted : (p q : Part) → TakesTurn p q → q.ended ≡ p.ended → q.mine ≡ p.mine → q.lost ≡ p.lost → Reported p q [] (Ok tt)
 reported_counted p q turn ended mine lost = record {
   pass = goes_turn p q turn ended;
+  own = sees_still p q turn.seen mine;
   sent = [];
   rest = [];
   are = refl;
@@ -77,6 +80,7 @@ reported_counted p q turn ended mine lost = record {
 pub reported_nothing : (p : Part) (next : List (List ℕ)) → Reported p p next (Err submit.Memory)
 reported_nothing p next = record {
   pass = goes_self p;
+  own = λ own. own;
   sent = [];
   rest = next;
   are = refl;
@@ -89,6 +93,7 @@ reported_nothing p next = record {
 pub reported_one : (p q : Part) (payload : List ℕ) (n : ℕ) → TakesTurn p q → q.ended ≡ p.ended → Submitted p q payload n → q.lost ≡ p.lost → Reported p q (payload ∷ []) (Ok tt)
 reported_one p q payload n turn ended did lost = record {
   pass = goes_turn p q turn ended;
+  own = sees_last p q did.before (entry_after p payload) turn.seen did.last did.mine;
   sent = payload ∷ [];
   rest = [];
   are = refl;
@@ -102,6 +107,7 @@ pub reported_refused : (p q : Part) (payload : List ℕ) (f : SubmitFault) → T
     → ((f ≡ submit.Fault → ⊥) → q.lost ≡ p.lost) → Reported p q (payload ∷ []) (Err f)
 reported_refused p q payload f turn ended mine shown lost unlost = record {
   pass = goes_turn p q turn ended;
+  own = sees_still p q turn.seen mine;
   sent = [];
   rest = payload ∷ [];
   are = refl;
@@ -115,6 +121,7 @@ reported_refused p q payload f turn ended mine shown lost unlost = record {
 pub reported_on : (p r q : Part) (xs ys : List (List ℕ)) (result : Result (Unit {0}) SubmitFault) → Reported p r xs (Ok tt) → Reported r q ys result → Reported p q (xs ++ ys) result
 reported_on p r q xs ys result a b = record {
   pass = goes_on p r q a.pass b.pass;
+  own = λ own. b.own (a.own own);
   sent = a.sent ++ b.sent;
   rest = b.rest;
   are = ap (λ zs. zs ++ ys) all ∙ ap (λ zs. a.sent ++ zs) b.are ∙ sym (append_assoc a.sent b.sent b.rest);
@@ -150,6 +157,7 @@ reported_on p r q xs ys result a b = record {
 pub reported_more : (p q : Part) (xs ys : List (List ℕ)) (f : SubmitFault) → Reported p q xs (Err f) → Reported p q (xs ++ ys) (Err f)
 reported_more p q xs ys f a = record {
   pass = a.pass;
+  own = a.own;
   sent = a.sent;
   rest = a.rest ++ ys;
   are = ap (λ zs. zs ++ ys) a.are ∙ append_assoc a.sent a.rest ys;

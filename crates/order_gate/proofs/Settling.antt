@@ -15,8 +15,9 @@ use Rattle.gate_turn.specs.Rule.{In}
 use Rattle.gate_turn.specs.Places.{known}
 use Rattle.gate_business.specs.Made.{SeesMark}
 use Rattle.gate_turn.proofs.Failing.{failed_before}
-use Rattle.gate_business.specs.Business.{ShownByOne, StandsOn, SendNothing, Answered}
+use Rattle.gate_business.specs.Business.{AllStay, ShownByOne, StandsOn, SendNothing, Answered}
 use Rattle.gate_business.specs.Hands.{WorkedEach, HasAgain}
+use Rattle.gate_business.proofs.Resuming.{stays_self}
 use Rattle.order_desk.specs.Schema.{order_plan}
 use Rattle.order_desk.specs.Plans.{desk_plan}
 use Rattle.order_gate.specs.declared.desk.Desk.{Desk}
@@ -26,7 +27,7 @@ use Rattle.order_gate.specs.Reported.{Reported, Finishing}
 use Rattle.order_gate.specs.Desks.{part_if, due, answer_of, known_of, IsSeated, IsManned, IsReadyAt, IsAble, Counted, Worked, StandsAt, StandBehind, HasNone, IsQuiet, HasMet, IsAnswer, IsHandAt, HasHands, HasPasses, SameBut, TookBack, hand_in, part_in}
 use Rattle.order_gate.specs.Standing.{known_there, long_there, at_place, HandOf, hand_of, terms_of, manned_of}
 use Rattle.order_gate.proofs.Parts.{long_of}
-use Rattle.order_gate.proofs.Answering.{Sends, stays, behind_owed, shown_of, answered_ok, answered_refused, answered_idle, answered_finish}
+use Rattle.order_gate.proofs.Answering.{Sends, stays, all_finished, behind_owed, shown_of, answered_ok, answered_refused, answered_idle, answered_finish}
 use Rattle.order_gate.proofs.Turns.{turned, plan_on}
 
 pub seated_still : {J : Type 0} {G : Ghosts J} {D : Type 0} (lock : TableId) (h : Hand J D G) → IsManned lock h.desk → IsSeated lock h.desk
@@ -174,6 +175,9 @@ module _ {J : Type 0} {G : Ghosts J} {D : Type 0} (lock : TableId) (senders : �
             (subst (λ o. Reported (known_of x.it.desk) (part_if o) next (answer_if o)) (sym y.found) w.ran.reported);
       }
 
+  pub stay_at : AllStay b.desks (λ n. part_in b.hands.items n) (λ n. part_in s.hands.items n)
+  stay_at = λ n inside. let r = reports_at n inside in stays (part_in b.hands.items n) (part_in s.hands.items n) r.next (answer_in s.hands.items n) r.reported
+
   pub shown_at : (f : SubmitFault) (n : ℕ) → In b.desks n → answer_in s.hands.items n ≡ Err f → f ≢ submit.Memory → ShownByOne b.desks (part_in b.hands.items) (part_in s.hands.items) f
   shown_at f n inside is ne =
       let r = reports_at n inside in
@@ -261,6 +265,15 @@ module _ {J : Type 0} {G : Ghosts J} {D : Type 0} (lock : TableId) (senders : �
       of (inl w) = passes_still lock senders payloads b s has w.0 same (worked w.0 w.1) s.met (λ e. absurd (cc (sym same.met ∙ e, w.1)))
       of (inr i) = same_hands lock b s same i.1 has
 
+  -- each has the same pass
+  pub all_stay : AllStay b.desks (λ n. part_in b.hands.items n) (λ n. part_in s.hands.items n)
+  all_stay = of again.took_back.which
+    where
+      of : ((b.counted ≡ true) × (b.met ≡ false) × (again.given ≡ b.hands.items) × (s.hands.items ≡ again.back)) ⊎ (((b.counted ≡ false) ⊎ (b.met ≡ true)) × (s.hands.items ≡ b.hands.items))
+          → AllStay b.desks (λ n. part_in b.hands.items n) (λ n. part_in s.hands.items n)
+      of (inl w) = stay_at lock senders payloads b s has w.0 same (worked w.0 w.1)
+      of (inr i) = subst (λ xs. AllStay b.desks (λ n. part_in b.hands.items n) (λ n. part_in xs n)) (sym i.1) (λ n inside. stays_self (part_in b.hands.items n))
+
   -- where the mark was met already, nothing is sent
   pub idle : (s.met ≡ true) ⊎ (s.counted ≡ false) → (l : List (List ℕ)) → StandBehind b l → (plan : ℕ → List (List ℕ)) (finished : Bool) → Answered plan b.desks (λ n. part_in b.hands.items n) (λ n. part_in s.hands.items n) finished (Ok tt)
   idle (inr un) l st plan finished = absurd (cc (sym same.counted ∙ un, st.counted))
@@ -343,6 +356,9 @@ module _ {J : Type 0} {G : Ghosts J} {D : Type 0} (lock : TableId) (senders : �
       pub finish_answered : (l : List (List ℕ)) → StandBehind b l → Answered (λ n. desk_plan b.desks b.version b.reference n (l ++ payloads)) b.desks (λ n. part_in b.hands.items n) (λ n. part_in e.hands.items n) true result
       finish_answered l st =
           answered_finish (λ n. desk_plan b.desks b.version b.reference n (l ++ payloads)) b.desks (part_in b.hands.items) (part_in s.hands.items) (part_in e.hands.items) (answer_in s.hands.items) (sends_of l st) (ok_of none) one result fin others
+
+      pub finish_stay : AllStay b.desks (λ n. part_in b.hands.items n) (λ n. part_in e.hands.items n)
+      finish_stay = all_finished b.desks (part_in b.hands.items) (part_in s.hands.items) (part_in e.hands.items) result all_stay fin others
 
       pub finish_refused : (f : SubmitFault) → result ≡ Err f → ShownByOne b.desks (λ n. part_in b.hands.items n) (λ n. part_in e.hands.items n) f
       finish_refused f is =
@@ -494,7 +510,7 @@ module _ {J : Type 0} {G : Ghosts J} {D : Type 0} (lock : TableId) (d : Desks J 
 
     pub begun_silent : SendNothing d.desks (λ n. part_in d.hands.items n) (λ n. part_in e.hands.items n)
     begun_silent = record {
-      same = λ n inside. stays (part_in d.hands.items n) (part_in e.hands.items n) (counted_in n inside).pass;
+      same = λ n inside. stays (part_in d.hands.items n) (part_in e.hands.items n) [] (Ok tt) (counted_in n inside);
       mine = λ n inside. let r = counted_in n inside in r.mine ∙ nothing_sent (part_in d.hands.items n).mine (part_in d.hands.items n).number r.sent r.rest r.are;
       ended = λ n inside. (counted_in n inside).pass.ended;
       unlost = λ n inside. (counted_in n inside).unlost (λ x. cc x);

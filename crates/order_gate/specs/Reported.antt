@@ -4,9 +4,9 @@ use Rattle.jr_boxes.specs.declared.faults.SubmitFault.{SubmitFault}
 use Rattle.jr_boxes.specs.declared.faults.SubmitFault.TheVariants as submit
 use Rattle.session_model.specs.Journal.{entry, finish}
 use Rattle.gate_turn.specs.Views.{Part, HasFailed}
-use Rattle.gate_senders.specs.Shown.{entry_after}
+use Rattle.gate_senders.specs.Shown.{TakesTurn, entry_after}
 use Rattle.gate_plans.specs.Sent.{entries_behind, GoesOn, IsShown}
-use Rattle.gate_business.specs.Business.{StaysPass}
+use Rattle.gate_business.specs.Made.{SeesOwn}
 
 -- a number of 64 bits with a sign
 pub record IsPrice (price : ℤ) : Type 0 where
@@ -27,9 +27,11 @@ pub record RefusedAt (p q : Part) (rest : List (List ℕ)) (f : SubmitFault) : T
   pub shown : IsShown p q payload f
   pub lost : f ≡ submit.Fault → LosesNext q payload
 
--- the first of these were sent, in order; at Ok all of them, else the one behind was refused. Nothing else was lost
+-- the first of these were sent, in order, and the pass has seen them as it had its own; at Ok all of them, else the one behind was refused. Nothing
+-- else was lost
 pub record Reported (p q : Part) (next : List (List ℕ)) (result : Result (Unit {0}) SubmitFault) : Type 0 where
   pub pass : GoesOn p q
+  pub own : SeesOwn p → SeesOwn q
   pub sent : List (List ℕ)
   pub rest : List (List ℕ)
   pub are : next ≡ sent ++ rest
@@ -46,10 +48,10 @@ pub record LosesFinish (p q : Part) : Type 0 where
   pub broken : q.broken ≡ true
   pub unmarked : q.seen.finished ≢ true
 
--- The mark stands, where it is Ok: it was added, or stood already. Else the disk failed, as the pass shows, or memory ran out. Nothing but the mark
+-- The pass took one turn. The mark stands, where it is Ok: it was added, or stood already. Else the disk failed, as the pass shows, or memory ran out. Nothing but the mark
 -- was lost
 pub record Finishing (p q : Part) (result : Result (Unit {0}) SubmitFault) : Type 0 where
-  pub same : StaysPass p q
+  pub turn : TakesTurn p q
   pub mine : q.mine ≡ p.mine
   pub marked : OnOk result (q.seen.finished ≡ true)
   pub lost : (q.lost ≡ p.lost) ⊎ LosesFinish p q

@@ -2,8 +2,8 @@ use Rattle.std.proofs.Common.{◌≡◌, ◌+◌, ◌≤◌, ◌++◌, false, []
 use Rattle.std.proofs.lemmas.List.{length-map, take_all}
 use Rattle.session_model.specs.Inbox.{Numbered, applied, payloads_of, has_peer_finished}
 use Rattle.session_model.proofs.Lists.{prefix_of_append}
-use Rattle.gate_business.specs.Business.{Answered, Resumed, ShownByOne, StandsOnResume}
-use Rattle.gate_business.proofs.Resuming.{upto_none, same_terms, shown_on, unread_of, refused_of, refused_stands, is_peer_finished, padded, take_on, told_prefix, content_on, content_self, stands_there, upto_more, last_of, last_stands, resuming_of}
+use Rattle.gate_business.specs.Business.{AllStay, Answered, Resumed, ShownByOne, StandsOnResume}
+use Rattle.gate_business.proofs.Resuming.{all_stay, upto_none, same_terms, shown_on, unread_of, refused_of, refused_stands, is_peer_finished, padded, take_on, told_prefix, content_on, content_self, stands_there, upto_more, last_of, last_stands, resuming_of}
 use Rattle.gate_business.proofs.resume.take_place.Goals as goal
 
 pub loop-read-init : goal.loop-read-init
@@ -30,6 +30,9 @@ loop-read-init g c = record {
 
 -- ---- a message was not read
 
+pub returns-in-Err-clause-stays : goal.returns-in-Err-clause-stays
+returns-in-Err-clause-stays g c = c.loop-read.invariant.behind.upto.grew.same
+
 pub returns-in-Err-clause-resumed : goal.returns-in-Err-clause-resumed
 returns-in-Err-clause-resumed g c = λ i tells stands.
     let b = c.args.business.now in
@@ -52,6 +55,15 @@ returns-in-Err-clause-read g c = λ i stands.
     ) ∣₁
 
 -- ---- a message was refused
+
+pub returns-in-Some-clause-stays : goal.returns-in-Some-clause-stays
+returns-in-Some-clause-stays g c =
+    let b = c.args.business.now in
+    let was = c.loop-read.business in
+    let now = c.on_applied-answer.new.self in
+    let at = c.loop-read.invariant in
+    all_stay (g.B.Business.count b) (g.B.Business.part b) (g.B.Business.part was) (g.B.Business.part now) at.behind.upto.grew.same
+    (subst (λ k. AllStay k (g.B.Business.part was) (g.B.Business.part now)) at.count c.on_applied-answer.ensures.stays)
 
 pub returns-in-Some-clause-resumed : goal.returns-in-Some-clause-resumed
 returns-in-Some-clause-resumed g c = λ i tells stands.
@@ -144,6 +156,15 @@ loop-read-preserved g c =
 
 -- ---- the last call
 
+pub returns-in-Ok-on_applied-clause-stays : goal.returns-in-Ok-on_applied-clause-stays
+returns-in-Ok-on_applied-clause-stays g c =
+    let b = c.args.business.now in
+    let was = c.loop-read.business in
+    let now = c.on_applied.new.self in
+    let at = c.loop-read.invariant in
+    all_stay (g.B.Business.count b) (g.B.Business.part b) (g.B.Business.part was) (g.B.Business.part now) at.behind.upto.grew.same
+    (subst (λ k. AllStay k (g.B.Business.part was) (g.B.Business.part now)) at.count c.on_applied.ensures.stays)
+
 pub returns-in-Ok-on_applied-clause-resumed : goal.returns-in-Ok-on_applied-clause-resumed
 returns-in-Ok-on_applied-clause-resumed g c = λ i tells stands.
     let b = c.args.business.now in
@@ -181,6 +202,15 @@ returns-in-Ok-on_applied-clause-read g c = λ i stands.
           (subst (λ f. Answered (λ n. g.B.Business.plan was n (at.done ++ none)) (g.B.Business.count was) (g.B.Business.part was) (g.B.Business.part now) f c.on_applied.result) (at.finished i stands)
           (c.on_applied.ensures.answered at.done at.behind.at)))),
     ) ∣₁
+
+pub returns-clause-stays : goal.returns-clause-stays
+returns-clause-stays g c =
+    let b = c.args.business.now in
+    let was = c.loop-read.business in
+    let now = c.on_applied.new.self in
+    let at = c.loop-read.invariant in
+    all_stay (g.B.Business.count b) (g.B.Business.part b) (g.B.Business.part was) (g.B.Business.part now) at.behind.upto.grew.same
+    (subst (λ k. AllStay k (g.B.Business.part was) (g.B.Business.part now)) at.count c.on_applied.ensures.stays)
 
 pub returns-clause-resumed : goal.returns-clause-resumed
 returns-clause-resumed g c = λ i tells stands.

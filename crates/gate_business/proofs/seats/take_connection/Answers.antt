@@ -24,6 +24,7 @@ returns g c =
     record {
       own = subst (λ p. IsPassAt c.args.gate.now p) same b.own;
       free = subst (λ p. IsFree p) same b.free;
+      part = sym (ap (λ o. known_if o) there);
       number = c.in-Some.pass.numbered ∙ at;
       alone = λ e.
           let one : 1 ≡ n = omega (arith, e) in

@@ -3,9 +3,12 @@ use Rattle.gate_senders.specs.Gate.{senders_of}
 use Rattle.gate_business.specs.Business.{lock_of, Answered}
 use Rattle.order_book_gate.specs.Plan.{book_plan}
 use Rattle.order_book_gate.specs.Desk.{part_of, plan_of, Took}
-use Rattle.order_book_gate.proofs.Calls.{able_of, idle, idle_stands, ok_own, ok_stands, ok_answered, err_own, err_stands, err_answered, err_shown, finish_answered, finish_refused, finish_stands}
+use Rattle.order_book_gate.proofs.Calls.{able_of, idle, idle_stay, idle_stands, took_stay, finish_stay, ok_own, ok_stands, ok_answered, err_own, err_stands, err_answered, err_shown, finish_answered, finish_refused, finish_stands}
 use Rattle.order_book_gate.proofs.book_desk.BookDesk.answer_call.Goals as goal
 use Rattle.order_book_gate.proofs.book_desk.BookDesk.answer_call.Goals.{then-self-via-then-self, then-self-via-else-self+then-not-self}
+
+pub returns-then-self-clause-stays : goal.returns-then-self-clause-stays
+returns-then-self-clause-stays g c = idle_stay c.args.self.now
 
 pub returns-then-self-clause-answered : goal.returns-then-self-clause-answered
 returns-then-self-clause-answered g c = λ l st.
@@ -43,6 +46,13 @@ returns-in-Err-clause-stands g c = λ l st.
     err_stands (lock_of c.args.gate.now) (senders_of c.args.gate.now) c.args.payloads.now c.args.self.now c.answer_each.new.self c.requires.own counted unmet (Err c.in-Err.fault) took c.in-Err.fault
     c.is_closed-self.result c.is_closed-self.ensures.1 (l ++ c.args.payloads.now)
 
+pub returns-in-Err-clause-stays : goal.returns-in-Err-clause-stays
+returns-in-Err-clause-stays g c =
+    let counted : c.args.self.now.counted ≡ true = search (rules, c.if-not-self.false) in
+    let unmet : c.args.self.now.met ≡ false = search (rules, c.if-self.false) in
+    let took = subst (λ l. Took (lock_of c.args.gate.now) (senders_of c.args.gate.now) l c.args.self.now c.answer_each.new.self (Err c.in-Err.fault)) c.as_slice.ensures c.in-Err.ensures.took in
+    took_stay (lock_of c.args.gate.now) (senders_of c.args.gate.now) c.args.payloads.now c.args.self.now c.answer_each.new.self c.requires.own counted unmet (Err c.in-Err.fault) took
+
 pub returns-in-Err-clause-answered : goal.returns-in-Err-clause-answered
 returns-in-Err-clause-answered g c = λ l st.
     let counted : c.args.self.now.counted ≡ true = search (rules, c.if-not-self.false) in
@@ -73,6 +83,13 @@ returns-then-finished-clause-stands g c = λ l st.
     let took = subst (λ l. Took (lock_of c.args.gate.now) (senders_of c.args.gate.now) l c.args.self.now c.answer_each.new.self (Ok tt)) c.as_slice.ensures c.in_default.ensures.took in
     finish_stands (lock_of c.args.gate.now) (senders_of c.args.gate.now) c.args.payloads.now c.args.self.now c.answer_each.new.self c.requires.own counted unmet (Ok tt) took
     c.finish.new.self c.finish.result c.finish.ensures.finished c.finish.ensures.same.1 c.finish.ensures.met (l ++ c.args.payloads.now)
+
+pub returns-then-finished-clause-stays : goal.returns-then-finished-clause-stays
+returns-then-finished-clause-stays g c =
+    let counted : c.args.self.now.counted ≡ true = search (rules, c.if-not-self.false) in
+    let unmet : c.args.self.now.met ≡ false = search (rules, c.if-self.false) in
+    let took = subst (λ l. Took (lock_of c.args.gate.now) (senders_of c.args.gate.now) l c.args.self.now c.answer_each.new.self (Ok tt)) c.as_slice.ensures c.in_default.ensures.took in
+    finish_stay (lock_of c.args.gate.now) (senders_of c.args.gate.now) c.args.payloads.now c.args.self.now c.answer_each.new.self c.requires.own counted unmet (Ok tt) took c.finish.new.self c.finish.result c.finish.ensures.finished
 
 pub returns-then-finished-clause-answered : goal.returns-then-finished-clause-answered
 returns-then-finished-clause-answered g c = λ l st.
@@ -107,6 +124,13 @@ returns-else-finished-clause-stands g c = λ l st.
     let unmet : c.args.self.now.met ≡ false = search (rules, c.if-self.false) in
     let took = subst (λ l. Took (lock_of c.args.gate.now) (senders_of c.args.gate.now) l c.args.self.now c.answer_each.new.self (Ok tt)) c.as_slice.ensures c.in_default.ensures.took in
     ok_stands (lock_of c.args.gate.now) (senders_of c.args.gate.now) c.args.payloads.now c.args.self.now c.answer_each.new.self c.requires.own counted unmet (Ok tt) took l st refl
+
+pub returns-else-finished-clause-stays : goal.returns-else-finished-clause-stays
+returns-else-finished-clause-stays g c =
+    let counted : c.args.self.now.counted ≡ true = search (rules, c.if-not-self.false) in
+    let unmet : c.args.self.now.met ≡ false = search (rules, c.if-self.false) in
+    let took = subst (λ l. Took (lock_of c.args.gate.now) (senders_of c.args.gate.now) l c.args.self.now c.answer_each.new.self (Ok tt)) c.as_slice.ensures c.in_default.ensures.took in
+    took_stay (lock_of c.args.gate.now) (senders_of c.args.gate.now) c.args.payloads.now c.args.self.now c.answer_each.new.self c.requires.own counted unmet (Ok tt) took
 
 pub returns-else-finished-clause-answered : goal.returns-else-finished-clause-answered
 returns-else-finished-clause-answered g c = λ l st.

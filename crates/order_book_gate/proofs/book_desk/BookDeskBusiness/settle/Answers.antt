@@ -1,5 +1,5 @@
 use Rattle.std.proofs.Common.{◌++◌, refl, sym, ap, subst, ◌∙◌}
-use Rattle.gate_business.specs.Business.{lock_of, Answered, ShownByOne}
+use Rattle.gate_business.specs.Business.{lock_of, AllStay, Answered, ShownByOne}
 use Rattle.order_book_gate.specs.Desk.{part_of, plan_of, HasPass, StandsBehind}
 use Rattle.order_book_gate.proofs.book_desk.BookDeskBusiness.settle.Goals as goal
 
@@ -14,6 +14,9 @@ returns-clause-own g c = λ before has few again. (c.answer_call.ensures.own, re
 
 pub returns-clause-stands : goal.returns-clause-stands
 returns-clause-stands g c = λ before has few again l st. c.answer_call.ensures.stands l (subst (λ b. StandsBehind b l) (sym again.took_back) st)
+
+pub returns-clause-stays : goal.returns-clause-stays
+returns-clause-stays g c = λ before has few again. subst (λ b. AllStay 1 (part_of b) (part_of c.answer_call.new.self)) again.took_back c.answer_call.ensures.stays
 
 pub returns-clause-answered : goal.returns-clause-answered
 returns-clause-answered g c = λ before has few again l st.

@@ -3,7 +3,7 @@ use Rattle.gate_business.specs.Business.{lock_of, Answered, ShownByOne}
 use Rattle.gate_senders.specs.Gate.{senders_of}
 use Rattle.order_desk.specs.Plans.{desk_plan}
 use Rattle.order_gate.specs.Desks.{IsAnswer, HasNone, part_in}
-use Rattle.order_gate.proofs.Settling.{plan_same, own_any, idle, ok_answered, ok_stands, err_shown, err_answered, err_own, err_stands, finish_answered, finish_refused, finish_stands}
+use Rattle.order_gate.proofs.Settling.{plan_same, own_any, all_stay, finish_stay, idle, ok_answered, ok_stands, err_shown, err_answered, err_own, err_stands, finish_answered, finish_refused, finish_stands}
 use Rattle.order_gate.proofs.desks.DesksBusiness.settle.Goals as goal
 use Rattle.order_gate.proofs.desks.DesksBusiness.settle.Goals.{then-self-via-then-self, then-self-via-else-self+then-not-self, else-finished-via-then-finished+else-self-gt0, else-finished-via-else-finished}
 
@@ -11,6 +11,9 @@ pub returns-then-self-clause-own : goal.returns-then-self-clause-own
 returns-then-self-clause-own g c = λ before has few again.
     let same = again.took_back.same in
     (own_any (lock_of c.args.gate.now) (senders_of c.args.gate.now) c.args._payloads.now before c.args.self.now has again, same.desks, plan_same before.desks c.args.self.now.desks before.version c.args.self.now.version before.reference c.args.self.now.reference same.desks same.version same.reference)
+
+pub returns-then-self-clause-stays : goal.returns-then-self-clause-stays
+returns-then-self-clause-stays g c = λ before has few again. all_stay (lock_of c.args.gate.now) (senders_of c.args.gate.now) c.args._payloads.now before c.args.self.now has again
 
 pub returns-then-self-clause-answered : goal.returns-then-self-clause-answered
 returns-then-self-clause-answered g c = λ before has few again l st.
@@ -25,6 +28,9 @@ returns-in-Err-clause-own g c = λ before has few again.
     let unmet : c.args.self.now.met ≡ false = search (rules, c.if-self.false) in
     let answer : IsAnswer c.args.self.now.hands.items (Err c.in-Err.fault) = subst (λ xs. IsAnswer xs (Err c.in-Err.fault)) c.as_slice.ensures.value c.in-Err.ensures.answer in
     (err_own (lock_of c.args.gate.now) (senders_of c.args.gate.now) c.args._payloads.now before c.args.self.now has again counted unmet c.in-Err.fault answer c.is_closed-self.result c.is_closed-self.ensures.0, same.desks, plan_same before.desks c.args.self.now.desks before.version c.args.self.now.version before.reference c.args.self.now.reference same.desks same.version same.reference)
+
+pub returns-in-Err-clause-stays : goal.returns-in-Err-clause-stays
+returns-in-Err-clause-stays g c = λ before has few again. all_stay (lock_of c.args.gate.now) (senders_of c.args.gate.now) c.args._payloads.now before c.args.self.now has again
 
 pub returns-in-Err-clause-answered : goal.returns-in-Err-clause-answered
 returns-in-Err-clause-answered g c = λ before has few again l st.
@@ -56,6 +62,14 @@ returns-then-self-gt0-clause-own g c = λ before has few again.
     let e = c.finish.ensures.same in
     (c.finish.ensures.own, e.desks ∙ same.desks, plan_same before.desks c.finish.new.self.desks before.version c.finish.new.self.version before.reference c.finish.new.self.reference (e.desks ∙ same.desks) (e.version ∙ same.version) (e.reference ∙ same.reference))
 
+pub returns-then-self-gt0-clause-stays : goal.returns-then-self-gt0-clause-stays
+returns-then-self-gt0-clause-stays g c = λ before has few again.
+    let counted : c.args.self.now.counted ≡ true = search (rules, c.if-not-self.false) in
+    let unmet : c.args.self.now.met ≡ false = search (rules, c.if-self.false) in
+    let none : All HasNone c.args.self.now.hands.items = subst (λ xs. All HasNone xs) c.as_slice.ensures.value c.in_default.ensures.answer.none in
+    let some : 0 < before.desks = omega (arith, c.if-self-gt0.true, again.took_back.same.desks) in
+    finish_stay (lock_of c.args.gate.now) (senders_of c.args.gate.now) c.args._payloads.now before c.args.self.now has again counted unmet c.finish.new.self c.finish.result none some c.finish.ensures.finished c.finish.ensures.others
+
 pub returns-then-self-gt0-clause-answered : goal.returns-then-self-gt0-clause-answered
 returns-then-self-gt0-clause-answered g c = λ before has few again l st.
     let counted : c.args.self.now.counted ≡ true = search (rules, c.if-not-self.false) in
@@ -85,6 +99,9 @@ pub returns-else-finished-clause-own : goal.returns-else-finished-clause-own
 returns-else-finished-clause-own g c = λ before has few again.
     let same = again.took_back.same in
     (own_any (lock_of c.args.gate.now) (senders_of c.args.gate.now) c.args._payloads.now before c.args.self.now has again, same.desks, plan_same before.desks c.args.self.now.desks before.version c.args.self.now.version before.reference c.args.self.now.reference same.desks same.version same.reference)
+
+pub returns-else-finished-clause-stays : goal.returns-else-finished-clause-stays
+returns-else-finished-clause-stays g c = λ before has few again. all_stay (lock_of c.args.gate.now) (senders_of c.args.gate.now) c.args._payloads.now before c.args.self.now has again
 
 pub returns-else-finished-clause-stands : goal.returns-else-finished-clause-stands
 returns-else-finished-clause-stands g c = λ before has few again l st.
