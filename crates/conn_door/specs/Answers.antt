@@ -23,6 +23,13 @@ finish_fault closing.Closed = None
 finish_fault closing.Memory = Some faults.Memory
 finish_fault closing.Fault = Some faults.Journal
 
+-- the refusals of a sender, and of the Finish
+abbrev pub IsOfSender : ServeFault → Type 0
+IsOfSender faults.Journal = ⊤
+IsOfSender (faults.Full entries bytes) = ⊤
+IsOfSender faults.Memory = ⊤
+IsOfSender _ = ⊥
+
 -- a fault of the connections' side that yields to each refusal of a sender or of the Finish
 abbrev pub yields : ServeFault → Bool
 yields faults.Output = false

@@ -2,7 +2,7 @@
 use Rattle.std.proofs.Common.{◌≡◌, ◌≢◌, ◌⊎◌, inl, inr, ℕ, Bool, true, false, true≢false, List, [], ◌∷◌, ◌++◌, length, is_some, Option, Some, None, Result, Ok, Err, refl, sym, ap, subst, ◌∙◌, append-nil, append_assoc}
 use Rattle.std.specs.Bool.{⊤}
 use Rattle.std.proofs.Math.Logic.{∥∥₁_map}
-use Rattle.std.proofs.lemmas.Option.{none-some}
+use Rattle.std.proofs.lemmas.Option.{none-some, same_Some}
 use mathlib.Core.List.{IsPrefix}
 use Rattle.session_model.specs.Inbox.{InboxRecord, apply, skip, negotiated, peer_finished, applied, has_peer_finished}
 use Rattle.session_model.specs.Plans.{GoesOn}
@@ -16,12 +16,14 @@ use Rattle.jr_boxes.specs.declared.faults.SubmitFault.{SubmitFault}
 use Rattle.jr_boxes.specs.declared.faults.SubmitFault.TheVariants as submit
 use Rattle.jr_kept.specs.declared.inbox.Inbox.{Inbox}
 use Rattle.jr_kept.specs.Inbox.{StandsFor, HoldsBox, SameContent, peer_last_of}
-use Rattle.gate_turn.specs.Views.{Part}
-use Rattle.gate_business.specs.Made.{SeesMark}
-use Rattle.gate_business.specs.Business.{Grew, Whole, LoseNothing, Answered, Resumed, ShownByOne, StandsOn, StandsOnResume}
+use Rattle.gate_turn.specs.Views.{Account, HasFailed, Part}
+use Rattle.gate_turn.specs.Rule.{In}
+use Rattle.gate_turn.proofs.Failing.{failed_after, failed_before}
+use Rattle.gate_business.specs.Made.{SeesMark, SeesFailed}
+use Rattle.gate_business.specs.Business.{AllStay, Grew, Whole, LoseNothing, Answered, Resumed, ShownByOne, StandsOn, StandsOnResume}
 use Rattle.gate_business.specs.declared.business.ResumeFault.{ResumeFault}
 use Rattle.gate_business.specs.declared.business.ResumeFault.TheVariants as resuming
-use Rattle.gate_business.proofs.Resuming.{Upto, joined_call, is_peer_finished}
+use Rattle.gate_business.proofs.Resuming.{Upto, stays_self, all_stay, joined_call, is_peer_finished}
 use Rattle.conn_turns.specs.declared.news.NewsItem.{NewsItem}
 use Rattle.conn_turns.specs.News.{delivered_in}
 use Rattle.conn_turns.specs.Lines.{Line}
@@ -30,8 +32,10 @@ use Rattle.conn_turns.proofs.Delivering.{applied_payloads, frames_deliver_applie
 use Rattle.turn_laws.specs.Turns.{adds_in, tells_in}
 use Rattle.conn_steps.specs.Settling.{Gains}
 use Rattle.conn_door.specs.declared.answer.ServeFault.{ServeFault}
+use Rattle.conn_door.specs.declared.answer.ServeFault.TheVariants as faults
+use Rattle.conn_door.specs.Answers.{submit_fault}
 use Rattle.conn_door.specs.declared.answer.LifeEnd.{LifeEnd}
-use Rattle.conn_serve.specs.Answering.{call_fault, resume_fault, messages_of, BusinessAt, AnsweredTo, Answers, AnswersMore, AnsweringAt, AnsweredLife, AnsweredEach}
+use Rattle.conn_serve.specs.Answering.{call_fault, resume_fault, messages_of, BusinessAt, RefusedFor, StaysBusiness, AnsweredTo, Answers, AnswersMore, AnsweringAt, AnsweredLife, AnsweredEach}
 use Rattle.conn_serve.specs.Moments.{LifeAt}
 use Rattle.conn_serve.specs.Served.{IsRound, IsRoundOf}
 
@@ -60,6 +64,134 @@ turn_delivers old (link_lost now) = refl
 turn_delivers old (cut_short now received frames refused) = refl
 turn_delivers old not_begun = refl
 
+-- ---- why a business was refused
+
+module _ (b c d : BusinessAt) (fault : ServeFault) where
+  -- a failure that a pass knew it knows still
+  failed_later : AllStay b.count c.part d.part → SeesFailed b.count b.part c.part → SeesFailed b.count b.part d.part
+  failed_later later s = record { number = s.number; inside = s.inside; failed = of s.failed }
+    where
+      of : HasFailed (b.part s.number).faults (c.part s.number).faults ⊎ HasFailed (c.part s.number).opening.faults (c.part s.number).faults
+          → HasFailed (b.part s.number).faults (d.part s.number).faults ⊎ HasFailed (d.part s.number).opening.faults (d.part s.number).faults
+      of (inl h) = inl (failed_after (b.part s.number).faults (c.part s.number).faults (d.part s.number).faults h (later s.number s.inside).faults)
+      of (inr h) = inr (failed_after (d.part s.number).opening.faults (c.part s.number).faults (d.part s.number).faults
+          (subst (λ (a : Account). HasFailed a.faults (c.part s.number).faults) (sym (later s.number s.inside).opening) h) (later s.number s.inside).faults)
+
+  failed_earlier : c.count ≡ b.count → AllStay b.count b.part c.part → SeesFailed c.count c.part d.part → SeesFailed b.count b.part d.part
+  failed_earlier count earlier s = record { number = s.number; inside = inside; failed = of s.failed }
+    where
+      inside : In b.count s.number
+      inside = subst (λ k. In k s.number) count s.inside
+
+      of : HasFailed (c.part s.number).faults (d.part s.number).faults ⊎ HasFailed (d.part s.number).opening.faults (d.part s.number).faults
+          → HasFailed (b.part s.number).faults (d.part s.number).faults ⊎ HasFailed (d.part s.number).opening.faults (d.part s.number).faults
+      of (inl h) = inl (failed_before (b.part s.number).faults (c.part s.number).faults (d.part s.number).faults (earlier s.number inside).faults h)
+      of (inr h) = inr h
+
+  pub refused_later : (unread : Type 0) → AllStay b.count c.part d.part → RefusedFor unread b c fault → RefusedFor unread b d fault
+  refused_later unread later r = record { of_sender = r.of_sender; journal = λ e. of (r.journal e) }
+    where
+      of : SeesFailed b.count b.part c.part ⊎ unread → SeesFailed b.count b.part d.part ⊎ unread
+      of (inl s) = inl (failed_later later s)
+      of (inr u) = inr u
+
+  pub refused_earlier : (unread : Type 0) → c.count ≡ b.count → AllStay b.count b.part c.part → RefusedFor ⊥ c d fault → RefusedFor unread b d fault
+  refused_earlier unread count earlier r = record { of_sender = r.of_sender; journal = λ e. of (r.journal e) }
+    where
+      of : SeesFailed c.count c.part d.part ⊎ ⊥ → SeesFailed b.count b.part d.part ⊎ unread
+      of (inl s) = inl (failed_earlier count earlier s)
+      of (inr none) = absurd none
+
+pub refused_any : (b c : BusinessAt) (fault : ServeFault) (some any : Type 0) → (some → any) → RefusedFor some b c fault → RefusedFor any b c fault
+refused_any b c fault some any f r = record { of_sender = r.of_sender; journal = λ e. of (r.journal e) }
+  where
+    of : SeesFailed b.count b.part c.part ⊎ some → SeesFailed b.count b.part c.part ⊎ any
+    of (inl s) = inl s
+    of (inr u) = inr (f u)
+
+refused_memory : (unread : Type 0) (b c : BusinessAt) → RefusedFor unread b c faults.Memory
+refused_memory unread b c = record { of_sender = tt; journal = λ e. absurd (cc e) }
+
+refused_full : (unread : Type 0) (b c : BusinessAt) (entries bytes : ℕ) → RefusedFor unread b c (faults.Full entries bytes)
+refused_full unread b c entries bytes = record { of_sender = tt; journal = λ e. absurd (cc e) }
+
+-- an answer to a business says why
+module _ (unread : Type 0) (b c : BusinessAt) (f : SubmitFault) (shown : f ≢ submit.Memory → ShownByOne b.count b.part c.part f) where
+  pub refused_submit : (fault : ServeFault) → submit_fault f ≡ Some fault → RefusedFor unread b c fault
+  refused_submit fault e = of f refl e
+    where
+      of : (g : SubmitFault) → f ≡ g → submit_fault g ≡ Some fault → RefusedFor unread b c fault
+      of submit.Broken is e =
+          let s = shown (λ m. let x : submit.Broken ≡ submit.Memory = sym is ∙ m in absurd (cc x)) in
+          subst (λ x. RefusedFor unread b c x) (same_Some faults.Journal fault e) (record { of_sender = tt; journal = λ _. inl (record { number = s.number; inside = s.inside; failed = inr (s.broken is) }) })
+      of submit.Fault is e =
+          let s = shown (λ m. let x : submit.Fault ≡ submit.Memory = sym is ∙ m in absurd (cc x)) in
+          subst (λ x. RefusedFor unread b c x) (same_Some faults.Journal fault e) (record { of_sender = tt; journal = λ _. inl (record { number = s.number; inside = s.inside; failed = inl (s.failed is) }) })
+      of submit.Closed is e = absurd (none-some fault e)
+      of (submit.Full entries bytes) is e = subst (λ x. RefusedFor unread b c x) (same_Some (faults.Full entries bytes) fault e) (refused_full unread b c entries bytes)
+      of submit.Memory is e = subst (λ x. RefusedFor unread b c x) (same_Some faults.Memory fault e) (refused_memory unread b c)
+
+pub stays_none : (b : BusinessAt) → StaysBusiness b b
+stays_none b = record { count = refl; passes = λ n inside. stays_self (b.part n); refusal = λ fault e. inl e }
+
+-- one that was refused for want of memory
+pub stays_memory : (b : BusinessAt) → StaysBusiness b (record b { refused = Some faults.Memory })
+stays_memory b = record {
+  count = refl;
+  passes = λ n inside. stays_self (b.part n);
+  refusal = λ fault e. inr (subst (λ x. RefusedFor ⊥ b (record b { refused = Some faults.Memory }) x) (same_Some faults.Memory fault e) (refused_memory ⊥ b (record b { refused = Some faults.Memory })));
+}
+
+-- one that was called
+pub stays_called : (b c : BusinessAt) (result : Result (Unit {0}) SubmitFault) → c.count ≡ b.count → AllStay b.count b.part c.part → c.refused ≡ call_fault result
+    → ((f : SubmitFault) → result ≡ Err f → f ≢ submit.Memory → ShownByOne b.count b.part c.part f) → StaysBusiness b c
+stays_called b c result count passes refused shown = record { count = count; passes = passes; refusal = λ fault e. inr (of result refl fault (sym refused ∙ e)) }
+  where
+    of : (r : Result (Unit {0}) SubmitFault) → result ≡ r → (fault : ServeFault) → call_fault r ≡ Some fault → RefusedFor ⊥ b c fault
+    of (Ok _) is fault e = absurd (none-some fault e)
+    of (Err f) is fault e = refused_submit ⊥ b c f (shown f is) fault e
+
+pub stays_more : (b c d : BusinessAt) → StaysBusiness b c → StaysBusiness c d → StaysBusiness b d
+stays_more b c d x y = record {
+  count = y.count ∙ x.count;
+  passes = all_stay b.count b.part c.part d.part x.passes later;
+  refusal = λ fault e. of fault (y.refusal fault e);
+}
+  where
+    later : AllStay b.count c.part d.part
+    later = subst (λ k. AllStay k c.part d.part) x.count y.passes
+
+    before : (fault : ServeFault) → (b.refused ≡ Some fault) ⊎ RefusedFor ⊥ b c fault → (b.refused ≡ Some fault) ⊎ RefusedFor ⊥ b d fault
+    before fault (inl e) = inl e
+    before fault (inr r) = inr (refused_later b c d fault ⊥ later r)
+
+    of : (fault : ServeFault) → (c.refused ≡ Some fault) ⊎ RefusedFor ⊥ c d fault → (b.refused ≡ Some fault) ⊎ RefusedFor ⊥ b d fault
+    of fault (inl e) = before fault (x.refusal fault e)
+    of fault (inr r) = inr (refused_earlier b c d fault ⊥ x.count x.passes r)
+
+-- that an outbox was full is a business's answer where the life's is
+submit_full : (f : SubmitFault) (entries bytes : ℕ) → submit_fault f ≡ Some (faults.Full entries bytes) → f ≡ submit.Full entries bytes
+submit_full submit.Broken entries bytes e = let x : faults.Journal ≡ faults.Full entries bytes = same_Some _ _ e in absurd (cc x)
+submit_full submit.Fault entries bytes e = let x : faults.Journal ≡ faults.Full entries bytes = same_Some _ _ e in absurd (cc x)
+submit_full submit.Closed entries bytes e = absurd (none-some _ e)
+submit_full (submit.Full n k) entries bytes e =
+    let x : faults.Full n k ≡ faults.Full entries bytes = same_Some _ _ e in
+    let first : n ≡ entries = cc in
+    let second : k ≡ bytes = cc in
+    ap (λ (i : ℕ). submit.Full i k) first ∙ ap (λ (i : ℕ). submit.Full entries i) second
+submit_full submit.Memory entries bytes e = let x : faults.Memory ≡ faults.Full entries bytes = same_Some _ _ e in absurd (cc x)
+
+call_full : (r : Result (Unit {0}) SubmitFault) (entries bytes : ℕ) → call_fault r ≡ Some (faults.Full entries bytes) → r ≡ Err (submit.Full entries bytes)
+call_full (Ok _) entries bytes e = absurd (none-some _ e)
+call_full (Err f) entries bytes e = ap Err (submit_full f entries bytes e)
+
+resume_full : (f : ResumeFault) (entries bytes : ℕ) → resume_fault f ≡ Some (faults.Full entries bytes) → f ≡ resuming.Submit (submit.Full entries bytes)
+resume_full (resuming.Fetch fetch.Broken) entries bytes e = let x : faults.Journal ≡ faults.Full entries bytes = same_Some _ _ e in absurd (cc x)
+resume_full (resuming.Fetch fetch.Memory) entries bytes e = let x : faults.Memory ≡ faults.Full entries bytes = same_Some _ _ e in absurd (cc x)
+resume_full (resuming.Fetch fetch.Fault) entries bytes e = let x : faults.Journal ≡ faults.Full entries bytes = same_Some _ _ e in absurd (cc x)
+resume_full (resuming.Fetch (fetch.Changed at)) entries bytes e = let x : faults.Journal ≡ faults.Full entries bytes = same_Some _ _ e in absurd (cc x)
+resume_full (resuming.Submit f) entries bytes e = ap resuming.Submit (submit_full f entries bytes e)
+
 -- ---- where nothing more is answered
 
 module _ (p : ℕ → Part) (opening : List InboxRecord) (before : List (List ℕ)) where
@@ -76,14 +208,19 @@ module _ (p : ℕ → Part) (opening : List InboxRecord) (before : List (List �
       all finished (inl f) = f
       all finished (inr k) = subst (λ l. has_peer_finished (opening ++ l) ≡ true) (sym k.0) finished
 
-  -- one that met a refusal at hand
-  pub answers_refused : (each : Type 0) (b : BusinessAt) (fault : ServeFault) (adds more : List InboxRecord) → Answers ⊤ b p opening before adds
-      → Answers each (record b { refused = Some fault }) p opening before (adds ++ more)
-  answers_refused each b fault adds more a = record {
+  -- one that was refused for want of memory
+  pub answers_refused : (each : Type 0) (b : BusinessAt) (adds more : List InboxRecord) → Answers ⊤ b p opening before adds
+      → Answers each (record b { refused = Some faults.Memory }) p opening before (adds ++ more)
+  answers_refused each b adds more a = record {
     answered = a.answered;
     reached = prefix_trans a.answered adds (adds ++ more) a.reached (prefix_of_append adds more);
-    to = record { grew = a.to.grew; whole = λ none. absurd (none-some fault (sym none)); unlost = λ none. absurd (none-some fault (sym none)) };
-    all = λ e none. absurd (none-some fault (sym none));
+    to = record {
+      grew = a.to.grew;
+      whole = λ none. absurd (none-some faults.Memory (sym none));
+      unlost = λ none. absurd (none-some faults.Memory (sym none));
+      full = λ entries bytes e. let x : faults.Memory ≡ faults.Full entries bytes = same_Some _ _ e in absurd (cc x);
+    };
+    all = λ e none. absurd (none-some faults.Memory (sym none));
   }
 
   pub answers_weaker : (each other : Type 0) (b : BusinessAt) (adds : List InboxRecord) → (other → each) → Answers each b p opening before adds → Answers other b p opening before adds
@@ -148,7 +285,7 @@ module _ (p : ℕ → Part) (opening : List InboxRecord) (before : List (List �
           let u : Upto (λ n. b.plan n done) b.count p b.part = record { grew = s.1.grew; unlost = s.1.unlost none } in
           let x = joined_call b.plan goes b.count p b.part done u now.part payloads finished result (answered done s.0) in
           let y = to_of result refl (done ++ payloads) x in
-          let to : AnsweredTo (record now { plan = b.plan; count = b.count }) p (done ++ payloads) finished = record { grew = y.0; whole = λ n. (y.1 (sym refused ∙ n)).0; unlost = λ n. (y.1 (sym refused ∙ n)).1 } in
+          let to : AnsweredTo (record now { plan = b.plan; count = b.count }) p (done ++ payloads) finished = record { grew = y.0; whole = λ n. (y.1 (sym refused ∙ n)).0; unlost = λ n. (y.1 (sym refused ∙ n)).1; full = λ entries bytes e. x.full entries bytes (call_full result entries bytes (sym refused ∙ e)) } in
           let there : AnsweredTo now p (done ++ payloads) finished =
           subst (λ k. AnsweredTo (record now { count = k }) p (done ++ payloads) finished) (sym count) (subst (λ h. AnsweredTo (record now { plan = h; count = b.count }) p (done ++ payloads) finished) (sym plan) to) in
           record {
@@ -167,7 +304,7 @@ unread fetch.Fault e = none-some _ e
 unread (fetch.Changed at) e = none-some _ e
 
 module _ (now : BusinessAt) (b_plan : ℕ → List (List ℕ) → List (List ℕ)) (b_count : ℕ) (p : ℕ → Part) (result : Result (Unit {0}) ResumeFault) (i : List InboxRecord) (l : List (List ℕ))
-    (count : now.count ≡ b_count) (plan : now.plan ≡ b_plan) (refused : (f : ResumeFault) → result ≡ Err f → now.refused ≡ resume_fault f)
+    (count : now.count ≡ b_count) (plan : now.plan ≡ b_plan) (quiet : (d : Unit {0}) → result ≡ Ok d → now.refused ≡ None) (refused : (f : ResumeFault) → result ≡ Err f → now.refused ≡ resume_fault f)
     (stands : StandsOnResume result (now.stands l)) (resumed : Resumed (λ n. b_plan n l) b_count p now.part (has_peer_finished i) result)
     (shown : (f : SubmitFault) → result ≡ Err (resuming.Submit f) → f ≢ submit.Memory → ShownByOne b_count p now.part f) where
   resumed_to : (r : Result (Unit {0}) ResumeFault) → result ≡ r → Resumed (λ n. b_plan n l) b_count p now.part (has_peer_finished i) r → StandsOnResume r (now.stands l)
@@ -183,10 +320,14 @@ module _ (now : BusinessAt) (b_plan : ℕ → List (List ℕ) → List (List ℕ
   resumed_to (Err (resuming.Submit submit.Fault)) e x s = (x.grew, λ n. absurd (none-some _ (sym n ∙ refused _ e)))
   resumed_to (Err (resuming.Fetch f)) e x s = (x.grew, λ n. absurd (unread f (sym n ∙ refused (resuming.Fetch f) e)))
 
+  full_of : (r : Result (Unit {0}) ResumeFault) → result ≡ r → (entries bytes : ℕ) → now.refused ≡ Some (faults.Full entries bytes) → result ≡ Err (resuming.Submit (submit.Full entries bytes))
+  full_of (Ok d) is entries bytes e = absurd (none-some _ (sym (quiet d is) ∙ e))
+  full_of (Err f) is entries bytes e = is ∙ ap Err (resume_full f entries bytes (sym (refused f is) ∙ e))
+
   pub answers_resumed : Answers ⊤ now p i l []
   answers_resumed =
       let x = resumed_to result refl resumed stands in
-      let to : AnsweredTo (record now { plan = b_plan; count = b_count }) p l (has_peer_finished i) = record { grew = x.0; whole = λ n. (x.1 n).0; unlost = λ n. (x.1 n).1 } in
+      let to : AnsweredTo (record now { plan = b_plan; count = b_count }) p l (has_peer_finished i) = record { grew = x.0; whole = λ n. (x.1 n).0; unlost = λ n. (x.1 n).1; full = λ entries bytes e. resumed.full entries bytes (full_of result refl entries bytes e) } in
       let there : AnsweredTo now p l (has_peer_finished i) =
       subst (λ k. AnsweredTo (record now { count = k }) p l (has_peer_finished i)) (sym count) (subst (λ h. AnsweredTo (record now { plan = h; count = b_count }) p l (has_peer_finished i)) (sym plan) to) in
       record {
@@ -195,6 +336,16 @@ module _ (now : BusinessAt) (b_plan : ℕ → List (List ℕ) → List (List ℕ
         to = subst (λ m. AnsweredTo now p m (has_peer_finished (i ++ []))) (sym (append-nil l)) (subst (λ j. AnsweredTo now p l (has_peer_finished j)) (sym (append-nil i)) there);
         all = λ e n. inr (refl, subst now.stands (sym (append-nil l)) (x.1 n).2);
       }
+
+-- why it did not take its place
+module _ (unread : Type 0) (b now : BusinessAt) (result : Result (Unit {0}) ResumeFault) (shown : (f : SubmitFault) → result ≡ Err (resuming.Submit f) → f ≢ submit.Memory → ShownByOne b.count b.part now.part f)
+    (sound : result ≢ Err (resuming.Fetch fetch.Broken)) (failed : result ≡ Err (resuming.Fetch fetch.Fault) → unread) (changed : (at : ℕ) → result ≡ Err (resuming.Fetch (fetch.Changed at)) → unread) where
+  pub refused_resumed : (f : ResumeFault) → result ≡ Err f → (fault : ServeFault) → resume_fault f ≡ Some fault → RefusedFor unread b now fault
+  refused_resumed (resuming.Fetch fetch.Broken) is fault e = absurd (sound is)
+  refused_resumed (resuming.Fetch fetch.Memory) is fault e = subst (λ x. RefusedFor unread b now x) (same_Some faults.Memory fault e) (refused_memory unread b now)
+  refused_resumed (resuming.Fetch fetch.Fault) is fault e = subst (λ x. RefusedFor unread b now x) (same_Some faults.Journal fault e) (record { of_sender = tt; journal = λ _. inr (failed is) })
+  refused_resumed (resuming.Fetch (fetch.Changed at)) is fault e = subst (λ x. RefusedFor unread b now x) (same_Some faults.Journal fault e) (record { of_sender = tt; journal = λ _. inr (changed at is) })
+  refused_resumed (resuming.Submit f) is fault e = refused_submit unread b now f (shown f is) fault e
 
 -- ---- with the records that an inbox holds
 
@@ -208,33 +359,42 @@ module _ {J : Type 0} {G : Ghosts J} where
 
   module _ (b c : BusinessAt) (box : Inbox J G) where
     pub more_none : AnswersMore ⊤ b b box []
-    more_none p opening before adds h a = subst (λ l. Answers ⊤ b p opening before l) (sym (append-nil adds)) a
+    more_none = record { stays = stays_none b; answers = λ p opening before adds h a. subst (λ l. Answers ⊤ b p opening before l) (sym (append-nil adds)) a }
 
     pub more_weaker : (each other : Type 0) (more : List InboxRecord) → (other → each) → AnswersMore each b c box more → AnswersMore other b c box more
-    more_weaker each other more f m p opening before adds h a = answers_weaker p opening before each other c (adds ++ more) f (m p opening before adds h a)
+    more_weaker each other more f m = record { stays = m.stays; answers = λ p opening before adds h a. answers_weaker p opening before each other c (adds ++ more) f (m.answers p opening before adds h a) }
 
     -- what a turn added that was not answered
     pub more_short : (each : Type 0) (xs ys : List InboxRecord) → (each → ⊥) → AnswersMore ⊤ b c box xs → AnswersMore each b c box (xs ++ ys)
-    more_short each xs ys not m p opening before adds h a =
-        subst (λ l. Answers each c p opening before l) (append_assoc adds xs ys) (answers_still p opening before each c (adds ++ xs) ys (λ e none. absurd (not e)) (m p opening before adds h a))
+    more_short each xs ys not m = record {
+      stays = m.stays;
+      answers = λ p opening before adds h a.
+          subst (λ l. Answers each c p opening before l) (append_assoc adds xs ys) (answers_still p opening before each c (adds ++ xs) ys (λ e none. absurd (not e)) (m.answers p opening before adds h a));
+    }
 
     -- connections, and more of them
     pub more_on : (each : Type 0) (d : BusinessAt) (mid : Inbox J G) (xs ys : List InboxRecord) → Gains box mid xs → AnswersMore ⊤ b c box xs → AnswersMore each c d mid ys → AnswersMore each b d box (xs ++ ys)
-    more_on each d mid xs ys gains m n p opening before adds h a =
-        subst (λ l. Answers each d p opening before l) (append_assoc adds xs ys)
-        (n p opening before (adds ++ xs) (subst (λ l. HoldsBox mid l []) (append_assoc opening adds xs) (gains.holds (opening ++ adds) h)) (m p opening before adds h a))
+    more_on each d mid xs ys gains m n = record {
+      stays = stays_more b c d m.stays n.stays;
+      answers = λ p opening before adds h a.
+          subst (λ l. Answers each d p opening before l) (append_assoc adds xs ys)
+          (n.answers p opening before (adds ++ xs) (subst (λ l. HoldsBox mid l []) (append_assoc opening adds xs) (gains.holds (opening ++ adds) h)) (m.answers p opening before adds h a));
+    }
 
     -- turns, and one more
     pub more_turn : (d : BusinessAt) (mid new : Inbox J G) (told finished : Bool) (news : List NewsItem) (xs ys : List InboxRecord) → Gains box mid xs → Gains mid new ys
         → told ≡ is_some (peer_last_of mid) → finished ≡ is_some (peer_last_of new) → delivered_in news ≡ messages_of ys
         → ((p : ℕ → Part) (opening : List InboxRecord) (before : List (List ℕ)) (adds more : List InboxRecord) → told ≡ has_peer_finished (opening ++ adds) → finished ≡ has_peer_finished (opening ++ (adds ++ more)) → delivered_in news ≡ messages_of more
         → Answers ⊤ c p opening before adds → Answers ⊤ d p opening before (adds ++ more))
-        → AnswersMore ⊤ b c box xs → AnswersMore ⊤ b d box (xs ++ ys)
-    more_turn d mid new told finished news xs ys gains later was is delivered call m p opening before adds h a =
-        let h' : HoldsBox mid (opening ++ (adds ++ xs)) [] = subst (λ l. HoldsBox mid l []) (append_assoc opening adds xs) (gains.holds (opening ++ adds) h) in
-        let h'' : HoldsBox new (opening ++ ((adds ++ xs) ++ ys)) [] = subst (λ l. HoldsBox new l []) (append_assoc opening (adds ++ xs) ys) (later.holds (opening ++ (adds ++ xs)) h') in
-        subst (λ l. Answers ⊤ d p opening before l) (append_assoc adds xs ys)
-        (call p opening before (adds ++ xs) ys (was ∙ finished_in mid (opening ++ (adds ++ xs)) h') (is ∙ finished_in new (opening ++ ((adds ++ xs) ++ ys)) h'') delivered (m p opening before adds h a))
+        → StaysBusiness c d → AnswersMore ⊤ b c box xs → AnswersMore ⊤ b d box (xs ++ ys)
+    more_turn d mid new told finished news xs ys gains later was is delivered call stays m = record {
+      stays = stays_more b c d m.stays stays;
+      answers = λ p opening before adds h a.
+          let h' : HoldsBox mid (opening ++ (adds ++ xs)) [] = subst (λ l. HoldsBox mid l []) (append_assoc opening adds xs) (gains.holds (opening ++ adds) h) in
+          let h'' : HoldsBox new (opening ++ ((adds ++ xs) ++ ys)) [] = subst (λ l. HoldsBox new l []) (append_assoc opening (adds ++ xs) ys) (later.holds (opening ++ (adds ++ xs)) h') in
+          subst (λ l. Answers ⊤ d p opening before l) (append_assoc adds xs ys)
+          (call p opening before (adds ++ xs) ys (was ∙ finished_in mid (opening ++ (adds ++ xs)) h') (is ∙ finished_in new (opening ++ ((adds ++ xs) ++ ys)) h'') delivered (m.answers p opening before adds h a));
+    }
 
   -- ---- a life
 
@@ -248,7 +408,7 @@ module _ {J : Type 0} {G : Ghosts J} where
       (read : (i : List InboxRecord) → StandsFor old.box i → ∥ ((l : List (List ℕ)) × (length l ≡ length (applied i)) × Answers ⊤ mid.business old.business.part i l []) ∥₁)
       (more : AnswersMore each mid.business new.business mid.box adds) where
     behind : (i : List InboxRecord) (l : List (List ℕ)) → HoldsBox old.box i [] → Answers ⊤ mid.business old.business.part i l [] → Answers each new.business old.business.part i l adds
-    behind i l h a = more old.business.part i l [] (subst (λ j. HoldsBox mid.box j []) (sym (append-nil i)) ((content.holds i []).0 h)) a
+    behind i l h a = more.answers old.business.part i l [] (subst (λ j. HoldsBox mid.box j []) (sym (append-nil i)) ((content.holds i []).0 h)) a
 
     pub life_more : AnsweredLife each old new adds
     life_more = record {

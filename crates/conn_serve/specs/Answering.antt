@@ -2,6 +2,7 @@
 -- project's profile).
 use Rattle.std.specs.Prelude.{⊤, ◌≡◌, ◌⊎◌, ℕ, Bool, true, List, [], ◌++◌, length, Option, Some, None, Result, Ok, Err, IfErr}
 use mathlib.Core.List.{IsPrefix}
+use Rattle.gw_outside.specs.Faults.{HasRisen}
 use Rattle.session_model.specs.Inbox.{InboxRecord, applied, payloads_of, has_peer_finished}
 use Rattle.fixp_machine.specs.Machine.{State}
 use Rattle.gw_links.specs.Dialers.{DialerTold}
@@ -10,15 +11,16 @@ use Rattle.jr_boxes.specs.declared.faults.SubmitFault.{SubmitFault}
 use Rattle.jr_dated.specs.declared.journal.Journal.{Ghosts}
 use Rattle.jr_dated.specs.declared.faults.FetchFault.TheVariants as fetch
 use Rattle.jr_kept.specs.declared.inbox.Inbox.{Inbox}
-use Rattle.jr_kept.specs.Inbox.{HoldsBox}
+use Rattle.jr_kept.specs.Inbox.{HoldsBox, faults_of}
 use Rattle.gate_turn.specs.Views.{Part}
 use Rattle.gate_business.specs.declared.business.ResumeFault.{ResumeFault}
 use Rattle.gate_business.specs.declared.business.ResumeFault.TheVariants as resuming
-use Rattle.gate_business.specs.Business.{Grew, Whole, LoseNothing}
+use Rattle.gate_business.specs.Made.{SeesFailed, MetFull}
+use Rattle.gate_business.specs.Business.{AllStay, Grew, Whole, LoseNothing}
 use Rattle.conn_door.specs.declared.answer.ServeFault.{ServeFault}
 use Rattle.conn_door.specs.declared.answer.ServeFault.TheVariants as faults
 use Rattle.conn_door.specs.declared.answer.LifeEnd.{LifeEnd}
-use Rattle.conn_door.specs.Answers.{submit_fault, answer_of}
+use Rattle.conn_door.specs.Answers.{submit_fault, answer_of, IsOfSender}
 use Rattle.conn_serve.specs.declared.answering.Answering.{Answering}
 use Rattle.conn_serve.specs.Answers.{IsOfTurn}
 use Rattle.conn_serve.specs.Causes.{IsBlamed}
@@ -69,12 +71,26 @@ business_at stands plan count part a = record {
   refused = a.refused;
 }
 
+-- Why a business was refused so, which is `old` before and `new` behind that: a sender may be refused so; and where a journal is to blame, a pass
+-- knows that a call of the outbox's disk failed, or the inbox was not read
+pub record RefusedFor (unread : Type 0) (old new : BusinessAt) (fault : ServeFault) : Type 0 where
+  pub of_sender : IsOfSender fault
+  pub journal : fault ≡ faults.Journal → SeesFailed old.count old.part new.part ⊎ unread
+
+-- it is the same business: each of its passes is the same; and where it was refused since, an answer to it is the reason
+pub record StaysBusiness (old new : BusinessAt) : Type 0 where
+  pub count : new.count ≡ old.count
+  pub passes : AllStay old.count old.part new.part
+  pub refusal : (fault : ServeFault) → new.refused ≡ Some fault → (old.refused ≡ Some fault) ⊎ RefusedFor ⊥ old new fault
+
 -- What it made over these messages, from what its passes knew at first, p: each pass made messages of its plan, from there on, as far as it got;
--- and unless a refusal was met each made all of its plan, or one of them has seen that the mark stands already
+-- and unless a refusal was met each made all of its plan, or one of them has seen that the mark stands already. Where it was refused since an outbox
+-- was full, that was so for the next message of a plan
 pub record AnsweredTo (now : BusinessAt) (p : ℕ → Part) (messages : List (List ℕ)) (finished : Bool) : Type 0 where
   pub grew : Grew (λ n. now.plan n messages) now.count p now.part finished
   pub whole : now.refused ≡ None → Whole (λ n. now.plan n messages) now.count p now.part finished
   pub unlost : now.refused ≡ None → LoseNothing now.count p now.part
+  pub full : (entries bytes : ℕ) → now.refused ≡ Some (faults.Full entries bytes) → MetFull (λ n. now.plan n messages) now.count now.part entries bytes
 
 -- Behind the messages of these opening records it answered those that the records `adds` apply: all, or a beginning. Where each turn was
 -- answered, and no refusal was met, it answered all of them and stands behind them, or those up to the peer's finish at least
@@ -119,10 +135,17 @@ module _ {J : Type 0} {G : Ghosts J} where
   abbrev pub faults_around : AnsweringAt J G → FaultsAt J G
   faults_around a = faults_at a.out_faults a.dialer_faults a.pass a.box
 
-  -- whatever a business had answered of the records that this inbox held, it answered these more
-  abbrev pub AnswersMore : (each : Type 0) (old new : BusinessAt) → Inbox J G → List InboxRecord → Type 0
-  AnswersMore each old new box more = (p : ℕ → Part) (opening : List InboxRecord) (before : List (List ℕ)) (adds : List InboxRecord)
-      → HoldsBox box (opening ++ adds) [] → Answers ⊤ old p opening before adds → Answers each new p opening before (adds ++ more)
+  -- whatever a business had answered of the records that this inbox held, it answered these more, and is the same business
+  pub record AnswersMore (each : Type 0) (old new : BusinessAt) (box : Inbox J G) (more : List InboxRecord) : Type 0 where
+    pub stays : StaysBusiness old new
+    pub answers : (p : ℕ → Part) (opening : List InboxRecord) (before : List (List ℕ)) (adds : List InboxRecord)
+        → HoldsBox box (opening ++ adds) [] → Answers ⊤ old p opening before adds → Answers each new p opening before (adds ++ more)
+
+  -- a message of the inbox was not read, and so no connection served: a call of its disk failed, or it has changed, which on a disk that tells its
+  -- content none has
+  pub record Unread (box box' : Inbox J G) (adds : List InboxRecord) : Type 0 where
+    pub first : adds ≡ []
+    pub why : HasRisen (faults_of box) (faults_of box') ⊎ (G.tells → ⊥)
 
   -- It answered, from its place behind the messages of the inbox: those that the inbox applied, where its disk tells its content; on any other
   -- disk as many messages as a read gave
@@ -131,13 +154,17 @@ module _ {J : Type 0} {G : Ghosts J} where
     pub read : (i : List InboxRecord) → HoldsBox old.box i []
         → ∥ ((l : List (List ℕ)) × (length l ≡ length (applied i)) × Answers each new.business old.business.part i l adds) ∥₁
 
-  -- The connections were served so, with a business that answered what they applied, and it answers what comes first of both. Where there was no
-  -- memory to begin, the business is as it was
+  -- The connections were served so, with a business that answered what they applied, and it answers what comes first of both. What each pass of the
+  -- business has seen begins with what it had seen; and where the business was refused, this is why. Where there was no memory to begin, the business
+  -- is as it was
   pub record AnsweredSo {L : Type 0} (tells : Type 0) (links : LinkGhosts L) (before behind : ℕ) (old new : AnsweringAt J G) (m : State)
       (result : Result (Unit {0}) ServeFault) : Type 0 where
     pub connections : Result LifeEnd ServeFault
     pub life : ServedOver tells links before behind (life_around old) (life_around new) m connections
     pub blamed : IfErr connections (IsBlamed tells (faults_around old) (faults_around new))
     pub answer : result ≡ answer_of connections new.business.refused
+    pub shown : AllStay old.business.count old.business.part new.business.part
+    pub refusal : (fault : ServeFault) → new.business.refused ≡ Some fault
+        → RefusedFor (Unread old.box new.box (adds_of (all_of life.life.ended life.life.given_up))) old.business new.business fault
     pub business : AnsweredLife (AnsweredEach connections) old new (adds_of (all_of life.life.ended life.life.given_up))
         ⊎ ((new.business.part ≡ old.business.part) × (connections ≡ Err faults.Memory))

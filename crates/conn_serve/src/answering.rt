@@ -1,14 +1,15 @@
 //! A business beside the connections of a life: it answers what each turn applied, once the lines of its news are told.
 
-ghost use Rattle.std.specs.Prelude.{⊤, ◌≡◌, ℕ, ◌≤◌, false, List, [], ◌++◌, None, length};
+ghost use Rattle.std.specs.Prelude.{⊤, ◌≡◌, ℕ, ◌≤◌, false, List, [], ◌++◌, Some, None, length};
 ghost use Rattle.session_model.specs.Inbox.{InboxRecord, applied, has_peer_finished};
 ghost use Rattle.session_model.specs.Plans.{GoesOn};
 ghost use Rattle.jr_kept.specs.Inbox.{StandsFor, SameContent, faults_of, is_broken, limits_of, flow_of};
 ghost use Rattle.gate_turn.specs.Views.{Part};
 ghost use Rattle.gate_senders.specs.Gate.{senders_of};
-ghost use Rattle.gate_business.specs.Business.{lock_of};
+ghost use Rattle.gate_business.specs.Business.{lock_of, AllStay};
+ghost use Rattle.conn_door.specs.declared.answer.ServeFault.{ServeFault};
 ghost use Rattle.conn_turns.specs.News.{items_of, delivered_in};
-ghost use Rattle.conn_serve.specs.Answering.{business_of, refused_in, call_fault, resume_fault, messages_of, business_at, Answers};
+ghost use Rattle.conn_serve.specs.Answering.{business_of, refused_in, call_fault, resume_fault, messages_of, business_at, Answers, RefusedFor, StaysBusiness, Unread};
 
 use conn_door::{ServeFault, refused_submit};
 use conn_turns::News;
@@ -84,6 +85,9 @@ pub(crate) fn resume_business<
     requires sound { is_broken inbox.old ≡ false }
     ensures own { B.has (business_of answering.new) (lock_of gate.now) }
     ensures same { (B.count (business_of answering.new) ≡ B.count (business_of answering.old)) × (B.plan (business_of answering.new) ≡ B.plan (business_of answering.old)) }
+    ensures stays { AllStay (B.count (business_of answering.old)) (B.part (business_of answering.old)) (B.part (business_of answering.new)) }
+    ensures refusal { (fault : ServeFault) → refused_in answering.new ≡ Some fault
+        → RefusedFor (Unread inbox.old inbox.new []) (business_at B.stands B.plan B.count B.part answering.old) (business_at B.stands B.plan B.count B.part answering.new) fault }
     ensures told { (i : List InboxRecord) → I.tells → StandsFor inbox.old i
         → Answers ⊤ (business_at B.stands B.plan B.count B.part answering.new) (B.part (business_of answering.old)) i (messages_of i) [] }
     ensures read { (i : List InboxRecord) → StandsFor inbox.old i → ∥ ((l : List (List ℕ)) × (length l ≡ length (applied i))
@@ -125,6 +129,7 @@ pub(crate) fn answer_turn<O: Journal + Send, B: Business<O> + Send, R: Threads +
     requires turn { length (items_of news.old) ≤ 272 }
     ensures own { B.has (business_of answering.new) (lock_of gate.now) }
     ensures same { (B.count (business_of answering.new) ≡ B.count (business_of answering.old)) × (B.plan (business_of answering.new) ≡ B.plan (business_of answering.old)) }
+    ensures stays { StaysBusiness (business_at B.stands B.plan B.count B.part answering.old) (business_at B.stands B.plan B.count B.part answering.new) }
     ensures answered { (p : ℕ → Part) (opening : List InboxRecord) (before : List (List ℕ)) (adds more : List InboxRecord)
         → told ≡ has_peer_finished (opening ++ adds) → finished ≡ has_peer_finished (opening ++ (adds ++ more)) → delivered_in (items_of news.old) ≡ messages_of more
         → Answers ⊤ (business_at B.stands B.plan B.count B.part answering.old) p opening before adds

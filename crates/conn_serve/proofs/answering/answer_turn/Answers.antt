@@ -3,16 +3,25 @@ use Rattle.std.specs.Bool.{⊤}
 use Rattle.conn_turns.specs.News.{items_of}
 use Rattle.conn_turns.proofs.Delivering.{delivered_few}
 use Rattle.conn_serve.specs.Answering.{business_at}
-use Rattle.conn_serve.proofs.Upto.{answers_still, answers_refused, answers_nothing, answers_called}
+use Rattle.conn_serve.proofs.Upto.{stays_none, stays_memory, stays_called, answers_still, answers_refused, answers_nothing, answers_called}
 use Rattle.conn_serve.proofs.answering.answer_turn.Goals as goal
+
+pub returns-then-told-clause-stays : goal.returns-then-told-clause-stays
+returns-then-told-clause-stays g c = stays_none (business_at g.B.Business.stands g.B.Business.plan g.B.Business.count g.B.Business.part c.args.answering.now)
 
 pub returns-then-told-clause-answered : goal.returns-then-told-clause-answered
 returns-then-told-clause-answered g c = λ p opening before adds more told is delivered a.
     answers_still p opening before ⊤ (business_at g.B.Business.stands g.B.Business.plan g.B.Business.count g.B.Business.part c.args.answering.now) adds more (λ e none. sym told ∙ c.if-told.true) a
 
+pub returns-in_default-clause-stays : goal.returns-in_default-clause-stays
+returns-in_default-clause-stays g c = stays_memory (business_at g.B.Business.stands g.B.Business.plan g.B.Business.count g.B.Business.part c.args.answering.now)
+
 pub returns-in_default-clause-answered : goal.returns-in_default-clause-answered
 returns-in_default-clause-answered g c = λ p opening before adds more told is delivered a.
-    answers_refused p opening before ⊤ (business_at g.B.Business.stands g.B.Business.plan g.B.Business.count g.B.Business.part c.args.answering.now) _ adds more a
+    answers_refused p opening before ⊤ (business_at g.B.Business.stands g.B.Business.plan g.B.Business.count g.B.Business.part c.args.answering.now) adds more a
+
+pub returns-then-not-finished-clause-stays : goal.returns-then-not-finished-clause-stays
+returns-then-not-finished-clause-stays g c = stays_none (business_at g.B.Business.stands g.B.Business.plan g.B.Business.count g.B.Business.part c.args.answering.now)
 
 pub returns-then-not-finished-clause-answered : goal.returns-then-not-finished-clause-answered
 returns-then-not-finished-clause-answered g c = λ p opening before adds more told is delivered a.
@@ -20,6 +29,11 @@ returns-then-not-finished-clause-answered g c = λ p opening before adds more to
 
 pub on_applied-requires-clause-most : goal.on_applied-requires-clause-most
 on_applied-requires-clause-most g c = omega (arith, delivered_few (items_of c.args.news.now), ap length c.in-Ok.ensures.delivered, c.requires.turn)
+
+pub returns-clause-stays : goal.returns-clause-stays
+returns-clause-stays g c =
+    let call = c.on_applied.ensures in
+    stays_called (business_at g.B.Business.stands g.B.Business.plan g.B.Business.count g.B.Business.part c.args.answering.now) _ c.on_applied.result call.same.0 call.stays c.refused_call-answering.ensures call.refused
 
 pub returns-clause-answered : goal.returns-clause-answered
 returns-clause-answered g c = λ p opening before adds more told is delivered a.

@@ -68,7 +68,7 @@ pub returns-in-Ok-Some-clause-turned : goal.returns-in-Ok-Some-clause-turned
 returns-in-Ok-Some-clause-turned g c = λ close e.
     turned_first (λ adds. AnswersMore ⊤ (business_at g.B.Business.stands g.B.Business.plan g.B.Business.count g.B.Business.part c.args.answering.now) (business_at g.B.Business.stands g.B.Business.plan g.B.Business.count g.B.Business.part c.answer_turn-in-Ok-Some.new.answering) c.args.end.now.inbox.now adds) _ (connection_in _ _ _ c.args.end.now) (connection_in _ _ _ c.turn_once.new.end) (line_in c.begin.new.self) _ _ _ c.begin.ensures.begun (record { time = c.begin.ensures.limit; is = refl; later = c.begin.ensures.stays.ticks })
     (on_adding (λ adds. AnswersMore ⊤ (business_at g.B.Business.stands g.B.Business.plan g.B.Business.count g.B.Business.part c.args.answering.now) (business_at g.B.Business.stands g.B.Business.plan g.B.Business.count g.B.Business.part c.loop.answering) c.args.end.now.inbox.now adds) (λ adds. delivered_in (items_of c.turn_once.new.teller.news) ≡ messages_of adds) (λ adds. AnswersMore ⊤ (business_at g.B.Business.stands g.B.Business.plan g.B.Business.count g.B.Business.part c.args.answering.now) (business_at g.B.Business.stands g.B.Business.plan g.B.Business.count g.B.Business.part c.answer_turn-in-Ok-Some.new.answering) c.args.end.now.inbox.now adds) _ _ (connection_in _ _ _ c.loop.end) (connection_in _ _ _ c.turn_once.new.end) _ 1 c.loop.invariant.turned c.in-Ok-Some.ensures.turned
-    (λ xs ys gains later m delivered. more_turn (business_at g.B.Business.stands g.B.Business.plan g.B.Business.count g.B.Business.part c.args.answering.now) (business_at g.B.Business.stands g.B.Business.plan g.B.Business.count g.B.Business.part c.loop.answering) c.args.end.now.inbox.now (business_at g.B.Business.stands g.B.Business.plan g.B.Business.count g.B.Business.part c.answer_turn-in-Ok-Some.new.answering) c.loop.end.inbox.now c.turn_once.new.end.inbox.now _ _ (items_of c.turn_once.new.teller.news) xs ys gains later c.peer_finished-told.ensures c.peer_finished-finished-in-Ok-Some.ensures delivered c.answer_turn-in-Ok-Some.ensures.answered m))
+    (λ xs ys gains later m delivered. more_turn (business_at g.B.Business.stands g.B.Business.plan g.B.Business.count g.B.Business.part c.args.answering.now) (business_at g.B.Business.stands g.B.Business.plan g.B.Business.count g.B.Business.part c.loop.answering) c.args.end.now.inbox.now (business_at g.B.Business.stands g.B.Business.plan g.B.Business.count g.B.Business.part c.answer_turn-in-Ok-Some.new.answering) c.loop.end.inbox.now c.turn_once.new.end.inbox.now _ _ (items_of c.turn_once.new.teller.news) xs ys gains later c.peer_finished-told.ensures c.peer_finished-finished-in-Ok-Some.ensures delivered c.answer_turn-in-Ok-Some.ensures.answered c.answer_turn-in-Ok-Some.ensures.stays m))
 
 pub returns-in-Ok-Some-clause-stays : goal.returns-in-Ok-Some-clause-stays
 returns-in-Ok-Some-clause-stays g c = stays_on _ _ _ c.loop.invariant.stays c.turn_once.ensures.stays
@@ -80,7 +80,7 @@ loop-preserved g c =
     record {
       stays = stays_on _ _ _ was.stays one.stays;
       turned = (on_adding (λ adds. AnswersMore ⊤ (business_at g.B.Business.stands g.B.Business.plan g.B.Business.count g.B.Business.part c.args.answering.now) (business_at g.B.Business.stands g.B.Business.plan g.B.Business.count g.B.Business.part c.loop.answering) c.args.end.now.inbox.now adds) (λ adds. delivered_in (items_of c.turn_once.new.teller.news) ≡ messages_of adds) (λ adds. AnswersMore ⊤ (business_at g.B.Business.stands g.B.Business.plan g.B.Business.count g.B.Business.part c.args.answering.now) (business_at g.B.Business.stands g.B.Business.plan g.B.Business.count g.B.Business.part c.answer_turn.new.answering) c.args.end.now.inbox.now adds) _ _ (connection_in _ _ _ c.loop.end) (connection_in _ _ _ c.turn_once.new.end) _ 1 c.loop.invariant.turned c.in-Ok-None.ensures.turned
-          (λ xs ys gains later m delivered. more_turn (business_at g.B.Business.stands g.B.Business.plan g.B.Business.count g.B.Business.part c.args.answering.now) (business_at g.B.Business.stands g.B.Business.plan g.B.Business.count g.B.Business.part c.loop.answering) c.args.end.now.inbox.now (business_at g.B.Business.stands g.B.Business.plan g.B.Business.count g.B.Business.part c.answer_turn.new.answering) c.loop.end.inbox.now c.turn_once.new.end.inbox.now _ _ (items_of c.turn_once.new.teller.news) xs ys gains later c.peer_finished-told.ensures c.peer_finished-finished.ensures delivered c.answer_turn.ensures.answered m));
+          (λ xs ys gains later m delivered. more_turn (business_at g.B.Business.stands g.B.Business.plan g.B.Business.count g.B.Business.part c.args.answering.now) (business_at g.B.Business.stands g.B.Business.plan g.B.Business.count g.B.Business.part c.loop.answering) c.args.end.now.inbox.now (business_at g.B.Business.stands g.B.Business.plan g.B.Business.count g.B.Business.part c.answer_turn.new.answering) c.loop.end.inbox.now c.turn_once.new.end.inbox.now _ _ (items_of c.turn_once.new.teller.news) xs ys gains later c.peer_finished-told.ensures c.peer_finished-finished.ensures delivered c.answer_turn.ensures.answered c.answer_turn.ensures.stays m));
       may = c.in-Ok-None.ensures.goes (cc);
       out = omega (arith, was.out, one.never_falls);
       place = one.place ∙ was.place;
