@@ -1,5 +1,5 @@
 -- The plans of a business over a life: those over what it answered are plans of senders, which do not look at what was applied.
-use Rattle.std.proofs.Common.{◌≡◌, ◌⊎◌, inl, inr, ⊎_elim, ℕ, zero, suc, ◌+◌, ◌<◌, ◌≤◌, true, false, true≢false, List, [], ◌∷◌, ◌++◌, map, length, take, drop, slice_get, slice_index_or, Some, refl, sym, ap, subst, ◌∙◌, arith, append-nil, append_assoc, length-append, drop-drop}
+use Rattle.std.proofs.Common.{◌≡◌, ◌⊎◌, inl, inr, ⊎_elim, ℕ, zero, suc, ◌+◌, ◌<◌, ◌≤◌, Bool, true, false, true≢false, List, [], ◌∷◌, ◌++◌, map, length, take, drop, slice_get, slice_index_or, Some, refl, sym, ap, subst, ◌∙◌, arith, append-nil, append_assoc, length-append, drop-drop}
 use Rattle.std.proofs.lemmas.Bool.{cases_lt}
 use Rattle.std.proofs.lemmas.List.{length-map, get_or_past}
 use mathlib.Core.List.{IsPrefix}
@@ -7,7 +7,7 @@ use Rattle.session_model.specs.Journal.{Entry, History, OutboxRecord, entry, fin
 use Rattle.session_model.specs.Inbox.{InboxRecord, applied, payloads_of, has_peer_finished}
 use Rattle.session_model.specs.Plans.{GoesOn, sent_by, Continues, Completes, SendersDone}
 use Rattle.session_model.specs.Lives.{Life, IsImage, KeepsOutbox}
-use Rattle.session_model.proofs.Lists.{prefix_trans, prefix_continued, length-counts_from}
+use Rattle.session_model.proofs.Lists.{prefix_self, prefix_trans, prefix_continued, length-counts_from}
 use Rattle.jr_boxes.specs.Outboxes.{outbox_of}
 use Rattle.jr_kept.specs.Entries.{entries_made}
 use Rattle.gate_senders.specs.Shown.{entries_after}
@@ -21,8 +21,10 @@ use Rattle.gate_business.specs.Business as business
 use Rattle.gate_business.proofs.Making.{prefix_drop, prefix_whole}
 use Rattle.conn_turns.proofs.Delivering.{applied_payloads}
 use Rattle.conn_serve.specs.Answering.{messages_of}
-use Rattle.life_laws.specs.Plans.{plan_in, MadeOf, LosesMessages, AllMade, LosesOwn, PlansMade}
-use Rattle.business_laws.specs.Answered.{plans_over, answering_plan, PassesAnswered, KeepsAnswers, AnswersOnBy, ContinuesGoesOn, ContinuesCompletes, AnsweringGoesOn, AnswersAreKept, AnswersKeepOutbox}
+use Rattle.life_laws.specs.Plans.{plan_in, MadeOf, LosesMessages, AllMade, LosesOwn, PlansMade, KeepsPlans, LosesNext, plans_at}
+use Rattle.life_laws.proofs.Submitting.{plans_submitted}
+use Rattle.business_laws.specs.Served.{KeepsWhole}
+use Rattle.business_laws.specs.Answered.{plans_over, answering_plan, answering, PassesOver, PassesAnswered, KeepsAnswers, AnswersOnBy, ContinuesGoesOn, ContinuesCompletes, AnsweringGoesOn, AnswersAreKept, AnswersKeepOutbox}
 use Rattle.life_laws.proofs.Planned.{plans_are_kept}
 use Rattle.life_laws.proofs.Lost.{plans_go_on}
 use Rattle.life_laws.proofs.Outboxes.{history_of-outbox_of, entries-outbox_of, outbox_begins}
@@ -98,16 +100,16 @@ answering_goes_on plan count on s earlier later begun = ⊎_elim
 
 -- ---- what the passes know
 
-module _ (opening now : Account) (plan : ℕ → List (List ℕ) → List (List ℕ)) (count : ℕ) (known : ℕ → Part) (answered : List InboxRecord)
-    (p : PassesAnswered opening plan count known answered) (c : Closed known (known 1).made opening now) where
+module _ (opening now : Account) (plan : ℕ → List (List ℕ) → List (List ℕ)) (count : ℕ) (known : ℕ → Part) (messages : List (List ℕ)) (finished : Bool)
+    (p : PassesOver opening plan count known messages finished) (c : Closed known (known 1).made opening now) where
   abbrev plans : List (List (List ℕ))
-  plans = plans_over plan count (messages_of answered)
+  plans = plans_over plan count messages
 
   many : length plans ≡ count
-  many = length-over plan count (messages_of answered)
+  many = length-over plan count messages
 
-  its : (s : ℕ) → In count s → plan_in plans s [] ≡ plan s (messages_of answered)
-  its s h = plan_at plan count (messages_of answered) [] s h
+  its : (s : ℕ) → In count s → plan_in plans s [] ≡ plan s messages
+  its s h = plan_at plan count messages [] s h
 
   fewer : (n : ℕ) → In (length plans) n → In count n
   fewer n h = record { from_one = h.from_one; up_to = omega (arith, h.up_to, many) }
@@ -119,17 +121,17 @@ module _ (opening now : Account) (plan : ℕ → List (List ℕ) → List (List 
   which : (n : ℕ) → In (count + 1) n → In count n ⊎ (n ≡ count + 1)
   which n h = ⊎_elim (λ (lt : n < count + 1). inl (record { from_one = h.from_one; up_to = omega (arith, lt) })) (λ (le : count + 1 ≤ n). inr (omega (arith, le, h.up_to))) (cases_lt n (count + 1))
 
-  all_made : business.AllMade (λ n. plan n (messages_of answered)) count (made_part (count + 1) opening) known → AllMade opening plans known
+  all_made : business.AllMade (λ n. plan n messages) count (made_part (count + 1) opening) known → AllMade opening plans known
   all_made all s h = all s (fewer s h) ∙ ap (λ ps. entries_of opening.history.made s ++ entries_behind s (length (entries_of opening.history.made s)) (drop (length (entries_of opening.history.made s)) ps)) (sym (its s (fewer s h)))
 
-  ended_by : (n : ℕ) → In (count + 1) n → (known n).ended ≡ true → (has_peer_finished answered ≡ true) × AllMade opening plans known
+  ended_by : (n : ℕ) → In (count + 1) n → (known n).ended ≡ true → (finished ≡ true) × AllMade opening plans known
   ended_by n h e = ⊎_elim
       (λ (s : In count n). ⊎_elim (λ was. absurd (true≢false (sym was))) (λ k. (k.0, all_made k.1)) (p.grew.ended n s e))
       (λ is. absurd (true≢false (sym (subst (λ k. (known k).ended ≡ true) is e) ∙ p.unmarked)))
       (which n h)
 
   -- where one lost something, none made the mark
-  no_mark : (n : ℕ) → In count n → business.Loses (λ k. plan k (messages_of answered)) count (made_part (count + 1) opening) known (has_peer_finished answered) n
+  no_mark : (n : ℕ) → In count n → business.Loses (λ k. plan k messages) count (made_part (count + 1) opening) known finished n
       → (m : ℕ) → In (count + 1) m → (known m).ended ≡ true → ⊥
   no_mark n h l m inside e = ⊎_elim
       (λ (s : In count m). true≢false (sym (l.unmade m s e)))
@@ -147,32 +149,32 @@ module _ (opening now : Account) (plan : ℕ → List (List ℕ) → List (List 
   some_behind (y ∷ ps) zero x h = omega arith
   some_behind (y ∷ ps) (suc k) x h = some_behind ps k x h
 
-  loses_own : (n : ℕ) → In count n → business.Loses (λ k. plan k (messages_of answered)) count (made_part (count + 1) opening) known (has_peer_finished answered) n → LosesOwn opening plans known n
+  loses_own : (n : ℕ) → In count n → business.Loses (λ k. plan k messages) count (made_part (count + 1) opening) known finished n → LosesOwn opening plans known n
   loses_own n h l = record {
     sender = record { from_one = h.from_one; up_to = omega (arith, h.up_to, many) };
     opened = λ was. l.unmarked (ap (λ (x : History). x.finished) (sym ((p.grew.same n h).seen.alone was)) ∙ was);
     unended = λ m inside. no_mark n h l m (wider m inside);
     what = ⊎_elim
-        (λ m. inl (messages m))
+        (λ m. inl (next_messages m))
         (λ f. inr (f.0, all_made f.2))
         l.what;
   }
     where
-      messages : made.LosesMessage (plan n (messages_of answered)) (known n) → LosesMessages (plan_in plans n []) (known n)
-      messages m = subst (λ ps. LosesMessages ps (known n)) (sym (its n h)) (record {
+      next_messages : made.LosesMessage (plan n messages) (known n) → LosesMessages (plan_in plans n []) (known n)
+      next_messages m = subst (λ ps. LosesMessages ps (known n)) (sym (its n h)) (record {
         count = 1;
-        within = some_behind (plan n (messages_of answered)) (length (known n).mine) m.payload m.next;
+        within = some_behind (plan n messages) (length (known n).mine) m.payload m.next;
         few = omega arith;
-        is = m.is ∙ ap (λ ps. entries_made (entries_after (known n) ps)) (sym (one_behind (plan n (messages_of answered)) (length (known n).mine) m.payload m.next));
+        is = m.is ∙ ap (λ ps. entries_made (entries_after (known n) ps)) (sym (one_behind (plan n messages) (length (known n).mine) m.payload m.next));
       })
 
-  lost_by : (n : ℕ) → In (count + 1) n → ((known n).lost ≡ []) ⊎ (In count n × business.Loses (λ k. plan k (messages_of answered)) count (made_part (count + 1) opening) known (has_peer_finished answered) n)
+  lost_by : (n : ℕ) → In (count + 1) n → ((known n).lost ≡ []) ⊎ (In count n × business.Loses (λ k. plan k messages) count (made_part (count + 1) opening) known finished n)
   lost_by n h = ⊎_elim
       (λ (s : In count n). ⊎_elim (λ same. inl same) (λ l. inr (s, l)) (p.grew.lost n s))
       (λ is. inl (ap (λ k. (known k).lost) is ∙ p.unlost))
       (which n h)
 
-  plans_made : PlansMade opening plans known
+  pub plans_made : PlansMade opening plans known
   plans_made = record {
     made = p.made ∙ ap (λ k. k + 1) (sym many);
     number = λ n h. p.number n (wider n h);
@@ -187,7 +189,7 @@ module _ (opening now : Account) (plan : ℕ → List (List ℕ) → List (List 
   inside n h = record { from_one = h.from_one; up_to = omega (arith, h.up_to, p.made) }
 
   -- where the mark may stand behind the closing history, the peer's finish is among what was answered
-  marked_late : is_finished now.refused ≡ true → has_peer_finished answered ≡ true
+  marked_late : is_finished now.refused ≡ true → finished ≡ true
   marked_late late = ⊎_elim
       (λ none. absurd (true≢false (sym late ∙ ap is_finished none)))
       (λ a. ⊎_elim
@@ -199,7 +201,7 @@ module _ (opening now : Account) (plan : ℕ → List (List ℕ) → List (List 
       (lost_by a.0 (inside a.0 a.1)))
       c.lost
 
-  marked_now : opening.history.finished ≡ false → now.history.finished ≡ true → has_peer_finished answered ≡ true
+  marked_now : opening.history.finished ≡ false → now.history.finished ≡ true → finished ≡ true
   marked_now open_is marked = ⊎_elim
       (λ was. absurd (true≢false (sym was ∙ open_is)))
       (λ m. (ended_by m.0 (inside m.0 m.1) m.2).0)
@@ -218,9 +220,45 @@ finished_first [] more e = absurd (true≢false (sym e))
 finished_first (entry x ∷ rs) more e = finished_first rs more e
 finished_first (finish ∷ rs) more e = refl
 
+-- where the history with a beginning of what was lost has the mark, the peer's finish is among what was answered
+pub peer_done_by : (opening now : Account) (plan : ℕ → List (List ℕ) → List (List ℕ)) (count : ℕ) (known : ℕ → Part) (answered : List InboxRecord) → PassesAnswered opening plan count known answered
+    → Closed known (known 1).made opening now → (kept : List OutboxRecord) → IsPrefix kept now.refused → (whole : History) → outbox_of now.history ++ kept ≡ outbox_of whole
+    → opening.history.finished ≡ false → whole.finished ≡ true → has_peer_finished answered ≡ true
+peer_done_by opening now plan count known answered p c kept first whole goes_on open_is marked = ⊎_elim
+    (λ now_marked. marked_now opening now plan count known (messages_of answered) (has_peer_finished answered) p c open_is (sym (finished_of now.history) ∙ now_marked))
+    (λ late. marked_late opening now plan count known (messages_of answered) (has_peer_finished answered) p c (ap is_finished (sym first.1) ∙ finished_first kept first.0 late))
+    (finished_behind (outbox_of now.history) kept (ap is_finished goes_on ∙ finished_of whole ∙ marked))
+
+-- the plans of its senders are those of the business
+pub plans_answered : (plan : ℕ → List (List ℕ) → List (List ℕ)) (count : ℕ) (i : List InboxRecord) → plans_at (answering plan count) i ≡ plans_over plan count (messages_of i)
+plans_answered plan count i =
+    let plans : List (List (List ℕ)) = plans_over plan count (messages_of i) in
+    subst (λ (k : ℕ). map (λ (n : ℕ). plan_in plans n (messages_of i)) (counts_from 1 k) ≡ plans) (length-over plan count (messages_of i)) (plans_submitted plans i)
+
+abbrev pub answers_whole : (opening now : Account) (plan : ℕ → List (List ℕ) → List (List ℕ)) (count : ℕ) (known : ℕ → Part) (answered i j : List InboxRecord) → PassesAnswered opening plan count known answered
+    → Closed known (known 1).made opening now → IsPrefix i answered → IsPrefix answered j → KeepsWhole (answering plan count) opening now i j
+answers_whole opening now plan count known answered i j p c opened reached =
+    let plans : List (List (List ℕ)) = plans_over plan count (messages_of answered) in
+    let both = plans_are_kept opening now plans known (plans_made opening now plan count known (messages_of answered) (has_peer_finished answered) p c) c in
+    let on = plans_go_on plans opening.history now.history now.refused both.0 both.1 now.refused (prefix_self now.refused) in
+    let same : plans ≡ plans_at (answering plan count) answered = sym (plans_answered plan count answered) in
+    record {
+      whole = on.whole;
+      goes_on = on.goes_on;
+      in_order = on.in_order;
+      keeps = record {
+        answered = answered;
+        opened = opened;
+        reached = reached;
+        loses = subst (λ (ps : List (List (List ℕ))). LosesNext ps opening.history now.history now.refused) same both.1;
+        keeps = subst (λ (ps : List (List (List ℕ))). KeepsPlans ps opening.history on.whole) same on.keeps;
+        waited = λ waits open_is marked. peer_done_by opening now plan count known answered p c now.refused (prefix_self now.refused) on.whole on.goes_on open_is marked;
+      };
+    }
+
 pub answers_are_kept : AnswersAreKept
 answers_are_kept opening now plan count known i j answered p c opened reached kept first =
-    let both = plans_are_kept opening now (plans_over plan count (messages_of answered)) known (plans_made opening now plan count known answered p c) c in
+    let both = plans_are_kept opening now (plans_over plan count (messages_of answered)) known (plans_made opening now plan count known (messages_of answered) (has_peer_finished answered) p c) c in
     let on = plans_go_on (plans_over plan count (messages_of answered)) opening.history now.history now.refused both.0 both.1 kept first in
     record {
       whole = on.whole;
@@ -230,10 +268,7 @@ answers_are_kept opening now plan count known i j answered p c opened reached ke
         opened = opened;
         reached = reached;
         keeps = on.keeps;
-        peer_done = λ open_is marked. ⊎_elim
-            (λ now_marked. marked_now opening now plan count known answered p c open_is (sym (finished_of now.history) ∙ now_marked))
-            (λ late. marked_late opening now plan count known answered p c (ap is_finished (sym first.1) ∙ finished_first kept first.0 late))
-            (finished_behind (outbox_of now.history) kept (ap is_finished on.goes_on ∙ finished_of on.whole ∙ marked));
+        peer_done = peer_done_by opening now plan count known answered p c kept first on.whole on.goes_on;
       };
       in_order = on.in_order;
     }

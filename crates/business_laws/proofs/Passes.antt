@@ -14,17 +14,17 @@ use Rattle.gate_turn.specs.Views.{Account, Part}
 use Rattle.gate_turn.specs.Rule.{In}
 use Rattle.gate_turn.specs.Calls.{made_part}
 use Rattle.gate_turn.specs.Steps.{Closed}
-use Rattle.gate_turn.proofs.Histories.{begins_self}
 use Rattle.gate_business.specs.Made as made
 use Rattle.gate_business.specs.Business as business
+use Rattle.gate_business.proofs.Resuming.{stays_self}
 use Rattle.conn_loop.specs.Conn.{Looks}
 use Rattle.conn_door.specs.declared.answer.ServeFault.{ServeFault}
 use Rattle.conn_door.specs.declared.answer.ServeFault.TheVariants as faults
 use Rattle.conn_turns.proofs.Delivering.{applied_payloads}
-use Rattle.conn_serve.specs.Answering.{messages_of, BusinessAt, AnsweringAt, Answers, AnsweredLife}
-use Rattle.business_laws.specs.Answered.{answering_plan, PassesAnswered}
-use Rattle.business_laws.specs.Served.{AreParted, KnowAnswered, IsOver, UsedPasses}
-use Rattle.business_laws.proofs.Answering.{answers_are_kept, answers_keep_outbox}
+use Rattle.conn_serve.specs.Answering.{messages_of, AnsweredTo, AnsweringAt, Answers, AnsweredLife}
+use Rattle.business_laws.specs.Answered.{answering_plan, answering, PassesOver}
+use Rattle.business_laws.specs.Served.{AreParted, KnowAnswered, KeepsWhole, IsOver, UsedPasses}
+use Rattle.business_laws.proofs.Answering.{answers_are_kept, answers_keep_outbox, answers_whole}
 
 -- what a call left of some passes, said of passes that know the same
 module _ (plan : ℕ → List (List ℕ)) (count : ℕ) (p q r t : ℕ → Part) (finished : Bool) (before : (n : ℕ) → In count n → p n ≡ r n)
@@ -61,15 +61,15 @@ module _ (plan : ℕ → List (List ℕ)) (count : ℕ) (p q r t : ℕ → Part)
 -- where nothing was done, nothing was made
 grew_none : (plan : ℕ → List (List ℕ)) (count : ℕ) (p : ℕ → Part) (finished : Bool) → business.Grew plan count p p finished
 grew_none plan count p finished = record {
-  same = λ n h. record { seen = begins_self (p n).seen; faults = omega arith; number = refl; made = refl; opening = refl };
+  same = λ n h. stays_self (p n);
   each = λ n h. record { count = 0; are = sym (append-nil (p n).mine) };
   ended = λ n h e. inl e;
   lost = λ n h. inl refl;
 }
 
 -- the passes of a business, and that of a connection, which only looked
-module _ (opening : Account) (plan : ℕ → List (List ℕ) → List (List ℕ)) (count : ℕ) (known : ℕ → Part) (answered : List InboxRecord)
-    (g : business.Grew (λ n. plan n (messages_of answered)) count (made_part (count + 1) opening) known (has_peer_finished answered))
+module _ (opening : Account) (plan : ℕ → List (List ℕ) → List (List ℕ)) (count : ℕ) (known : ℕ → Part) (messages : List (List ℕ)) (finished : Bool)
+    (g : business.Grew (λ n. plan n messages) count (made_part (count + 1) opening) known finished)
     (looks : Looks (made_part (count + 1) opening (count + 1)) (known (count + 1))) where
   made_at : (known 1).made ≡ count + 1
   made_at = dite (ℕ_discrete count 0)
@@ -83,11 +83,10 @@ module _ (opening : Account) (plan : ℕ → List (List ℕ) → List (List ℕ)
       (λ e. ap (λ (k : ℕ). (known k).number) e ∙ (looks.number ∙ sym e))
       (λ ne. (g.same n (record { from_one = h.from_one; up_to = omega (arith, h.up_to, ne) })).number)
 
-  pub passes_answered : PassesAnswered opening plan count known answered
-  passes_answered = record { made = made_at; number = number_at; grew = g; last = looks.mine; unmarked = looks.ended; unlost = looks.lost }
+  pub passes_over : PassesOver opening plan count known messages finished
+  passes_over = record { made = made_at; number = number_at; grew = g; last = looks.mine; unmarked = looks.ended; unlost = looks.lost }
 
-module _ {J : Type 0} {G : Ghosts J} (old new : AnsweringAt J G) (opening : Account) (known : ℕ → Part) (inbox adds : List InboxRecord)
-    (tells : G.tells) (holds : HoldsBox old.box inbox []) (u : UsedPasses opening known old new) where
+module _ {J : Type 0} {G : Ghosts J} (old new : AnsweringAt J G) (opening : Account) (known : ℕ → Part) (u : UsedPasses opening known old new) where
   abbrev count : ℕ
   count = old.business.count
 
@@ -100,36 +99,50 @@ module _ {J : Type 0} {G : Ghosts J} (old new : AnsweringAt J G) (opening : Acco
   looks : Looks (first (count + 1)) (known (count + 1))
   looks = subst (λ (x : Part). Looks x (known (count + 1))) u.made.connection (subst (λ (x : Part). Looks old.pass x) u.back.connection u.looks)
 
-  knows : (answered : List InboxRecord) → IsPrefix answered adds
-      → business.Grew (λ n. plan n (messages_of (inbox ++ answered))) count old.business.part new.business.part (has_peer_finished (inbox ++ answered))
-      → KnowAnswered opening plan count known inbox adds
-  knows answered reached g = record {
-    answered = answered;
-    reached = reached;
-    passes = passes_answered opening plan count known (inbox ++ answered)
-        (grew_same (λ n. plan n (messages_of (inbox ++ answered))) count old.business.part new.business.part first known (has_peer_finished (inbox ++ answered)) u.made.business u.back.business g)
-        looks;
-  }
+  over : (messages : List (List ℕ)) (finished : Bool) → business.Grew (λ n. plan n messages) count old.business.part new.business.part finished
+      → PassesOver opening plan count known messages finished
+  over messages finished g =
+      passes_over opening plan count known messages finished
+      (grew_same (λ n. plan n messages) count old.business.part new.business.part first known finished u.made.business u.back.business g) looks
 
-  -- of its count and its plan, and of the messages of the inbox and of what came behind them
-  by_life : (each : Type 0) → AnsweredLife each old new adds → KnowAnswered opening plan count known inbox adds
-  by_life each a =
-      let x : Answers each new.business old.business.part inbox (messages_of inbox) adds = a.told inbox tells holds in
-      let messages : messages_of inbox ++ messages_of x.answered ≡ messages_of (inbox ++ x.answered) = sym (applied_payloads inbox x.answered) in
-      let finished = has_peer_finished (inbox ++ x.answered) in
-      knows x.answered x.reached
-      (subst (λ (ms : List (List ℕ)). business.Grew (λ n. plan n ms) count old.business.part new.business.part finished) messages
-      (subst (λ (pl : ℕ → List (List ℕ) → List (List ℕ)). business.Grew (λ n. pl n (messages_of inbox ++ messages_of x.answered)) count old.business.part new.business.part finished) u.same.1
-      (subst (λ (k : ℕ). business.Grew (λ n. new.business.plan n (messages_of inbox ++ messages_of x.answered)) k old.business.part new.business.part finished) u.same.0 x.to.grew)))
+  -- what it answered, of its count and its plan
+  pub over_answered : (messages : List (List ℕ)) (finished : Bool) → AnsweredTo new.business old.business.part messages finished
+      → PassesOver opening plan count known messages finished
+  over_answered messages finished to =
+      over messages finished
+      (subst (λ (pl : ℕ → List (List ℕ) → List (List ℕ)). business.Grew (λ n. pl n messages) count old.business.part new.business.part finished) u.same.1
+      (subst (λ (k : ℕ). business.Grew (λ n. new.business.plan n messages) k old.business.part new.business.part finished) u.same.0 to.grew))
 
-  by_none : new.business.part ≡ old.business.part → KnowAnswered opening plan count known inbox adds
-  by_none same =
-      knows [] (adds, refl)
-      (subst (λ (q : ℕ → Part). business.Grew (λ n. plan n (messages_of (inbox ++ []))) count old.business.part q (has_peer_finished (inbox ++ []))) (sym same)
-      (grew_none (λ n. plan n (messages_of (inbox ++ []))) count old.business.part (has_peer_finished (inbox ++ []))))
+  -- where it answered nothing, that is so of any messages
+  pub over_none : new.business.part ≡ old.business.part → (messages : List (List ℕ)) (finished : Bool) → PassesOver opening plan count known messages finished
+  over_none same messages finished =
+      over messages finished
+      (subst (λ (q : ℕ → Part). business.Grew (λ n. plan n messages) count old.business.part q finished) (sym same)
+      (grew_none (λ n. plan n messages) count old.business.part finished))
 
-  pub know_answered : (each Nothing : Type 0) → AnsweredLife each old new adds ⊎ ((new.business.part ≡ old.business.part) × Nothing) → KnowAnswered opening plan count known inbox adds
-  know_answered each Nothing is = ⊎_elim (λ a. by_life each a) (λ b. by_none b.0) is
+  module _ (inbox adds : List InboxRecord) (tells : G.tells) (holds : HoldsBox old.box inbox []) where
+    -- of the messages of the inbox and of what came behind them
+    by_life : (each : Type 0) → AnsweredLife each old new adds → KnowAnswered opening plan count known inbox adds
+    by_life each a =
+        let x : Answers each new.business old.business.part inbox (messages_of inbox) adds = a.told inbox tells holds in
+        let finished = has_peer_finished (inbox ++ x.answered) in
+        record {
+          answered = x.answered;
+          reached = x.reached;
+          passes = subst (λ (ms : List (List ℕ)). PassesOver opening plan count known ms finished) (sym (applied_payloads inbox x.answered))
+              (over_answered (messages_of inbox ++ messages_of x.answered) finished x.to);
+        }
+
+    by_none : new.business.part ≡ old.business.part → KnowAnswered opening plan count known inbox adds
+    by_none same = record { answered = []; reached = (adds, refl); passes = over_none same (messages_of (inbox ++ [])) (has_peer_finished (inbox ++ [])) }
+
+    pub know_answered : (each Nothing : Type 0) → AnsweredLife each old new adds ⊎ ((new.business.part ≡ old.business.part) × Nothing) → KnowAnswered opening plan count known inbox adds
+    know_answered each Nothing is = ⊎_elim (λ a. by_life each a) (λ b. by_none b.0) is
+
+-- the records behind some are a beginning of more behind them
+pub more_behind : (xs ys zs : List InboxRecord) → IsPrefix ys zs → IsPrefix (xs ++ ys) (xs ++ zs)
+more_behind [] ys zs p = p
+more_behind (x ∷ xs) ys zs p = let q = more_behind xs ys zs p in (q.0, ap (λ (l : List InboxRecord). x ∷ l) q.1)
 
 -- such passes make an outbox that keeps the plan of the business
 pub know_keeps : (opening now : Account) (plan : ℕ → List (List ℕ) → List (List ℕ)) (count : ℕ) (known : ℕ → Part) (inbox adds : List InboxRecord) (life : Life)
@@ -142,7 +155,8 @@ know_keeps opening now plan count known inbox adds life k goes closed order is =
     answers_keep_outbox plan count opening.history now.history life goes order is.outbox.0 is.outbox.1
     (λ kept first. answers_are_kept opening now plan count known life.served.opening_inbox life.served.closing_inbox (inbox ++ k.answered) k.passes closed opened reached kept
     (subst (λ (rs : List OutboxRecord). IsPrefix kept rs) is.refused first))
-  where
-    more_behind : (xs ys zs : List InboxRecord) → IsPrefix ys zs → IsPrefix (xs ++ ys) (xs ++ zs)
-    more_behind [] ys zs p = p
-    more_behind (x ∷ xs) ys zs p = let q = more_behind xs ys zs p in (q.0, ap (λ (l : List InboxRecord). x ∷ l) q.1)
+
+pub know_whole : (opening now : Account) (plan : ℕ → List (List ℕ) → List (List ℕ)) (count : ℕ) (known : ℕ → Part) (inbox adds : List InboxRecord)
+    → KnowAnswered opening plan count known inbox adds → Closed known (known 1).made opening now → KeepsWhole (answering plan count) opening now inbox (inbox ++ adds)
+know_whole opening now plan count known inbox adds k closed =
+    answers_whole opening now plan count known (inbox ++ k.answered) inbox (inbox ++ adds) k.passes closed (k.answered, refl) (more_behind inbox k.answered adds k.reached)

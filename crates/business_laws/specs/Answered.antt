@@ -1,5 +1,5 @@
 -- What an outbox keeps of a business: of plans over the messages that its own end applied (this project's profile).
-use Rattle.std.specs.Prelude.{◌≡◌, ℕ, ◌+◌, true, false, List, [], ◌++◌, map}
+use Rattle.std.specs.Prelude.{◌≡◌, ℕ, ◌+◌, Bool, true, false, List, [], ◌++◌, map}
 use mathlib.Core.List.{IsPrefix}
 use Rattle.session_model.specs.Journal.{History, OutboxRecord, InOrder, counts_from, entries_of}
 use Rattle.session_model.specs.Inbox.{InboxRecord, has_peer_finished}
@@ -12,7 +12,7 @@ use Rattle.gate_turn.specs.Calls.{made_part}
 use Rattle.gate_turn.specs.Steps.{Closed}
 use Rattle.gate_business.specs.Business.{Grew}
 use Rattle.conn_serve.specs.Answering.{messages_of}
-use Rattle.life_laws.specs.Plans.{plan_in, KeepsPlans}
+use Rattle.life_laws.specs.Plans.{plan_in, KeepsPlans, Senders}
 
 -- the plans of the senders from 1 to `count` over these messages, in their order
 abbrev pub plans_over : (plan : ℕ → List (List ℕ) → List (List ℕ)) (count : ℕ) (messages : List (List ℕ)) → List (List (List ℕ))
@@ -22,16 +22,24 @@ plans_over plan count messages = map (λ (n : ℕ). plan n messages) (counts_fro
 abbrev pub answering_plan : (plan : ℕ → List (List ℕ) → List (List ℕ)) (count : ℕ) → ℕ → List (List ℕ) → List (List ℕ)
 answering_plan plan count s messages = plan_in (plans_over plan count messages) s messages
 
--- What the passes of a gate know, those of a business and one more: the business answered what these records apply, as far as each pass got; and the
--- last pass made nothing and no mark, and lost nothing
-pub record PassesAnswered (opening : Account) (plan : ℕ → List (List ℕ) → List (List ℕ)) (count : ℕ) (known : ℕ → Part)
-    (answered : List InboxRecord) : Type 0 where
+-- the senders of such an end: their mark waits for the peer's finish
+abbrev pub answering : (plan : ℕ → List (List ℕ) → List (List ℕ)) (count : ℕ) → Senders
+answering plan count = record { count = count; plan = answering_plan plan count; waits = true }
+
+-- What the passes of a gate know, those of a business and one more: the business answered these messages, with which the peer's finish was recorded or
+-- was not, as far as each pass got; and the last pass made nothing and no mark, and lost nothing
+pub record PassesOver (opening : Account) (plan : ℕ → List (List ℕ) → List (List ℕ)) (count : ℕ) (known : ℕ → Part) (messages : List (List ℕ))
+    (finished : Bool) : Type 0 where
   pub made : (known 1).made ≡ count + 1
   pub number : (n : ℕ) → In (count + 1) n → (known n).number ≡ n
-  pub grew : Grew (λ n. plan n (messages_of answered)) count (made_part (count + 1) opening) known (has_peer_finished answered)
+  pub grew : Grew (λ n. plan n messages) count (made_part (count + 1) opening) known finished
   pub last : (known (count + 1)).mine ≡ entries_of opening.history.made (count + 1)
   pub unmarked : (known (count + 1)).ended ≡ false
   pub unlost : (known (count + 1)).lost ≡ []
+
+-- it answered what these records apply
+abbrev pub PassesAnswered : (opening : Account) (plan : ℕ → List (List ℕ) → List (List ℕ)) (count : ℕ) (known : ℕ → Part) (answered : List InboxRecord) → Type 0
+PassesAnswered opening plan count known answered = PassesOver opening plan count known (messages_of answered) (has_peer_finished answered)
 
 -- An outbox keeps the plans of a business over what its inbox applied between these lists: it keeps its plans over some list between them, as far as
 -- each sender got; and where the mark was added, that list has the peer's finish

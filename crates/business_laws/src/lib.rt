@@ -10,4 +10,6 @@ pub use laws::{
     answering_goes_on, answers_are_kept, answers_keep_outbox, continues_completes,
     continues_goes_on,
 };
-pub use served::{answered_passes, answering_keeps_outbox};
+pub use served::{
+    answered_passes, answering_is_lived, answering_keeps_outbox, answering_keeps_senders,
+};

@@ -1,6 +1,6 @@
 //! Laws from what `serve_answering` ensures of a life to what its outbox keeps.
 
-ghost use Rattle.business_laws.specs.Served.{AnsweredPasses, AnsweringKeepsOutbox};
+ghost use Rattle.business_laws.specs.Served.{AnsweredPasses, AnsweringKeepsOutbox, AnsweringKeepsSenders, AnsweringIsLived};
 
 use gate_business::Business;
 use gw_links::Dialer;
@@ -17,4 +17,18 @@ pub fn answering_keeps_outbox<O: Journal + Send, I: Journal, N: Dialer, B: Busin
     inbox: &Inbox<I>,
 )
     ensures law { AnsweringKeepsOutbox B.stands B.plan B.count B.part O.tells N.Link.Link inbox.now }
+{}
+
+/// It keeps what its senders were to send, and goes on with all that was lost, whatever the inboxes of this kind.
+pub fn answering_keeps_senders<O: Journal + Send, I: Journal, N: Dialer, B: Business<O>>(
+    inbox: &Inbox<I>,
+)
+    ensures law { AnsweringKeepsSenders B.stands B.plan B.count B.part O.tells N.Link.Link inbox.now }
+{}
+
+/// Once the gate is closed, it was lived over the boxes, whatever the inboxes of this kind, and whatever the disks tell.
+pub fn answering_is_lived<O: Journal + Send, I: Journal, N: Dialer, B: Business<O>>(
+    inbox: &Inbox<I>,
+)
+    ensures law { AnsweringIsLived B.stands B.plan B.count B.part O.Journal N.Link.Link inbox.now }
 {}

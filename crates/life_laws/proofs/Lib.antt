@@ -7,6 +7,8 @@ pub mod Planned
 pub mod Lost
 pub mod Outboxes
 pub mod Seen
+pub mod Closing
 pub mod Senders
+pub mod Submitting
 pub mod Passes
 pub mod Boxes

@@ -9,7 +9,7 @@ use Rattle.session_model.specs.Journal.{Entry, entries_of, counts_from, InOrder}
 use Rattle.session_model.proofs.Lists.{all_weaker, all_second}
 use Rattle.gate_turn.proofs.Histories.{entries_of-append}
 use Rattle.gate_plans.specs.Sent.{StandAt}
-use Rattle.life_laws.specs.PlanLives.{IsAmong}
+use Rattle.gate_business.specs.Made.{IsAmong}
 
 pub order_prop : (es : List Entry) → IsProp (InOrder es)
 order_prop es = hlevel (ℕ_set, List-set)

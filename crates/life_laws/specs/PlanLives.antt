@@ -1,30 +1,36 @@
 -- What a life of connections and senders left, of a gate's passes, and of the boxes once the gate is closed (this project's profile).
-use Rattle.std.specs.Prelude.{◌≡◌, ◌⊎◌, ⊤, ℕ, ◌+◌, ◌^◌, ◌<◌, true, false, List, [], length, slice_get, Option, Some, IfSome, option_to_list, Result, Err}
-use Rattle.std.specs.List.{AllByRecursion}
+use Rattle.std.specs.Prelude.{◌≡◌, ◌⊎◌, ℕ, ◌+◌, ◌^◌, ◌<◌, true, false, List, [], ◌++◌, length, slice_get, Option, Some, IfSome, option_to_list, Result, Err}
 use Rattle.gw_outside.specs.Faults.{HasRisen}
-use Rattle.session_model.specs.Journal.{Entry, History, OutboxRecord, BeginsHistory, entries_of}
-use Rattle.session_model.specs.Inbox.{InboxRecord}
+use Rattle.session_model.specs.Journal.{History, OutboxRecord, BeginsHistory, InOrder, entries_of}
+use Rattle.session_model.specs.Inbox.{InboxRecord, has_peer_finished}
+use Rattle.session_model.specs.Lives.{Life, KeepsOutbox}
 use Rattle.fixp_shake.specs.declared.config.EndConfig.{EndConfig}
 use Rattle.fixp_machine.specs.Machine.{State, fresh}
 use Rattle.gw_links.specs.declared.link.Link.{Ghosts as LinkGhosts}
 use Rattle.jr_dated.specs.declared.journal.Journal.{Ghosts}
+use Rattle.jr_boxes.specs.Outboxes.{outbox_of}
 use Rattle.jr_kept.specs.declared.inbox.Inbox.{Inbox}
 use Rattle.jr_kept.specs.Inbox as inboxes
 use Rattle.jr_kept.specs.declared.outbox.Outbox.{Outbox}
 use Rattle.jr_kept.specs.Outbox as outboxes
 use Rattle.gate_turn.specs.Views.{Account, HasFailed, Limits, Part}
 use Rattle.gate_turn.specs.Rule.{In}
+use Rattle.gate_turn.specs.declared.passes.Passes.{Passes}
 use Rattle.gate_senders.specs.Kept.{next_entry, IsFullAt}
+use Rattle.gate_senders.specs.Gate.{OpensOn, ClosedWith}
+use Rattle.gate_senders.specs.declared.gate.Gate.{Gate}
+use Rattle.gate_senders.specs.declared.kept.Kept.{Kept}
+use Rattle.gate_business.specs.Made.{SeesOwn}
 use Rattle.conn_door.specs.declared.answer.ServeFault.{ServeFault}
 use Rattle.conn_door.specs.declared.answer.ServeFault.TheVariants as faults
 use Rattle.conn_door.specs.declared.answer.LifeEnd.{LifeEnd}
 use Rattle.conn_steps.specs.Settling.{IsPast}
-use Rattle.conn_door.specs.Answers.{answer_of, IsUnrefused}
-use Rattle.conn_serve.specs.Connections.{wanted_of_all}
+use Rattle.conn_door.specs.Answers.{answer_of, IsOfSender, IsUnrefused}
+use Rattle.conn_serve.specs.Connections.{all_of, adds_of, wanted_of_all}
 use Rattle.conn_serve.specs.Moments.{Beside, with_seen}
 use Rattle.conn_serve.specs.Served.{ServedOver}
 use Rattle.conn_serve.specs.Opening.{opened_state}
-use Rattle.life_laws.specs.Plans.{plan_in, PlansMade, KeepsPlans, LosesNext}
+use Rattle.life_laws.specs.Plans.{plan_in, PlansMade, Senders, plans_at, KeepsSenders}
 
 -- What a life is served over: whether the outbox's disk tells its content; links, as the contracts of its dialer have them; and what its clock
 -- gave last before and behind it
@@ -43,13 +49,6 @@ pub record SomePass (made : ℕ) (P : Part → Type 0) (known : ℕ → Part) : 
   pub inside : In made number
   pub is : P (known number)
 
--- the refusals of a sender, and of the Finish
-abbrev pub IsOfSender : ServeFault → Type 0
-IsOfSender faults.Journal = ⊤
-IsOfSender (faults.Full entries bytes) = ⊤
-IsOfSender faults.Memory = ⊤
-IsOfSender _ = ⊥
-
 -- a pass has seen the mark
 abbrev pub SeesMark : Part → Type 0
 SeesMark p = p.seen.finished ≡ true
@@ -58,16 +57,12 @@ SeesMark p = p.seen.finished ≡ true
 abbrev pub SeesFailure : Part → Type 0
 SeesFailure p = HasFailed p.opening.faults p.faults
 
--- an entry is among these
-abbrev pub IsAmong : List Entry → Entry → Type 0
-IsAmong entries e = (place : ℕ) × (slice_get entries place ≡ Some e)
-
 -- Behind the opening history a message of a pass was refused, at one that is at a limit: the next of its plan behind the entries that it made,
 -- all of which that history has
 pub record MetFull (plans : List (List (List ℕ))) (entries bytes : ℕ) (p : Part) : Type 0 where
   pub payload : List ℕ
   pub next : slice_get (plan_in plans p.number []) (length p.mine) ≡ Some payload
-  pub seen_all : AllByRecursion (IsAmong p.seen.made) p.mine
+  pub seen_all : SeesOwn p
   pub behind : BeginsHistory p.opening.history p.seen
   pub full : IsFullAt p.opening.limits p.seen (next_entry p.seen p.number payload) entries bytes
 
@@ -82,6 +77,13 @@ pub record WasFull (limits : Limits) (plans : List (List (List ℕ))) (opening c
   pub next : slice_get (plan_in plans sender []) (length (entries_of history.made sender)) ≡ Some payload
   pub last : entries_of closing.made sender ≡ entries_of history.made sender
   pub full : IsFullAt limits history (next_entry history sender payload) entries bytes
+
+-- a life of the session model over these journals: the outbox has come from one history to another, and these records may be behind it; and the inbox
+-- gained these
+pub record IsLifeOver (opening closing : History) (lost : List OutboxRecord) (inbox adds : List InboxRecord) (life : Life) : Type 0 where
+  pub outbox : (life.opening_outbox ≡ outbox_of opening) × (life.closing_outbox ≡ outbox_of closing)
+  pub refused : life.refused_outbox ≡ lost
+  pub inbox_is : (life.served.opening_inbox ≡ inbox) × (life.served.closing_inbox ≡ inbox ++ adds)
 
 module _ {J : Type 0} {G : Ghosts J} where
   -- a call of the disk of the inbox failed, or one had failed before
@@ -118,9 +120,10 @@ module _ {J : Type 0} {G : Ghosts J} {O : Type 0} {H : Ghosts O} where
   BlamesBoxes box box' outbox outbox' =
       HasRisen (inboxes.faults_of box) (inboxes.faults_of box') ⊎ HasRisen (outboxes.faults_of outbox) (outboxes.faults_of outbox')
 
-  -- a life was served and its plans submitted, once the outbox is out of the gate again: that was opened on one history and closed on
-  -- another, which keeps the plans, and behind which a stop may leave what was lost with a failed call of its disk
-  pub record LivedBoxes {L : Type 0} (over : Clocked L) (config : EndConfig) (plans : List (List (List ℕ))) (old new : Beside J G) (outbox outbox' : Outbox O H)
+  -- A life was served and its senders submitted, once the outbox is out of the gate again: that was opened on one history and closed on another, behind
+  -- which a stop may leave what was lost with a failed call of its disk; with all of that it is one history, in order. Whatever the inbox held, what the
+  -- senders were to send is kept; of those that look at what is applied this is so where the inbox's disk tells its content
+  pub record LivedBoxes {L : Type 0} (over : Clocked L) (config : EndConfig) (senders : Senders) (old new : Beside J G) (outbox outbox' : Outbox O H)
       (result : Result (Unit {0}) ServeFault) : Type 0 where
     pub opening : History
     pub closing : History
@@ -131,19 +134,35 @@ module _ {J : Type 0} {G : Ghosts J} {O : Type 0} {H : Ghosts O} where
     pub opened : ∥ outboxes.HoldsBox outbox opening [] ∥₁
     pub lost : List OutboxRecord
     pub holds : ∥ outboxes.HoldsBox outbox' closing lost ∥₁
-    pub loses : LosesNext plans opening closing lost
-    pub whole : outboxes.is_broken outbox' ≡ false → lost ≡ []
+    pub unlost : outboxes.is_broken outbox' ≡ false → lost ≡ []
     pub broken : outboxes.is_broken outbox' ≡ true → HasRisen (outboxes.faults_of outbox) (outboxes.faults_of outbox')
-    pub plans_kept : KeepsPlans plans opening closing
+    pub grows : BeginsHistory opening closing
     pub begins : BeginsHistory seen closing
+    pub whole : History
+    pub goes_on : outbox_of closing ++ lost ≡ outbox_of whole
+    pub in_order : InOrder whole.made
     pub served : ServedOver over.tells over.links over.before over.behind (with_seen old opening) (with_seen new seen)
         (fresh config (opened_state opening old.box) (2 ^ 26)) connections
+    pub planned : (i : List InboxRecord) → inboxes.HoldsBox old.box i [] → (senders.waits ≡ true → G.tells)
+        → KeepsSenders senders opening closing whole lost i (i ++ adds_of (all_of served.life.ended served.life.given_up))
+    pub keeps : (i : List InboxRecord) → inboxes.HoldsBox old.box i [] → G.tells → (life : Life)
+        → IsLifeOver opening closing lost i (adds_of (all_of served.life.ended served.life.given_up)) life → KeepsOutbox senders.plan life
     pub limits : inboxes.limits_of new.box ≡ inboxes.limits_of old.box
     pub answer : result ≡ answer_of connections refused
     pub refusal : IfSome refused IsOfSender
-    pub marked : IsUnrefused result → 0 < length plans → closing.finished ≡ true
-    pub journal : result ≡ Err faults.Journal → BlamesBoxes old.box new.box outbox outbox'
+    pub marked : IsUnrefused result → 0 < senders.count → (i : List InboxRecord) → inboxes.HoldsBox old.box i []
+        → (senders.waits ≡ true → has_peer_finished (i ++ adds_of (all_of served.life.ended served.life.given_up)) ≡ true) → closing.finished ≡ true
+    pub none : senders.count ≡ 0 → closing.finished ≡ opening.finished
+    pub journal : result ≡ Err faults.Journal → BlamesBoxes old.box new.box outbox outbox' ⊎ ((senders.waits ≡ true) × (G.tells → ⊥))
     pub changed : (at : ℕ) → result ≡ Err (faults.Changed at) → (at < length seen.made) × (over.tells → ⊥)
     pub full : (entries bytes : ℕ) → result ≡ Err (faults.Full entries bytes)
         → FillsInbox new.box (wanted_of_all (option_to_list served.life.given_up)) entries bytes
-        ⊎ WasFull (record { entries = (outboxes.limits_of outbox).entries; bytes = (outboxes.limits_of outbox).bytes }) plans opening closing entries bytes
+        ⊎ ((i : List InboxRecord) (held : inboxes.HoldsBox old.box i []) (looks : senders.waits ≡ true → G.tells)
+        → WasFull (record { entries = (outboxes.limits_of outbox).entries; bytes = (outboxes.limits_of outbox).bytes })
+        (plans_at senders (planned i held looks).answered) opening closing entries bytes)
+
+  -- once a gate is closed with these passes, whatever outbox it was opened on, if that was not broken, it was lived over the boxes
+  abbrev pub LivesOnceClosed : {L : Type 0} → Clocked L → EndConfig → Senders → (old new : Beside J G) → Gate O H → Passes (Kept O H) → Result (Unit {0}) ServeFault → Type 0
+  LivesOnceClosed over config senders old new gate passes result =
+      (outbox closed : Outbox O H) → OpensOn gate outbox → outboxes.is_broken outbox ≡ false → ClosedWith gate passes closed → outboxes.front_of closed < 2 ^ 40
+      → LivedBoxes over config senders old new outbox closed result

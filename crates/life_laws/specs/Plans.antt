@@ -1,7 +1,8 @@
 -- What the passes of a gate know of the plans of its senders, and what an outbox keeps of them (this project's profile).
-use Rattle.std.specs.Prelude.{◌≡◌, ◌≢◌, ◌⊎◌, ℕ, zero, suc, ◌+◌, ◌<◌, ◌≤◌, true, false, List, [], ◌∷◌, ◌++◌, length, take, drop, slice_index_or}
+use Rattle.std.specs.Prelude.{◌≡◌, ◌≢◌, ◌⊎◌, ℕ, zero, suc, ◌+◌, ◌<◌, ◌≤◌, Bool, true, false, List, [], ◌∷◌, ◌++◌, map, length, take, drop, slice_index_or}
 use mathlib.Core.List.{IsPrefix}
-use Rattle.session_model.specs.Journal.{Entry, History, OutboxRecord, finish, BeginsHistory, InOrder, entries_of}
+use Rattle.session_model.specs.Journal.{Entry, History, OutboxRecord, finish, BeginsHistory, InOrder, counts_from, entries_of}
+use Rattle.session_model.specs.Inbox.{InboxRecord, has_peer_finished}
 use Rattle.session_model.specs.Plans.{sent_by, Continues, Completes}
 use Rattle.jr_boxes.specs.Outboxes.{outbox_of}
 use Rattle.jr_kept.specs.Entries.{entries_made}
@@ -10,6 +11,7 @@ use Rattle.gate_turn.specs.Rule.{In}
 use Rattle.gate_senders.specs.Kept.{next_entries}
 use Rattle.gate_senders.specs.Shown.{entries_after}
 use Rattle.gate_plans.specs.Sent.{entries_behind}
+use Rattle.conn_serve.specs.Answering.{messages_of}
 
 -- the plan of each sender, whatever was applied: that of sender s is the s-th of these, and no other has one
 abbrev pub plan_in : List (List (List ℕ)) → ℕ → List (List ℕ) → List (List ℕ)
@@ -93,3 +95,27 @@ pub record GoesOnBy (plans : List (List (List ℕ))) (opening closing : History)
 -- it does with each beginning of what was lost
 abbrev pub GoesOnWith : List (List (List ℕ)) → (opening closing : History) → List OutboxRecord → Type 0
 GoesOnWith plans opening closing lost = (kept : List OutboxRecord) → IsPrefix kept lost → GoesOnBy plans opening closing kept
+
+-- The senders of an end: how many, the plan of each over the messages that the end applied, and whether their mark waits for the peer's finish
+pub record Senders : Type 0 where
+  pub count : ℕ
+  pub plan : ℕ → List (List ℕ) → List (List ℕ)
+  pub waits : Bool
+
+-- those that submit these plans, whatever is applied
+abbrev pub submitting : List (List (List ℕ)) → Senders
+submitting plans = record { count = length plans; plan = plan_in plans; waits = false }
+
+-- their plans over what these records apply, in their order
+abbrev pub plans_at : Senders → List InboxRecord → List (List (List ℕ))
+plans_at senders inbox = map (λ (n : ℕ). senders.plan n (messages_of inbox)) (counts_from 1 senders.count)
+
+-- An outbox kept the plans of its senders, over what its inbox applied up to a list between these: `whole` is its closing history with all that was
+-- lost behind it. A mark that waits for the peer's finish was added, or lost, where that list has it
+pub record KeepsSenders (senders : Senders) (opening closing whole : History) (lost : List OutboxRecord) (i j : List InboxRecord) : Type 0 where
+  pub answered : List InboxRecord
+  pub opened : IsPrefix i answered
+  pub reached : IsPrefix answered j
+  pub loses : LosesNext (plans_at senders answered) opening closing lost
+  pub keeps : KeepsPlans (plans_at senders answered) opening whole
+  pub waited : senders.waits ≡ true → opening.finished ≡ false → whole.finished ≡ true → has_peer_finished answered ≡ true
