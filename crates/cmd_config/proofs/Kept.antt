@@ -1,5 +1,5 @@
 -- What was checked on the way holds of the configuration that is read.
-use Rattle.std.proofs.Common.{◌≡◌, ℕ, ◌^◌, Bool, true, false, ◌==◌, ◌&&◌, ◌||◌, not, is_some, IfOk, List, [], Result, Ok, Err, codes, refl, sym, subst}
+use Rattle.std.proofs.Common.{◌≡◌, ℕ, ◌^◌, Bool, true, false, ◌==◌, ◌&&◌, ◌||◌, not, is_some, if◌then◌else◌, IfOk, List, [], Result, Ok, Err, codes, refl, sym, subst}
 use Rattle.toml.specs.Data.{Data, get}
 use Rattle.fixp_msgs.specs.declared.flow.Flow.{Flow}
 use Rattle.toml_walk.specs.declared.fault.TomlFault.{TomlFault}
@@ -11,7 +11,7 @@ use Rattle.cmd_config.specs.declared.configuration.Configuration.{Configuration}
 use Rattle.std.proofs.lemmas.Bool.{false≢true}
 use Rattle.toml_walk.specs.Keys.{required, get_or_default, deny_unknown_keys}
 use Rattle.toml_walk.specs.Values.{natural_of}
-use Rattle.cmd_config.specs.Settings.{session_of, flow_of, credentials_of, known_keys, ensure_in_range, allows_client, allows_server, allows_senders, allows_desks, desks_are_built, role_of, own_flow, is_none, is_accept, link_of, trade_of, version_of, configuration_of}
+use Rattle.cmd_config.specs.Settings.{session_of, flow_of, credentials_of, known_keys, ensure_in_range, allows_client, allows_server, allows_senders, allows_desks, allows_book, role_of, own_flow, is_none, is_accept, link_of, trade_of, version_of, book_of, switch_of, configuration_of}
 use Rattle.cmd_config.specs.Laws.{KeepsRole, ConfigurationsKeepTheRole}
 
 -- a check that passed, and what stands behind it
@@ -60,25 +60,24 @@ link_kept purpose keys link e =
 
 -- ---- senders and desks
 
-weaker : (a built b c d : Bool) → (a || (built && (b && (c && d)))) ≡ true → (a || (built && (b && (true && d)))) ≡ true
-weaker true built b c d e = refl
-weaker false false b c d e = absurd (false≢true e)
-weaker false true true true d e = e
-weaker false true true false d e = absurd (false≢true e)
-weaker false true false c d e = e
+weaker : (a b c d : Bool) → (a || (b && (c && d))) ≡ true → (a || (b && (true && d))) ≡ true
+weaker true b c d e = refl
+weaker false true true d e = e
+weaker false true false d e = absurd (false≢true e)
+weaker false false c d e = e
 
 abbrev TradeKept : Purpose → Flow → Flow → Trade → Type 0
 TradeKept purpose client server trade = (allows_senders (own_flow (role_of purpose) client server) trade.senders ≡ true) × (allows_desks purpose server false trade.desks ≡ true)
 
 abbrev trade_end : ℕ → ℕ → Read ℕ → Read ℕ → Read Trade
 trade_end senders desks version reference =
-    version >>= λ order_version. reference >>= λ price. Ok (record { senders = senders; desks = desks; order_version = order_version; reference = price })
+    version >>= λ order_version. reference >>= λ price. Ok (record { senders = senders; desks = desks; order_version = order_version; reference = price; book = false })
 
 trade_end_kept : (purpose : Purpose) (client server : Flow) (senders desks : ℕ) (version reference : Read ℕ) (trade : Trade) → allows_senders (own_flow (role_of purpose) client server) senders ≡ true → allows_desks purpose server false desks ≡ true → trade_end senders desks version reference ≡ Ok trade → TradeKept purpose client server trade
 trade_end_kept purpose client server senders desks (Err fault) reference trade s d e = absurd cc
 trade_end_kept purpose client server senders desks (Ok number) (Err fault) trade s d e = absurd cc
 trade_end_kept purpose client server senders desks (Ok number) (Ok price) trade s d e =
-    let built : Trade = record { senders = senders; desks = desks; order_version = number; reference = price } in
+    let built : Trade = record { senders = senders; desks = desks; order_version = number; reference = price; book = false } in
     let same : built ≡ trade = cc in
     subst (TradeKept purpose client server) same (s, d)
 
@@ -91,28 +90,55 @@ trade_by purpose client server has_senders_key (Ok count) (Err fault) version re
 trade_by purpose client server has_senders_key (Ok count) (Ok more) version reference trade e =
     let one = met (codes "senders") (allows_senders (own_flow (role_of purpose) client server) count) (ensure_in_range (codes "desks") (allows_desks purpose server has_senders_key more) >>= λ _. trade_end count more version reference) trade e in
     let two = met (codes "desks") (allows_desks purpose server has_senders_key more) (trade_end count more version reference) trade one.1 in
-    trade_end_kept purpose client server count more version reference trade one.0 (weaker (more == 0) desks_are_built (is_accept purpose) (not has_senders_key) (not (is_none server)) two.0) two.1
+    trade_end_kept purpose client server count more version reference trade one.0 (weaker (more == 0) (is_accept purpose) (not has_senders_key) (not (is_none server)) two.0) two.1
 
 trade_kept : (purpose : Purpose) (client server : Flow) (keys : Data) (trade : Trade) → trade_of purpose client server keys ≡ Ok trade → TradeKept purpose client server trade
 trade_kept purpose client server keys trade e =
     trade_by purpose client server (is_some (get (codes "senders") keys)) (get_or_default (codes "senders") 1 (natural_of 0 16) keys) (get_or_default (codes "desks") 0 (natural_of 0 16) keys) (get_or_default (codes "order_version") 1 (natural_of 1 2) keys) (get_or_default (codes "reference") 1000000 (natural_of 1 (10 ^ 15)) keys) trade e
 
--- ---- both
+-- ---- the book
 
-trade_ok : (purpose : Purpose) (keys : Data) (link : Link) (trade : Read Trade) (version : Read ℕ) (last : Read (Unit {0})) (c : Configuration) → link_of purpose keys ≡ Ok link → trade ≡ trade_of purpose link.client_flow link.server_flow keys → (trade >>= λ t. version >>= λ v. last >>= λ _. Ok (record { link = record link { version = v }; trade = t })) ≡ Ok c → KeepsRole purpose c
-trade_ok purpose keys link (Err fault) version last c l is e = absurd cc
-trade_ok purpose keys link (Ok trade) (Err fault) last c l is e = absurd cc
-trade_ok purpose keys link (Ok trade) (Ok version) (Err fault) c l is e = absurd cc
-trade_ok purpose keys link (Ok trade) (Ok version) (Ok done) c l is e =
-    let built : Configuration = record { link = record link { version = version }; trade = trade } in
+book_checked : (desks : ℕ) (given : Read Bool) (book : Bool) → (given >>= λ b. ensure_in_range (codes "book") (allows_book desks b) >>= λ _. Ok b) ≡ Ok book → allows_book desks book ≡ true
+book_checked desks (Err fault) book e = absurd cc
+book_checked desks (Ok asked) book e =
+    let one = met (codes "book") (allows_book desks asked) (Ok asked) book e in
+    let same : asked ≡ book = cc in
+    subst (λ (b : Bool). allows_book desks b ≡ true) same one.0
+
+book_by : (is_known : Bool) (desks : ℕ) (given : Read Bool) (book : Bool)
+    → (if is_known then (given >>= λ b. ensure_in_range (codes "book") (allows_book desks b) >>= λ _. Ok b) else Ok false) ≡ Ok book → allows_book desks book ≡ true
+book_by true desks given book e = book_checked desks given book e
+book_by false desks given true e = absurd cc
+book_by false desks given false e = refl
+
+book_kept : (purpose : Purpose) (desks : ℕ) (keys : Data) (book : Bool) → book_of purpose desks keys ≡ Ok book → allows_book desks book ≡ true
+book_kept purpose desks keys book e = book_by (is_accept purpose) desks (get_or_default (codes "book") false switch_of keys) book e
+
+-- ---- all
+
+all_ok : (purpose : Purpose) (keys : Data) (link : Link) (trade : Trade) (version : Read ℕ) (book : Read Bool) (last : Read (Unit {0})) (c : Configuration)
+    → link_of purpose keys ≡ Ok link → trade_of purpose link.client_flow link.server_flow keys ≡ Ok trade → book ≡ book_of purpose trade.desks keys
+    → (version >>= λ v. book >>= λ b. last >>= λ _. Ok (record { link = record link { version = v }; trade = record trade { book = b } })) ≡ Ok c → KeepsRole purpose c
+all_ok purpose keys link trade (Err fault) book last c l t b e = absurd cc
+all_ok purpose keys link trade (Ok version) (Err fault) last c l t b e = absurd cc
+all_ok purpose keys link trade (Ok version) (Ok book) (Err fault) c l t b e = absurd cc
+all_ok purpose keys link trade (Ok version) (Ok book) (Ok done) c l t b e =
+    let built : Configuration = record { link = record link { version = version }; trade = record trade { book = book } } in
     let same : built ≡ c = cc in
     let one = link_kept purpose keys link l in
-    let two = trade_kept purpose link.client_flow link.server_flow keys trade (sym is) in
-    subst (KeepsRole purpose) same (record { client = one.0; server = one.1; senders = two.0; desks = two.1 })
+    let two = trade_kept purpose link.client_flow link.server_flow keys trade t in
+    let three = book_kept purpose trade.desks keys book (sym b) in
+    subst (KeepsRole purpose) same (record { client = one.0; server = one.1; senders = two.0; desks = two.1; book = three })
 
-both_ok : (purpose : Purpose) (keys : Data) (link : Read Link) (c : Configuration) → link_of purpose keys ≡ link → (link >>= λ l. trade_of purpose l.client_flow l.server_flow keys >>= λ t. version_of keys >>= λ v. deny_unknown_keys known_keys keys >>= λ _. Ok (record { link = record l { version = v }; trade = t })) ≡ Ok c → KeepsRole purpose c
+trade_ok : (purpose : Purpose) (keys : Data) (link : Link) (trade : Read Trade) (c : Configuration) → link_of purpose keys ≡ Ok link → trade_of purpose link.client_flow link.server_flow keys ≡ trade
+    → (trade >>= λ t. version_of keys >>= λ v. book_of purpose t.desks keys >>= λ b. deny_unknown_keys (known_keys purpose) keys >>= λ _. Ok (record { link = record link { version = v }; trade = record t { book = b } })) ≡ Ok c → KeepsRole purpose c
+trade_ok purpose keys link (Err fault) c l t e = absurd cc
+trade_ok purpose keys link (Ok trade) c l t e = all_ok purpose keys link trade (version_of keys) (book_of purpose trade.desks keys) (deny_unknown_keys (known_keys purpose) keys) c l t refl e
+
+both_ok : (purpose : Purpose) (keys : Data) (link : Read Link) (c : Configuration) → link_of purpose keys ≡ link
+    → (link >>= λ l. trade_of purpose l.client_flow l.server_flow keys >>= λ t. version_of keys >>= λ v. book_of purpose t.desks keys >>= λ b. deny_unknown_keys (known_keys purpose) keys >>= λ _. Ok (record { link = record l { version = v }; trade = record t { book = b } })) ≡ Ok c → KeepsRole purpose c
 both_ok purpose keys (Err fault) c l e = absurd cc
-both_ok purpose keys (Ok link) c l e = trade_ok purpose keys link (trade_of purpose link.client_flow link.server_flow keys) (version_of keys) (deny_unknown_keys known_keys keys) c l refl e
+both_ok purpose keys (Ok link) c l e = trade_ok purpose keys link (trade_of purpose link.client_flow link.server_flow keys) c l refl e
 
 pub configurations_keep_the_role : ConfigurationsKeepTheRole
 configurations_keep_the_role purpose keys c e = both_ok purpose keys (link_of purpose keys) c refl e

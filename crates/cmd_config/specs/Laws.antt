@@ -10,14 +10,15 @@ use Rattle.toml_walk.specs.declared.fault.TomlFault.TheVariants.{UnknownKey}
 use Rattle.toml_walk.specs.Keys.{is_among, deny_unknown_keys}
 use Rattle.cmd_config.specs.declared.purpose.Purpose.{Purpose}
 use Rattle.cmd_config.specs.declared.configuration.Configuration.{Configuration}
-use Rattle.cmd_config.specs.Settings.{allows_client, allows_server, allows_senders, allows_desks, role_of, own_flow, configuration_of}
+use Rattle.cmd_config.specs.Settings.{allows_client, allows_server, allows_senders, allows_desks, allows_book, role_of, own_flow, configuration_of}
 
--- what the role that a configuration is for asks of the flows, the senders and the desks, said of the values that were read
+-- what the role that a configuration is for asks of the flows, the senders, the desks and the book, said of the values that were read
 pub record KeepsRole (purpose : Purpose) (c : Configuration) : Type 0 where
   pub client : IsTrue (allows_client purpose c.link.client_flow)
   pub server : IsTrue (allows_server purpose c.link.server_flow)
   pub senders : IsTrue (allows_senders (own_flow (role_of purpose) c.link.client_flow c.link.server_flow) c.trade.senders)
   pub desks : IsTrue (allows_desks purpose c.link.server_flow false c.trade.desks)
+  pub book : IsTrue (allows_book c.trade.desks c.trade.book)
 
 -- Each configuration that a table gives for a role, on live connections or over recorded bytes, keeps what the role asks
 abbrev pub ConfigurationsKeepTheRole : Type 0

@@ -1,12 +1,12 @@
 -- The configuration of a session as a TOML table: its keys in the order in which they are visited (this project's profile).
-use Rattle.std.specs.Prelude.{ℕ, ◌^◌, ◌==◌, ◌≤◌, Bool, true, false, not, ◌&&◌, ◌||◌, nat_le, if◌then◌else◌, is_some, List, [], ◌∷◌, length, Result, Ok, Err, codes}
+use Rattle.std.specs.Prelude.{ℕ, ◌^◌, ◌==◌, ◌≤◌, Bool, true, false, IsTrue, not, ◌&&◌, ◌||◌, nat_le, if◌then◌else◌, is_some, List, [], ◌∷◌, length, Result, Ok, Err, codes}
 use Rattle.sbe_value.specs.declared.path.Step.TheVariants.{Key}
 use Rattle.uuid.specs.Text.{parsed}
 use Rattle.hex.specs.Hex.{decode_of}
-use Rattle.toml.specs.Data.{Data, get}
+use Rattle.toml.specs.Data.{Data, boolean, get}
 use Rattle.fixp_msgs.specs.declared.flow.Flow.{Flow}
 use Rattle.fixp_msgs.specs.declared.flow.Flow.TheVariants as flows
-use Rattle.toml_walk.specs.declared.fault.TomlFault.TheVariants.{Range}
+use Rattle.toml_walk.specs.declared.fault.TomlFault.TheVariants.{WrongKind, Range}
 use Rattle.toml_walk.specs.Reading.{Read, ◌>>=◌}
 use Rattle.toml_walk.specs.Documents.{document_of}
 use Rattle.toml_walk.specs.Keys.{required, get_or_default, deny_unknown_keys}
@@ -41,6 +41,11 @@ short_bytes (Err error) = Err (Range [])
 
 abbrev pub credentials_of : Data → Read (List ℕ)
 credentials_of d = text_of d >>= λ text. short_bytes (decode_of text)
+
+-- true or false
+abbrev pub switch_of : Data → Read Bool
+switch_of (boolean b) = Ok b
+switch_of _ = Err (WrongKind [])
 
 -- ---- what a configuration is for, and what that asks of several keys
 
@@ -95,13 +100,13 @@ abbrev pub peer_flow : Role → Flow → Flow → Flow
 peer_flow Initiator client server = server
 peer_flow Acceptor client server = client
 
--- no command has desks yet, so that no configuration may ask for one
-abbrev pub desks_are_built : Bool
-desks_are_built = false
-
--- once they are built, desks are for `accept` alone, where it sends and the key `senders` is absent
+-- desks are for `accept` alone, where it sends and the key `senders` is absent
 abbrev pub allows_desks : Purpose → Flow → Bool → ℕ → Bool
-allows_desks purpose server has_senders_key desks = desks == 0 || (desks_are_built && (is_accept purpose && (not has_senders_key && not (is_none server))))
+allows_desks purpose server has_senders_key desks = desks == 0 || (is_accept purpose && (not has_senders_key && not (is_none server)))
+
+-- a book is that of one desk
+abbrev pub allows_book : ℕ → Bool → Bool
+allows_book desks book = not book || desks == 1
 
 -- ---- the keys
 
@@ -117,7 +122,7 @@ link_of purpose keys =
     get_or_default (codes "credentials") [] credentials_of keys >>= λ credentials.
     Ok (record { session = session; keepalive = keepalive; client_flow = client; server_flow = server; credentials = credentials; version = 1 })
 
--- {.., senders?, desks?, order_version?, reference?}
+-- {.., senders?, desks?, order_version?, reference?, ..}; without a book, whose key comes last
 abbrev pub trade_of : Purpose → Flow → Flow → Data → Read Trade
 trade_of purpose client server keys =
     get_or_default (codes "senders") 1 (natural_of 0 16) keys >>= λ senders.
@@ -126,24 +131,37 @@ trade_of purpose client server keys =
     ensure_in_range (codes "desks") (allows_desks purpose server (is_some (get (codes "senders") keys)) desks) >>= λ _.
     get_or_default (codes "order_version") 1 (natural_of 1 2) keys >>= λ order_version.
     get_or_default (codes "reference") 1000000 (natural_of 1 (10 ^ 15)) keys >>= λ reference.
-    Ok (record { senders = senders; desks = desks; order_version = order_version; reference = reference })
+    Ok (record { senders = senders; desks = desks; order_version = order_version; reference = reference; book = false })
 
--- {.., session_version?}
+-- {.., session_version?, ..}
 abbrev pub version_of : Data → Read ℕ
 version_of keys = get_or_default (codes "session_version") 1 (natural_of 0 1) keys
 
-abbrev pub known_keys : List (List ℕ)
-known_keys = codes "session" ∷ codes "keepalive" ∷ codes "client_flow" ∷ codes "server_flow" ∷ codes "credentials" ∷ codes "senders" ∷ codes "desks"
-    ∷ codes "order_version" ∷ codes "reference" ∷ codes "session_version" ∷ []
+-- {.., book?} of `accept`; nothing else keeps a book
+abbrev pub book_of : Purpose → ℕ → Data → Read Bool
+book_of purpose desks keys =
+    if is_accept purpose
+    then (get_or_default (codes "book") false switch_of keys >>= λ book. ensure_in_range (codes "book") (allows_book desks book) >>= λ _. Ok book)
+    else Ok false
 
--- all ten values
+-- the keys of a configuration, with that of a book or without it
+abbrev pub keys_with : (book : Bool) → List (List ℕ)
+keys_with book = codes "session" ∷ codes "keepalive" ∷ codes "client_flow" ∷ codes "server_flow" ∷ codes "credentials" ∷ codes "senders" ∷ codes "desks"
+    ∷ codes "order_version" ∷ codes "reference" ∷ codes "session_version" ∷ (if book then codes "book" ∷ [] else [])
+
+-- that of a book is known to `accept` alone
+abbrev pub known_keys : Purpose → List (List ℕ)
+known_keys purpose = keys_with (is_accept purpose)
+
+-- all values
 abbrev pub configuration_of : Purpose → Data → Read Configuration
 configuration_of purpose keys =
     link_of purpose keys >>= λ link.
     trade_of purpose link.client_flow link.server_flow keys >>= λ trade.
     version_of keys >>= λ version.
-    deny_unknown_keys known_keys keys >>= λ _.
-    Ok (record { link = record link { version = version }; trade = trade })
+    book_of purpose trade.desks keys >>= λ book.
+    deny_unknown_keys (known_keys purpose) keys >>= λ _.
+    Ok (record { link = record link { version = version }; trade = record trade { book = book } })
 
 abbrev pub configuration_of_document : Purpose → List ℕ → Read Configuration
 configuration_of_document purpose text = document_of text >>= configuration_of purpose
@@ -171,12 +189,13 @@ pub record IsLinkInRange (l : Link) : Type 0 where
   pub credentials : length l.credentials ≤ 2048
   pub version : l.version ≤ 1
 
--- the keys of senders, desks and orders
+-- the keys of senders, desks and orders, and of a book, which is that of one desk
 pub record IsTradeInRange (t : Trade) : Type 0 where
   pub senders : t.senders ≤ 16
   pub desks : t.desks ≤ 16
   pub order_version : (1 ≤ t.order_version) × (t.order_version ≤ 2)
   pub reference : (1 ≤ t.reference) × (t.reference ≤ 10 ^ 15)
+  pub book : IsTrue (allows_book t.desks t.book)
 
 -- all keys of a configuration
 pub record IsConfigurationInRange (c : Configuration) : Type 0 where

@@ -1,21 +1,19 @@
-//! The configuration of a session for a purpose: ten keys, with what the purpose asks
+//! The configuration of a session for a purpose: its keys, with what the purpose asks
 //! of several of them.
 
-ghost use Rattle.std.specs.Prelude.{◌≡◌, ◌<◌, ◌≤◌, codes, [], length, IfOk, Err};
-ghost use Rattle.toml_walk.specs.Keys.{get_or_default};
+ghost use Rattle.std.specs.Prelude.{◌≡◌, ◌<◌, ◌≤◌, true, IsTrue, codes, [], length, IfOk, Err};
+ghost use Rattle.toml_walk.specs.Keys.{get_or_default, deny_unknown_keys};
 ghost use Rattle.toml.specs.View.{view};
 ghost use Rattle.toml_walk.specs.Reading.{Reads};
 ghost use Rattle.schema_toml.specs.Faults.{Tells, text_limit};
 ghost use Rattle.cmd_config.specs.Laws.{KeepsRole};
-ghost use Rattle.cmd_config.specs.Settings.{IsLinkInRange, IsTradeInRange, allows_desks, allows_senders, configuration_of, configuration_of_document, configuration_of_text, credentials_of, ensure_in_range, link_of, trade_of, version_of};
+ghost use Rattle.cmd_config.specs.Settings.{IsLinkInRange, IsTradeInRange, allows_book, allows_desks, allows_senders, book_of, configuration_of, configuration_of_document, configuration_of_text, credentials_of, ensure_in_range, known_keys, link_of, trade_of, version_of};
 
-use crate::limits::{
-    DESKS, DESKS_ARE_BUILT, KEEPALIVE, ORDER_VERSION, REFERENCE, SENDERS, SESSION_VERSION,
-};
+use crate::limits::{DESKS, KEEPALIVE, ORDER_VERSION, REFERENCE, SENDERS, SESSION_VERSION};
 use crate::purpose::{
     Purpose, allows_client, allows_server, is_accept, is_none, own_flow, role_of,
 };
-use crate::readers::{Credentials, Flows, Sessions};
+use crate::readers::{Credentials, Flows, Sessions, Switches};
 use fixp_msgs::Flow;
 use sbe_value::Bytes;
 use schema_toml::{ConfigFault, TEXT_LIMIT};
@@ -54,9 +52,11 @@ pub struct Trade {
     pub order_version: u8,
     /// The mantissa of the reference price, 1 to 10^15.
     pub reference: u64,
+    /// Whether the one desk keeps a book of orders in place of the reference price.
+    pub book: bool,
 }
 
-/// A configuration: the values of all ten keys.
+/// A configuration: the values of all its keys.
 #[derive(Debug, Drop)]
 pub struct Configuration {
     /// The session, its flows and credentials.
@@ -70,7 +70,8 @@ pub struct Configuration {
 /// # Errors
 /// `Range` at that key where it is not met.
 fn ensure_in_range(alloc: Global, key: &str, holds: bool) -> Result<(), TomlFault>
-    ensures { Reads result (ensure_in_range key.now holds) }
+    ensures value { Reads result (ensure_in_range key.now holds) }
+    ensures met { IfOk result (λ _. holds ≡ true) }
 {
     if holds {
         Ok(())
@@ -94,7 +95,14 @@ fn allows_senders(own: Flow, senders: u64) -> bool
 fn allows_desks(purpose: Purpose, server: Flow, has_senders_key: bool, desks: u64) -> bool
     ensures { result ≡ allows_desks purpose server has_senders_key desks }
 {
-    desks == 0 || (DESKS_ARE_BUILT && is_accept(purpose) && !has_senders_key && !is_none(server))
+    desks == 0 || (is_accept(purpose) && !has_senders_key && !is_none(server))
+}
+
+/// Whether so many desks may keep a book, where one is asked for.
+fn allows_book(desks: u8, book: bool) -> bool
+    ensures { result ≡ allows_book desks book }
+{
+    !book || desks == 1
 }
 
 /// The credentials, none where the key is absent.
@@ -134,7 +142,7 @@ fn read_link(alloc: Global, purpose: Purpose, keys: &Value) -> Result<Link, Toml
     })
 }
 
-/// The keys of senders, desks and orders.
+/// The keys of senders, desks and orders but that of a book.
 fn read_trade(
     alloc: Global,
     purpose: Purpose,
@@ -176,6 +184,7 @@ fn read_trade(
         desks: desks as u8,
         order_version: order_version as u8,
         reference,
+        book: false,
     })
 }
 
@@ -217,6 +226,61 @@ fn read_version(alloc: Global, keys: &Value) -> Result<u16, TomlFault>
     Ok(version as u16)
 }
 
+/// Whether a book is kept, false where the key is absent or not known.
+fn read_book(alloc: Global, purpose: Purpose, desks: u8, keys: &Value) -> Result<bool, TomlFault>
+    ensures value { Reads result (book_of purpose desks (view keys.now)) }
+    ensures range { IfOk result (λ book. IsTrue (allows_book desks book)) }
+{
+    if !is_accept(purpose) {
+        return Ok(false);
+    }
+    let book = get_or_default::<Switches>(alloc, (), keys, "book", false)?;
+    ensure_in_range(alloc, "book", allows_book(desks, book))?;
+    Ok(book)
+}
+
+/// Refuses what is no key of a configuration for this purpose; that of a book is known to `accept` alone.
+fn deny_others(alloc: Global, purpose: Purpose, keys: &Value) -> Result<(), TomlFault>
+    ensures { Reads result (deny_unknown_keys (known_keys purpose) (view keys.now)) }
+{
+    if is_accept(purpose) {
+        deny_unknown_keys(
+            alloc,
+            keys,
+            &[
+                "session",
+                "keepalive",
+                "client_flow",
+                "server_flow",
+                "credentials",
+                "senders",
+                "desks",
+                "order_version",
+                "reference",
+                "session_version",
+                "book",
+            ],
+        )
+    } else {
+        deny_unknown_keys(
+            alloc,
+            keys,
+            &[
+                "session",
+                "keepalive",
+                "client_flow",
+                "server_flow",
+                "credentials",
+                "senders",
+                "desks",
+                "order_version",
+                "reference",
+                "session_version",
+            ],
+        )
+    }
+}
+
 fn read_table(alloc: Global, purpose: Purpose, keys: &Value) -> Result<Configuration, TomlFault>
     ensures value { Reads result (configuration_of purpose (view keys.now)) }
     ensures link { IfOk result (λ c. IsLinkInRange c.link) }
@@ -225,25 +289,11 @@ fn read_table(alloc: Global, purpose: Purpose, keys: &Value) -> Result<Configura
     let link = read_link(alloc, purpose, keys)?;
     let trade = read_trade(alloc, purpose, link.client_flow, link.server_flow, keys)?;
     let version = read_version(alloc, keys)?;
-    deny_unknown_keys(
-        alloc,
-        keys,
-        &[
-            "session",
-            "keepalive",
-            "client_flow",
-            "server_flow",
-            "credentials",
-            "senders",
-            "desks",
-            "order_version",
-            "reference",
-            "session_version",
-        ],
-    )?;
+    let book = read_book(alloc, purpose, trade.desks, keys)?;
+    deny_others(alloc, purpose, keys)?;
     Ok(Configuration {
         link: with_version(link, version),
-        trade,
+        trade: Trade { book, ..trade },
     })
 }
 

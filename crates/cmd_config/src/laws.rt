@@ -3,8 +3,8 @@
 
 ghost use Rattle.cmd_config.specs.Laws.{ConfigurationsKeepTheRole, UnknownKeyIsLeast};
 
-/// A configuration that is read for a role, on live connections or over recorded bytes, has the flows, the senders and the desks
-/// that the role may have there.
+/// A configuration that is read for a role, on live connections or over recorded bytes, has the flows, the senders, the desks and
+/// the book that the role may have there.
 pub fn configurations_keep_the_role()
     ensures law { ConfigurationsKeepTheRole }
 {}

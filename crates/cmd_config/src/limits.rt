@@ -25,9 +25,6 @@ pub const DESKS: Range = Range {
     greatest: 16,
 };
 
-/// Whether desks are built. Until then no configuration may ask for one.
-pub(crate) const DESKS_ARE_BUILT: bool = false;
-
 /// The version of the order schema.
 pub const ORDER_VERSION: Range = Range {
     least: 1,

@@ -16,6 +16,8 @@ pub enum Admitted {
     Number(Range),
     /// One of some words.
     Words(&'static [&'static str]),
+    /// True or false.
+    Switch,
     /// What these words say.
     Other(&'static str),
 }
@@ -63,6 +65,10 @@ const SETTINGS: &[Row] = &[
     Row {
         keys: &["session_version"],
         admitted: Admitted::Number(SESSION_VERSION),
+    },
+    Row {
+        keys: &["book"],
+        admitted: Admitted::Switch,
     },
 ];
 
@@ -245,11 +251,31 @@ fn asked_by_answer(key: &str) -> Option<Asked> {
     }
 }
 
-/// What a live command asks of a key on top, at which this is found.
-fn asked_by_live(role: Role, by: &'static str, key: &str, found: Option<&Value>) -> Option<Asked> {
+/// What `accept` asks of a key on top, at which this is found. Where it sends nothing, `senders` has to be there.
+fn asked_by_accept(key: &str, found: Option<&Value>) -> Option<Asked> {
     match key {
-        "senders" => Some(asked_of_senders(role, by, found)),
-        "desks" => Some(always(by, "0", "0")),
+        "senders" => Some(asked_of_senders(Role::Acceptor, "accept", found)),
+        "desks" => Some(Asked {
+            by: "accept",
+            value: "0",
+            condition: " where senders is given",
+            default: "0",
+        }),
+        "book" => Some(Asked {
+            by: "accept",
+            value: "false",
+            condition: " where desks is not 1",
+            default: "false",
+        }),
+        _ => None,
+    }
+}
+
+/// What `connect` asks of a key on top, at which this is found.
+fn asked_by_connect(key: &str, found: Option<&Value>) -> Option<Asked> {
+    match key {
+        "senders" => Some(asked_of_senders(Role::Initiator, "connect", found)),
+        "desks" => Some(always("connect", "0", "0")),
         _ => None,
     }
 }
@@ -258,8 +284,8 @@ fn asked_by_live(role: Role, by: &'static str, key: &str, found: Option<&Value>)
 pub fn asked_by(purpose: Purpose, key: &str, found: Option<&Value>) -> Option<Asked> {
     match purpose {
         Purpose::Recorded => asked_by_answer(key),
-        Purpose::Live(Role::Acceptor) => asked_by_live(Role::Acceptor, "accept", key, found),
-        Purpose::Live(Role::Initiator) => asked_by_live(Role::Initiator, "connect", key, found),
+        Purpose::Live(Role::Acceptor) => asked_by_accept(key, found),
+        Purpose::Live(Role::Initiator) => asked_by_connect(key, found),
     }
 }
 
@@ -329,6 +355,7 @@ impl Admitted {
                 write!(line, "a whole number from {least} to {greatest}")
             }
             Admitted::Words(words) => push_words(line, words),
+            Admitted::Switch => line.push_str("true or false"),
             Admitted::Other(what) => line.push_str(what),
         }
     }
@@ -350,6 +377,7 @@ impl Admitted {
                 range.least as i128 <= *number as i128 && *number as i128 <= range.greatest as i128
             }
             (Admitted::Words(words), Value::String(text)) => { is_one_of(text.as_str(), words) }
+            (Admitted::Switch, Value::Boolean(_)) => true,
             _ => false,
         }
     }
