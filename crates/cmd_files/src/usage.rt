@@ -36,12 +36,13 @@ const ACCEPT: &str = "usage: fixpgw accept ADDRESS N CONFIG INPUT OUTBOX INBOX O
 
 A session as the acceptor, which listens: what INPUT gives is sent, and what the peer sends is taken, over one connection
 after another. On a recoverable flow each message arrives once and in order; on another one what is lost is not sent again.
-Run again with the same journals, it goes on where they stand.
+Run again with the same journals, it goes on where they stand. Where CONFIG has desks or a book, what is sent is what these
+report of the orders that the peer sends, and INPUT is not opened.
 
   ADDRESS  where it listens, as 127.0.0.1:15617
   N        how many connections there may be, 1 to 65535; each counts, also that of a stranger
   CONFIG   the configuration of the session, as TOML (read)
-  INPUT    what the senders send: lines `SENDER HEX` (read)
+  INPUT    what the senders send: lines `SENDER HEX` (read, but not where CONFIG has desks)
   OUTBOX   the journal of what is sent, made by fixpgw format (read and written)
   INBOX    the journal of what is received, likewise
   OUT      a line for each message received and each connection's end (written); - is standard output";

@@ -10,3 +10,5 @@ mod Given
 pub mod Histories
 mod Opening
 mod Later
+pub mod Parted
+pub mod Crossing

@@ -8,10 +8,9 @@ use mathlib.Core.List.{IsPrefix, is_set as List-set}
 use mathlib.Core.Sum.{⊎_set}
 use native.Mathlib.Nat.{ℕ_set}
 use Rattle.gw_outside.specs.Faults.{HasRisen}
-use Rattle.session_model.specs.Journal.{Entry, History, OutboxRecord, entries, InOrder}
+use Rattle.session_model.specs.Journal.{Entry, History, OutboxRecord, entries}
 use Rattle.session_model.specs.Inbox.{InboxRecord}
 use Rattle.session_model.specs.Lives.{KeepsConnections, KeepsOutbox}
-use Rattle.session_model.proofs.Lists.{prefix_self}
 use Rattle.fixp_shake.specs.declared.config.EndConfig.{EndConfig}
 use Rattle.fixp_machine.specs.Machine.{State, fresh}
 use Rattle.fixp_machine.specs.Accepting.{model_flow}
@@ -41,17 +40,16 @@ use Rattle.conn_serve.specs.Opening.{opened_state}
 use Rattle.life_laws.specs.Lives.{LifeOfLoop, served_of}
 use Rattle.life_laws.proofs.Loops.{served_keeps}
 use Rattle.life_laws.proofs.Opened.{opened_opens}
-use Rattle.life_laws.proofs.Seen.{order_prop}
-use Rattle.life_laws.specs.Plans.{plan_in, GoesOnBy, GoesOnWith}
-use Rattle.life_laws.proofs.Lost.{plans_go_on}
+use Rattle.life_laws.specs.Plans.{Senders, submitting, plans_at}
 use Rattle.life_laws.specs.PlanLives.{clocked, LivedBoxes, WasFull, FillsInbox}
 use Rattle.plan_outbox.specs.Behind.{GoesOnFrom}
-use Rattle.life_laws.proofs.Outboxes.{entries-outbox_of, plans_keep_outbox}
+use Rattle.life_laws.proofs.Outboxes.{entries-outbox_of}
 use Rattle.cmd_base.specs.declared.status.Status.{Status}
-use Rattle.cmd_session.specs.Lived.{LeavesImages, FullInbox, limits, OpensInbox, LivedOver, LivedOn, Lived, over_boxes}
-use Rattle.cmd_session.specs.Outsides.{Sees, live_of}
+use Rattle.cmd_session.specs.Lived.{LeavesImages, FullInbox, limits, OpensInbox, LivedOver, BeganNone, HasLived, LeftAll, HasLivedOver, LivedOn, Lived, over_boxes}
+use Rattle.cmd_session.specs.Outsides.{Sees, live_of, heard}
 use Rattle.cmd_session.specs.declared.outside.SessionOutside.{SessionOutside}
 use Rattle.cmd_session.proofs.Histories.{same_history}
+use Rattle.cmd_session.proofs.Verdicts.{at_most_one_verdict}
 use Rattle.cmd_session.proofs.Kept.{left_images, held_kept, inbox_kept}
 use Rattle.cmd_session.proofs.Later.{HoldsTold}
 
@@ -67,11 +65,11 @@ records_prop rs qs = List-set record_set rs qs
 
 module _ {S K D N C J : Type 0} {H : Ghosts J} (outbox : Outbox J H) (sees : Sees S K D N C) (disk_at : J → D) (leaves_are : (j : J) (image : Option (List Dated)) → LeavesDated (sees.may_leave (disk_at j)) image → H.leaves j image)
     (sizes : (j : J) (ds : List Dated) → H.stands j ds → journal_size (undated ds) ≡ H.size j) where
-  module _ (config : EndConfig) (plans : List (List (List ℕ))) (before after : SessionOutside S K D N C) (closed : Outbox J H) (box since : Inbox J H) (result : Result (Unit {0}) ServeFault)
+  module _ (config : EndConfig) (senders : Senders) (before after : SessionOutside S K D N C) (closed : Outbox J H) (box since : Inbox J H) (result : Result (Unit {0}) ServeFault)
       (o : HoldsTold (sees.told before.out_disk) outbox) (i : OpensInbox (sees.told before.in_disk) box) (limit : ((outboxes.limits_of outbox).entries ≡ 2 ^ 26) × ((outboxes.limits_of outbox).bytes ≡ 2 ^ 33))
       (in_limit : (inboxes.limits_of box).bytes ≡ 2 ^ 33) (now_out_is : after.out_disk ≡ disk_at (outboxes.journal_of closed)) (now_in_is : after.in_disk ≡ disk_at (inboxes.journal_of since))
       (out_least : sees.disk before.out_disk ≤ outboxes.faults_of outbox) (in_least : sees.disk before.in_disk ≤ inboxes.faults_of box) (out_count : sees.disk after.out_disk ≡ outboxes.faults_of closed) (in_count : sees.disk after.in_disk ≡ inboxes.faults_of since)
-      (go : ForSome (sees.told before.out_disk) (λ content. (h : History) → outboxes.HoldsBox outbox h [] → GoesOnFrom plans h)) (l : LivedBoxes (clocked H.tells sees.links (sees.last before.clock) (sees.last after.clock)) config plans (beside (sees.carried before.dialer) (sees.taken before.out) box) (beside (sees.carried after.dialer) (sees.taken after.out) since) outbox closed result) where
+      (l : LivedBoxes (clocked H.tells sees.links (sees.last before.clock) (sees.last after.clock)) config senders (beside (sees.carried before.dialer) (sees.taken before.out) box) (beside (sees.carried after.dialer) (sees.taken after.out) since) outbox closed result) where
     abbrev machine : State
     machine = fresh config (opened_state l.opening box) (2 ^ 26)
 
@@ -83,17 +81,12 @@ module _ {S K D N C J : Type 0} {H : Ghosts J} (outbox : Outbox J H) (sees : See
     same_records content is = ∥∥₁_elim l.opened (records_prop (records_of_history o.history) (records_of_history l.opening))
         (λ h. ap (λ (x : History). records_of_history x) (sym (o.one content is l.opening h)))
 
-    -- so the plans go on from it
-    goes_on_from : ForSome (sees.told before.out_disk) (λ content. GoesOnFrom plans l.opening)
-    goes_on_from content is = subst (λ (h : History). GoesOnFrom plans h) (same_history o.history l.opening (same_records content is))
-        (go content is o.history o.holds)
-
     has : Has entries_then l.seen
     has = subst (λ (es : List Entry). Has es l.seen) (sym (entries-outbox_of l.closing)) (record { begins = l.begins.made; few = l.few })
 
     opens : Opens (entries (outbox_of l.opening)) entries_then machine i.inbox
     opens = subst (λ (es : List Entry). Opens es entries_then machine i.inbox) (sym (entries-outbox_of l.opening))
-        (opened_opens box l.opening config (2 ^ 26) entries_then i.inbox (subst (λ (es : List Entry). IsPrefix l.opening.made es) (sym (entries-outbox_of l.closing)) l.plans_kept.begins.made) i.holds)
+        (opened_opens box l.opening config (2 ^ 26) entries_then i.inbox (subst (λ (es : List Entry). IsPrefix l.opening.made es) (sym (entries-outbox_of l.closing)) l.grows.made) i.holds)
 
     life : H.tells → LifeOfLoop (outbox_of l.opening) (outbox_of l.closing) l.lost machine i.inbox (all_of l.served.life.ended l.served.life.given_up) (refused_of_all (option_to_list l.served.life.given_up))
     life t = served_keeps H.tells box (life_at (sees.carried before.dialer) (sees.taken before.out) l.opening box) (life_at (sees.carried after.dialer) (sees.taken after.out) l.seen since) machine l.connections (outbox_of l.opening) (outbox_of l.closing) l.lost i.inbox l.served.life t has opens
@@ -104,22 +97,10 @@ module _ {S K D N C J : Type 0} {H : Ghosts J} (outbox : Outbox J H) (sees : See
         subst (λ (rs : List OutboxRecord). KeepsConnections (model_flow config.own_flow) (model_flow config.peer_flow) (entries rs) (entries k.life.closing_outbox) (served_of k.life)) (sym k.outboxes.0)
         (subst (λ (rs : List OutboxRecord). KeepsConnections (model_flow config.own_flow) (model_flow config.peer_flow) (entries (outbox_of l.opening)) (entries rs) (served_of k.life)) (sym k.outboxes.1) k.keeps)
 
-    order : InOrder l.closing.made
-    order = ∥∥₁_elim l.holds (order_prop l.closing.made) (λ h. h.outbox.in_order)
-
-    -- the closing history goes on with each beginning of what was lost, and so with all of it
-    goes : GoesOnWith plans l.opening l.closing l.lost
-    goes = plans_go_on plans l.opening l.closing l.lost l.plans_kept l.loses
-
-    goes_whole : GoesOnBy plans l.opening l.closing l.lost
-    goes_whole = goes l.lost (prefix_self l.lost)
-
-    outbox_is_kept : (t : H.tells) → KeepsOutbox (plan_in plans) (life_in (machine_life (life t).life))
+    outbox_is_kept : (t : H.tells) → KeepsOutbox senders.plan (life_in (machine_life (life t).life))
     outbox_is_kept t =
         let k = life t in
-        plans_keep_outbox plans l.opening l.closing (life_in (machine_life k.life)) l.plans_kept order
-        (subst (λ (rs : List OutboxRecord). GoesOnWith plans l.opening l.closing rs) (sym k.outboxes.2) goes) k.outboxes.0 k.outboxes.1
-        (_, sym k.keeps.inbox_adds)
+        l.keeps i.inbox i.holds t (life_in (machine_life k.life)) (record { outbox = (k.outboxes.0, k.outboxes.1); refused = k.outboxes.2; inbox_is = (k.inbox.0, k.inbox.1) })
 
     -- what is left of both journals
     out_left : ∥ LeavesImages (sees.may_leave after.out_disk) (records_of_history l.closing) (map record_of l.lost) ∥₁
@@ -129,7 +110,7 @@ module _ {S K D N C J : Type 0} {H : Ghosts J} (outbox : Outbox J H) (sees : See
     out_whole : (HasRisen (sees.disk before.out_disk) (sees.disk after.out_disk) → ⊥) → l.lost ≡ []
     out_whole never = ⊎_elim
         (λ (b : outboxes.is_broken closed ≡ true). absurd (never (risen_over (sees.disk before.out_disk) (sees.disk after.out_disk) (outboxes.faults_of outbox) (outboxes.faults_of closed) out_least (sym out_count) (l.broken b))))
-        l.whole
+        l.unlost
         (cases_Bool (outboxes.is_broken closed))
 
     abbrev list : List InboxRecord
@@ -153,19 +134,21 @@ module _ {S K D N C J : Type 0} {H : Ghosts J} (outbox : Outbox J H) (sees : See
     abbrev wanted : List InboxRecord
     wanted = wanted_of_all (option_to_list l.served.life.given_up)
 
-    full : (entries bytes : ℕ) → FillsInbox since wanted entries bytes ⊎ WasFull (record { entries = (outboxes.limits_of outbox).entries; bytes = (outboxes.limits_of outbox).bytes }) plans l.opening l.closing entries bytes
-        → FullInbox list wanted entries bytes ⊎ WasFull limits plans l.opening l.closing entries bytes
-    full entries bytes (inl f) = inl (record {
+    full_inbox : (entries bytes : ℕ) → FillsInbox since wanted entries bytes → FullInbox list wanted entries bytes
+    full_inbox entries bytes f = record {
       entries_are = f.entries_are ∙ (ap length held.noticed.places ∙ length-places 0 list);
       bytes_are = f.bytes_are ∙ sym (sized since list (refused_of_all (option_to_list l.served.life.given_up)) held);
       past = subst (λ (n : ℕ). IsPast n bytes wanted) (ap (λ (x : JournalLimits). x.bytes) l.limits ∙ in_limit) f.past;
-    })
-    full entries bytes (inr w) =
+    }
+
+    full_outbox : (entries bytes : ℕ) (plans : List (List (List ℕ))) → WasFull (record { entries = (outboxes.limits_of outbox).entries; bytes = (outboxes.limits_of outbox).bytes }) plans l.opening l.closing entries bytes
+        → WasFull limits plans l.opening l.closing entries bytes
+    full_outbox entries bytes plans w =
         let same : (◌≡◌ {A = Limits} (record { entries = (outboxes.limits_of outbox).entries; bytes = (outboxes.limits_of outbox).bytes }) limits) =
         ap (λ (n : ℕ). record { entries = n; bytes = (outboxes.limits_of outbox).bytes }) limit.0 ∙ ap (λ (n : ℕ). record { entries = 2 ^ 26; bytes = n }) limit.1 in
-        inr (subst (λ (x : Limits). WasFull x plans l.opening l.closing entries bytes) same w)
+        subst (λ (x : Limits). WasFull x plans l.opening l.closing entries bytes) same w
 
-    pub lived_over : LivedOver sees config plans before after box since result
+    pub lived_over : LivedOver sees config senders before after box since result
     lived_over = record {
       opening = l.opening;
       closing = l.closing;
@@ -175,19 +158,17 @@ module _ {S K D N C J : Type 0} {H : Ghosts J} (outbox : Outbox J H) (sees : See
       refused = l.refused;
       out_opened = λ content is. subst (λ (rs : List Record). IsJournal content rs) (same_records content is) (o.told content is);
       in_opened = i.told;
-      goes_on_from = goes_on_from;
       holds = i.holds;
       served = l.served;
       answer = l.answer;
       refusal = l.refusal;
       begins = l.begins;
-      grows = l.plans_kept.begins;
+      grows = l.grows;
       lost = l.lost;
-      loses = l.loses;
-      whole = goes_whole.whole;
-      goes_on = goes_whole.goes_on;
-      in_order = goes_whole.in_order order;
-      keeps = goes_whole.keeps;
+      whole = l.whole;
+      goes_on = l.goes_on;
+      in_order = l.in_order;
+      planned = l.planned i.inbox i.holds;
       life = life;
       contract = λ t. record { connections = connections t; outbox = outbox_is_kept t };
       out_left = out_left;
@@ -195,27 +176,32 @@ module _ {S K D N C J : Type 0} {H : Ghosts J} (outbox : Outbox J H) (sees : See
       in_left = left_images (sees.may_leave after.in_disk) held.dated held.late (records_of_inbox list) (records_of_inbox (refused_of_all (option_to_list l.served.life.given_up))) held.bare held.bare_late
           (λ image left. held.journal.images image (leaves_are (inboxes.journal_of since) image (subst (λ (d : D). LeavesDated (sees.may_leave d) image) now_in_is left)));
       room = room;
-      marked = l.marked;
-      none = l.plans_kept.none;
-      journal = λ e. ⊎_elim
+      marked = λ u some waits. l.marked u some i.inbox i.holds waits;
+      none = l.none;
+      journal = λ e looks. ⊎_elim
+          (λ blamed. ⊎_elim
           (λ risen. inr (risen_over (sees.disk before.in_disk) (sees.disk after.in_disk) (inboxes.faults_of box) (inboxes.faults_of since) in_least (sym in_count) risen))
           (λ risen. inl (risen_over (sees.disk before.out_disk) (sees.disk after.out_disk) (outboxes.faults_of outbox) (outboxes.faults_of closed) out_least (sym out_count) risen))
+          blamed)
+          (λ untold. absurd (untold.1 (looks untold.0)))
           (l.journal e);
       changed = l.changed;
-      full = λ entries bytes e. full entries bytes (l.full entries bytes e);
+      full = λ entries bytes e. ⊎_elim
+          (λ f. inl (full_inbox entries bytes f))
+          (λ w. inr (λ looks. full_outbox entries bytes (plans_at senders (l.planned i.inbox i.holds looks).answered) (w i.inbox i.holds looks)))
+          (l.full entries bytes e);
     }
 
-  -- what was lived over the boxes was lived over their disks
-  pub lived_disks : (senders : ℕ) (config : EndConfig) (before after : SessionOutside S K D N C) (closed : Outbox J H) (box since : Inbox J H) (status : Status)
+  module _ (before after : SessionOutside S K D N C) (closed : Outbox J H) (box since : Inbox J H) (status : Status)
       (o : HoldsTold (sees.told before.out_disk) outbox) (i : OpensInbox (sees.told before.in_disk) box) (limit : ((outboxes.limits_of outbox).entries ≡ 2 ^ 26) × ((outboxes.limits_of outbox).bytes ≡ 2 ^ 33))
       (in_limit : (inboxes.limits_of box).bytes ≡ 2 ^ 33) (now_out_is : after.out_disk ≡ disk_at (outboxes.journal_of closed)) (now_in_is : after.in_disk ≡ disk_at (inboxes.journal_of since))
-      (out_least : sees.disk before.out_disk ≤ outboxes.faults_of outbox) (in_least : sees.disk before.in_disk ≤ inboxes.faults_of box) (out_count : sees.disk after.out_disk ≡ outboxes.faults_of closed) (in_count : sees.disk after.in_disk ≡ inboxes.faults_of since)
-      → LivedOn sees senders config before.input (sees.told before.out_disk) (over_boxes (live_of before) outbox box) (over_boxes (live_of after) closed since) status
-      → Lived H sees senders config before after status
-  lived_disks senders config before after closed box since status o i limit in_limit now_out_is now_in_is out_least in_least out_count in_count l = record {
-    plans = l.plans;
-    life = l.life;
-    lived = ⊎_elim
+      (out_least : sees.disk before.out_disk ≤ outboxes.faults_of outbox) (in_least : sees.disk before.in_disk ≤ inboxes.faults_of box) (out_count : sees.disk after.out_disk ≡ outboxes.faults_of closed) (in_count : sees.disk after.in_disk ≡ inboxes.faults_of since) where
+    -- what was lived over the boxes by some senders was lived over their disks
+    pub lived_over_disks : (config : EndConfig) (senders : Senders)
+        → BeganNone sees.sink (over_boxes (live_of before) outbox box) (over_boxes (live_of after) closed since) status
+        ⊎ HasLived (heard sees) config senders (over_boxes (live_of before) outbox box) (over_boxes (live_of after) closed since) status
+        → LeftAll sees before after status ⊎ HasLivedOver H sees config senders before after status
+    lived_over_disks config senders l = ⊎_elim
         (λ b. inl (record {
           cause = b.cause;
           dialer_is = b.dialer_is;
@@ -229,7 +215,18 @@ module _ {S K D N C J : Type 0} {H : Ghosts J} (outbox : Outbox J H) (sees : See
           new = since;
           result = h.result;
           status_is = h.status_is;
-          over = lived_over config l.plans before after closed box since h.result o i limit in_limit now_out_is now_in_is out_least in_least out_count in_count l.goes_on h.boxes;
+          over = lived_over config senders before after closed box since h.result o i limit in_limit now_out_is now_in_is out_least in_least out_count in_count h.boxes;
         }))
-        l.lived;
-  }
+        l
+
+    -- and so by those of INPUT
+    pub lived_disks : (senders : ℕ) (config : EndConfig)
+        → LivedOn sees senders config before.input (sees.told before.out_disk) (over_boxes (live_of before) outbox box) (over_boxes (live_of after) closed since) status
+        → Lived H sees senders config before after status
+    lived_disks senders config l = record {
+      plans = l.plans;
+      life = l.life;
+      goes_on = λ content is h journal. subst (λ (x : History). GoesOnFrom l.plans x)
+          (same_history o.history h (at_most_one_verdict.one_list content (records_of_history o.history) (records_of_history h) (o.told content is) journal)) (l.goes_on content is o.history o.holds);
+      lived = lived_over_disks config (submitting l.plans) l.lived;
+    }

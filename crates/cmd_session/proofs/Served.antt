@@ -31,6 +31,7 @@ use Rattle.conn_serve.specs.Lines.{lines_from}
 use Rattle.conn_serve.specs.Served.{lacks_lines, ServedLife, ServedOver}
 use Rattle.conn_serve.specs.Moments.{Beside, ServingAt, beside, with_seen}
 use Rattle.conn_serve.specs.Opening.{opened_state, ServedThrough}
+use Rattle.life_laws.specs.Plans.{Senders}
 use Rattle.life_laws.specs.PlanLives.{Clocked, clocked, LivedBoxes}
 use Rattle.life_laws.proofs.Passes.{answer_blames, blamed_at}
 use Rattle.cmd_base.specs.declared.status.Status.{Status}
@@ -170,11 +171,11 @@ module _ {J : Type 0} {G : Ghosts J} (taken : Option (List ℕ)) (old new : Besi
     clock = by_earlier least over.before over.behind (all_of s.life.ended s.life.given_up) le s.clock;
   }
 
-  boxes_earlier : {O : Type 0} {H : Ghosts O} {L : Type 0} (over : Clocked L) (least : ℕ) (config : EndConfig) (plans : List (List (List ℕ))) (outbox closed : Outbox O H) (result : Result (Unit {0}) ServeFault)
-      → Appends taken old.out [] → least ≤ over.before → LivedBoxes over config plans old new outbox closed result
-      → LivedBoxes (clocked over.tells over.links least over.behind) config plans (record old { out = taken }) new outbox closed result
+  boxes_earlier : {O : Type 0} {H : Ghosts O} {L : Type 0} (over : Clocked L) (least : ℕ) (config : EndConfig) (senders : Senders) (outbox closed : Outbox O H) (result : Result (Unit {0}) ServeFault)
+      → Appends taken old.out [] → least ≤ over.before → LivedBoxes over config senders old new outbox closed result
+      → LivedBoxes (clocked over.tells over.links least over.behind) config senders (record old { out = taken }) new outbox closed result
   unfolding over_earlier
-  boxes_earlier over least config plans outbox closed result h le l = record {
+  boxes_earlier over least config senders outbox closed result h le l = record {
     opening = l.opening;
     closing = l.closing;
     seen = l.seen;
@@ -184,31 +185,36 @@ module _ {J : Type 0} {G : Ghosts J} (taken : Option (List ℕ)) (old new : Besi
     opened = l.opened;
     lost = l.lost;
     holds = l.holds;
-    loses = l.loses;
-    whole = l.whole;
+    unlost = l.unlost;
     broken = l.broken;
-    plans_kept = l.plans_kept;
+    grows = l.grows;
     begins = l.begins;
+    whole = l.whole;
+    goes_on = l.goes_on;
+    in_order = l.in_order;
     served = over_earlier over least l.opening l.seen (fresh config (opened_state l.opening old.box) (2 ^ 26)) l.connections h le l.served;
+    planned = l.planned;
+    keeps = l.keeps;
     limits = l.limits;
     answer = l.answer;
     refusal = l.refusal;
     marked = l.marked;
+    none = l.none;
     journal = l.journal;
     changed = l.changed;
     full = l.full;
   }
 
 -- what was lived behind a push of nothing, and a look at the clock
-pub lived_from : {J : Type 0} {G : Ghosts J} {O : Type 0} {H : Ghosts O} {K N C : Type 0} (hears : Hears K N C) (config : EndConfig) (plans : List (List (List ℕ)))
+pub lived_from : {J : Type 0} {G : Ghosts J} {O : Type 0} {H : Ghosts O} {K N C : Type 0} (hears : Hears K N C) (config : EndConfig) (senders : Senders)
     (old : Live K N C) (out : K) (clock : C) (outbox : Outbox O H) (box : Inbox J G) (after : OverBoxes K N C (Outbox O H) (Inbox J G)) (status : Status)
     → Appends (hears.taken old.out) (hears.taken out) [] → hears.last old.clock ≤ hears.last clock
-    → HasLived hears config plans (over_boxes (record { out = out; dialer = old.dialer; clock = clock }) outbox box) after status → HasLived hears config plans (over_boxes old outbox box) after status
-lived_from {H = H} hears config plans old out clock outbox box after status h le l = record {
+    → HasLived hears config senders (over_boxes (record { out = out; dialer = old.dialer; clock = clock }) outbox box) after status → HasLived hears config senders (over_boxes old outbox box) after status
+lived_from {H = H} hears config senders old out clock outbox box after status h le l = record {
   result = l.result;
   status_is = l.status_is;
   boxes = boxes_earlier (hears.taken old.out) (beside (hears.carried old.dialer) (hears.taken out) box) (beside (hears.carried after.live.dialer) (hears.taken after.live.out) after.inbox)
-      (clocked H.tells hears.links (hears.last clock) (hears.last after.live.clock)) (hears.last old.clock) config plans outbox after.outbox l.result h le l.boxes;
+      (clocked H.tells hears.links (hears.last clock) (hears.last after.live.clock)) (hears.last old.clock) config senders outbox after.outbox l.result h le l.boxes;
 }
 
 -- OUT that took nothing is as it was
@@ -217,12 +223,12 @@ took_none None = tt
 took_none (Some xs) = sym (append-nil xs)
 
 -- what was lived, or was not begun, behind a look at the clock
-pub lived_since : {J : Type 0} {G : Ghosts J} {O : Type 0} {H : Ghosts O} {K N C : Type 0} (sink : K → ℕ) (hears : Hears K N C) (config : EndConfig) (plans : List (List (List ℕ)))
+pub lived_since : {J : Type 0} {G : Ghosts J} {O : Type 0} {H : Ghosts O} {K N C : Type 0} (sink : K → ℕ) (hears : Hears K N C) (config : EndConfig) (senders : Senders)
     (old : Live K N C) (clock : C) (outbox : Outbox O H) (box : Inbox J G) (after : OverBoxes K N C (Outbox O H) (Inbox J G)) (status : Status) → hears.last old.clock ≤ hears.last clock
     → BeganNone sink (over_boxes (record { out = old.out; dialer = old.dialer; clock = clock }) outbox box) after status
-    ⊎ HasLived hears config plans (over_boxes (record { out = old.out; dialer = old.dialer; clock = clock }) outbox box) after status
-    → BeganNone sink (over_boxes old outbox box) after status ⊎ HasLived hears config plans (over_boxes old outbox box) after status
-lived_since sink hears config plans old clock outbox box after status le l = ⊎_elim
+    ⊎ HasLived hears config senders (over_boxes (record { out = old.out; dialer = old.dialer; clock = clock }) outbox box) after status
+    → BeganNone sink (over_boxes old outbox box) after status ⊎ HasLived hears config senders (over_boxes old outbox box) after status
+lived_since sink hears config senders old clock outbox box after status le l = ⊎_elim
     (λ b. inl (record { cause = b.cause; dialer_is = b.dialer_is; box_is = b.box_is; outbox_is = b.outbox_is }))
-    (λ h. inr (lived_from hears config plans old old.out clock outbox box after status (took_none (hears.taken old.out)) le h))
+    (λ h. inr (lived_from hears config senders old old.out clock outbox box after status (took_none (hears.taken old.out)) le h))
     l

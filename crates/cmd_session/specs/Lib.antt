@@ -1,6 +1,7 @@
 pub mod Journals
 pub mod Inputs
 pub mod Boxes
+pub mod Answers
 pub mod Outsides
 pub mod Lived
 pub mod Steps

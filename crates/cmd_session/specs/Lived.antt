@@ -3,7 +3,7 @@ use Rattle.std.specs.Prelude.{◌≡◌, ◌⊎◌, ℕ, ◌^◌, ◌<◌, true,
 use Rattle.std.specs.Option.{ForSome}
 use Rattle.gw_outside.specs.Faults.{HasRisen}
 use Rattle.session_model.specs.Journal.{History, OutboxRecord, BeginsHistory, InOrder}
-use Rattle.session_model.specs.Inbox.{InboxRecord, applied}
+use Rattle.session_model.specs.Inbox.{InboxRecord, applied, has_peer_finished}
 use Rattle.session_model.specs.Lives.{IsImage, KeepsContract}
 use Rattle.fixp_shake.specs.declared.config.EndConfig.{EndConfig}
 use Rattle.fixp_machine.specs.Machine.{fresh}
@@ -30,14 +30,14 @@ use Rattle.conn_steps.specs.Settling.{IsPast, HaveRoom}
 use Rattle.conn_door.specs.declared.answer.ServeFault.{ServeFault}
 use Rattle.conn_door.specs.declared.answer.ServeFault.TheVariants as faults
 use Rattle.conn_door.specs.declared.answer.LifeEnd.{LifeEnd}
-use Rattle.conn_door.specs.Answers.{answer_of, IsUnrefused}
+use Rattle.conn_door.specs.Answers.{answer_of, IsOfSender, IsUnrefused}
 use Rattle.conn_serve.specs.Connections.{all_of, adds_of, refused_of_all, wanted_of_all}
 use Rattle.conn_serve.specs.Moments.{life_at, beside}
 use Rattle.conn_serve.specs.Served.{ServedOver}
 use Rattle.conn_serve.specs.Opening.{opened_state}
 use Rattle.life_laws.specs.Lives.{LifeOfLoop}
-use Rattle.life_laws.specs.Plans.{plan_in, KeepsPlans, LosesNext}
-use Rattle.life_laws.specs.PlanLives.{IsOfSender, clocked, LivedBoxes, WasFull}
+use Rattle.life_laws.specs.Plans.{Senders, submitting, plans_at, KeepsSenders}
+use Rattle.life_laws.specs.PlanLives.{clocked, LivedBoxes, WasFull}
 use Rattle.plan_outbox.specs.Behind.{GoesOnFrom}
 use Rattle.cmd_session.specs.Inputs.{ArePlanned}
 use Rattle.cmd_session.specs.Outsides.{Sees, Hears, heard, live_of, disks_of}
@@ -124,14 +124,14 @@ module _ {J : Type 0} {G : Ghosts J} where
   GoOn plans content box = ForSome content (λ _. (h : History) → outboxes.StandsFor box h → GoesOnFrom plans h)
 
   module _ {S K D N C : Type 0} where
-    -- One life over both journals. They held a history, from which these plans go on where OUTBOX told its content, and a list; what serves its
-    -- connections is a machine that is made of both; what it came to see of the outbox begins the closing history, as the opening one does; and
-    -- where the disks tell their content it keeps the contract of one end, by these plans. A record of OUTBOX changes only where they do not.
-    -- What is left are the records of the closing history and list, and behind them a beginning of those refused by a failed call: in the outbox
-    -- of what the plans have next, if its disk failed, with all of which the closing history is one history in order, which keeps the plans too.
+    -- One life over both journals. They held a history and a list; what serves its connections is a machine that is made of both; what it came to see
+    -- of the outbox begins the closing history, as the opening one does; and where the disks tell their content it keeps the contract of one end, by
+    -- the plans of these senders. A record of OUTBOX changes only where they do not. What is left are the records of the closing history and list, and
+    -- behind them a beginning of those refused by a failed call: in the outbox of what the plans have next, if its disk failed, with all of which the
+    -- closing history is one history in order, which keeps the plans too. Of senders that look at what is applied this is so where the disks tell.
     -- Every record that the life added to its inbox had room, and so had the one whose append the disk failed. Why it answers so: the
     -- connections and the refusal say it (`IsLifeAnswer`, `answer_of`), and the counts
-    pub record LivedOver (sees : Sees S K D N C) (config : EndConfig) (plans : List (List (List ℕ)))
+    pub record LivedOver (sees : Sees S K D N C) (config : EndConfig) (senders : Senders)
         (before after : SessionOutside S K D N C) (old new : Inbox J G) (result : Result (Unit {0}) ServeFault) : Type 0 where
       pub opening : History
       pub closing : History
@@ -141,7 +141,6 @@ module _ {J : Type 0} {G : Ghosts J} where
       pub refused : Option ServeFault
       pub out_opened : ForSome (sees.told before.out_disk) (λ content. IsJournal content (records_of_history opening))
       pub in_opened : ForSome (sees.told before.in_disk) (λ content. IsJournal content (records_of_inbox inbox))
-      pub goes_on_from : ForSome (sees.told before.out_disk) (λ content. GoesOnFrom plans opening)
       pub holds : inboxes.HoldsBox old inbox []
       pub served : ServedOver G.tells sees.links (sees.last before.clock) (sees.last after.clock)
           (life_at (sees.carried before.dialer) (sees.taken before.out) opening old)
@@ -151,29 +150,30 @@ module _ {J : Type 0} {G : Ghosts J} where
       pub begins : BeginsHistory seen closing
       pub grows : BeginsHistory opening closing
       pub lost : List OutboxRecord
-      pub loses : LosesNext plans opening closing lost
       pub whole : History
       pub goes_on : outbox_of closing ++ lost ≡ outbox_of whole
       pub in_order : InOrder whole.made
-      pub keeps : KeepsPlans plans opening whole
+      pub planned : (senders.waits ≡ true → G.tells)
+          → KeepsSenders senders opening closing whole lost inbox (inbox ++ adds_of (all_of served.life.ended served.life.given_up))
       pub life : G.tells → LifeOfLoop (outbox_of opening) (outbox_of closing) lost (fresh config (opened_state opening old) (2 ^ 26)) inbox
           (all_of served.life.ended served.life.given_up) (refused_of_all (option_to_list served.life.given_up))
       pub contract : (told : G.tells)
-          → KeepsContract (model_flow config.own_flow) (model_flow config.peer_flow) (plan_in plans) (life_in (machine_life (life told).life))
+          → KeepsContract (model_flow config.own_flow) (model_flow config.peer_flow) senders.plan (life_in (machine_life (life told).life))
       pub out_left : ∥ LeavesImages (sees.may_leave after.out_disk) (records_of_history closing) (map record_of lost) ∥₁
       pub out_whole : (HasRisen (sees.disk before.out_disk) (sees.disk after.out_disk) → ⊥) → lost ≡ []
       pub in_left : LeavesImages (sees.may_leave after.in_disk) (records_of_inbox (inbox ++ adds_of (all_of served.life.ended served.life.given_up)))
           (records_of_inbox (refused_of_all (option_to_list served.life.given_up)))
       pub room : HaveRoom (2 ^ 33) (journal_size (records_of_inbox inbox))
           (adds_of (all_of served.life.ended served.life.given_up) ++ refused_of_all (option_to_list served.life.given_up))
-      pub marked : IsUnrefused result → 0 < length plans → closing.finished ≡ true
-      pub none : plans ≡ [] → closing.finished ≡ opening.finished
-      pub journal : result ≡ Err faults.Journal → HasRisen (sees.disk before.out_disk) (sees.disk after.out_disk)
-          ⊎ HasRisen (sees.disk before.in_disk) (sees.disk after.in_disk)
+      pub marked : IsUnrefused result → 0 < senders.count
+          → (senders.waits ≡ true → has_peer_finished (inbox ++ adds_of (all_of served.life.ended served.life.given_up)) ≡ true) → closing.finished ≡ true
+      pub none : senders.count ≡ 0 → closing.finished ≡ opening.finished
+      pub journal : result ≡ Err faults.Journal → (senders.waits ≡ true → G.tells)
+          → HasRisen (sees.disk before.out_disk) (sees.disk after.out_disk) ⊎ HasRisen (sees.disk before.in_disk) (sees.disk after.in_disk)
       pub changed : (at : ℕ) → result ≡ Err (faults.Changed at) → (at < length seen.made) × (G.tells → ⊥)
       pub full : (entries bytes : ℕ) → result ≡ Err (faults.Full entries bytes)
           → FullInbox (inbox ++ adds_of (all_of served.life.ended served.life.given_up)) (wanted_of_all (option_to_list served.life.given_up)) entries bytes
-          ⊎ WasFull limits plans opening closing entries bytes
+          ⊎ ((looks : senders.waits ≡ true → G.tells) → WasFull limits (plans_at senders (planned looks).answered) opening closing entries bytes)
 
 module _ {S K D N C : Type 0} where
   -- INPUT has these plans, and the status is one of a life, with its cause where it blames OUT or the dialer
@@ -215,11 +215,11 @@ module _ {K N C O I : Type 0} where
 module _ {J : Type 0} {G : Ghosts J} {O : Type 0} {H : Ghosts O} where
   module _ {K N C : Type 0} where
     -- it lived over the boxes, and the status is that of its answer
-    pub record HasLived (hears : Hears K N C) (config : EndConfig) (plans : List (List (List ℕ)))
+    pub record HasLived (hears : Hears K N C) (config : EndConfig) (senders : Senders)
         (before after : OverBoxes K N C (Outbox O H) (Inbox J G)) (status : Status) : Type 0 where
       pub result : Result (Unit {0}) ServeFault
       pub status_is : status ≡ status_of result
-      pub boxes : LivedBoxes (clocked H.tells hears.links (hears.last before.live.clock) (hears.last after.live.clock)) config plans
+      pub boxes : LivedBoxes (clocked H.tells hears.links (hears.last before.live.clock) (hears.last after.live.clock)) config senders
           (beside (hears.carried before.live.dialer) (hears.taken before.live.out) before.inbox)
           (beside (hears.carried after.live.dialer) (hears.taken after.live.out) after.inbox) before.outbox after.outbox result
 
@@ -230,21 +230,32 @@ module _ {J : Type 0} {G : Ghosts J} {O : Type 0} {H : Ghosts O} where
       pub plans : List (List (List ℕ))
       pub life : IsPlannedLife sees senders plans input before.live after.live status
       pub goes_on : ForSome content (λ _. (h : History) → outboxes.HoldsBox before.outbox h [] → GoesOnFrom plans h)
-      pub lived : BeganNone sees.sink before after status ⊎ HasLived (heard sees) config plans before after status
+      pub lived : BeganNone sees.sink before after status ⊎ HasLived (heard sees) config (submitting plans) before after status
 
 module _ {S K D N C J : Type 0} where
   -- it lived over both disks, and the status is that of its answer
-  pub record HasLivedOver (G : Ghosts J) (sees : Sees S K D N C) (config : EndConfig) (plans : List (List (List ℕ)))
+  pub record HasLivedOver (G : Ghosts J) (sees : Sees S K D N C) (config : EndConfig) (senders : Senders)
       (before after : SessionOutside S K D N C) (status : Status) : Type 0 where
     pub old : Inbox J G
     pub new : Inbox J G
     pub result : Result (Unit {0}) ServeFault
     pub status_is : status ≡ status_of result
-    pub over : LivedOver sees config plans before after old new result
+    pub over : LivedOver sees config senders before after old new result
 
-  -- INPUT has plans; OUT was begun; and no life began, or one was lived over both disks
+  -- A life by a business: the status is one of a life, with its cause where it blames OUT or the dialer, and INPUT is as it was; and no life began, or
+  -- one was lived over both disks, by these senders
+  pub record LivedAnswering (G : Ghosts J) (sees : Sees S K D N C) (senders : Senders) (config : EndConfig) (before after : SessionOutside S K D N C)
+      (status : Status) : Type 0 where
+    pub of_life : IsOfLife status
+    pub output : status ≡ OutputFault → HasRisen (sees.sink before.out) (sees.sink after.out)
+    pub dial : status ≡ DialFault → HasRisen (sees.dials before.dialer) (sees.dials after.dialer)
+    pub input_is : after.input ≡ before.input
+    pub lived : LeftAll sees before after status ⊎ HasLivedOver G sees config senders before after status
+
+  -- INPUT has plans, which go on from the history of which OUTBOX told a journal; OUT was begun; and no life began, or one was lived over both disks
   pub record Lived (G : Ghosts J) (sees : Sees S K D N C) (senders : ℕ) (config : EndConfig) (before after : SessionOutside S K D N C)
       (status : Status) : Type 0 where
     pub plans : List (List (List ℕ))
     pub life : IsPlannedLife sees senders plans before.input (live_of before) (live_of after) status
-    pub lived : LeftAll sees before after status ⊎ HasLivedOver G sees config plans before after status
+    pub goes_on : ForSome (sees.told before.out_disk) (λ content. (h : History) → IsJournal content (records_of_history h) → GoesOnFrom plans h)
+    pub lived : LeftAll sees before after status ⊎ HasLivedOver G sees config (submitting plans) before after status

@@ -1,9 +1,10 @@
--- The steps of a session: CONFIG, the outbox, the inbox, INPUT and its plans beside the outbox, and then OUT and the life. A run ends at one
--- of them, and leaves all that comes behind it as it was (this project's profile).
-use Rattle.std.specs.Prelude.{◌≡◌, ◌⊎◌, ℕ, List, Option, Some}
+-- The steps of a session: CONFIG, the outbox, the inbox, INPUT and its plans beside the outbox, where no desks answer, and then OUT and the life. A run
+-- ends at one of them, and leaves all that comes behind it as it was (this project's profile).
+use Rattle.std.specs.Prelude.{◌≡◌, ◌⊎◌, ℕ, ◌<◌, List, Option, Some}
 use Rattle.std.specs.Option.{ForSome}
 use Rattle.gw_outside.specs.Faults.{HasRisen}
 use Rattle.fixp_msgs.specs.declared.flow.Flow.{Flow}
+use Rattle.fixp_shake.specs.declared.config.EndConfig.{EndConfig}
 use Rattle.fixp_shake.specs.declared.config.Role.{Role}
 use Rattle.cmd_config.specs.declared.configuration.Configuration.{Configuration}
 use Rattle.jr_dated.specs.declared.journal.Journal.{Ghosts}
@@ -14,7 +15,9 @@ use Rattle.cmd_base.specs.declared.status.Status.{Status}
 use Rattle.cmd_base.specs.declared.status.Status.TheVariants.{InputFault, JournalFault}
 use Rattle.cmd_session.specs.Inputs.{IsConfigured, configuration_at, flow_received, end_of, RefusesInput, RefusesPlans}
 use Rattle.cmd_session.specs.Boxes.{IsBox, IsNotOpened}
-use Rattle.cmd_session.specs.Lived.{KeepsRecords, IsKept, LeftBoth, Lived}
+use Rattle.life_laws.specs.Plans.{Senders}
+use Rattle.cmd_session.specs.Answers.{answerers}
+use Rattle.cmd_session.specs.Lived.{KeepsRecords, IsKept, LeftBoth, LivedAnswering, Lived}
 use Rattle.cmd_session.specs.Outsides.{Sees, live_of, disks_of, KeepsLive, KeepsBehindInbox, KeepsBehindConfig}
 use Rattle.cmd_session.specs.declared.outside.SessionOutside.{SessionOutside}
 
@@ -79,11 +82,33 @@ module _ {S K D N C : Type 0} where
     pub left : LeftBoth sees.told sees.may_leave (disks_of before) (disks_of after)
 
 module _ {S K D N C J : Type 0} where
-  -- both boxes were opened, and then INPUT was refused, or the session lived
-  pub record RunsOn (G : Ghosts J) (sees : Sees S K D N C) (role : Role) (c : Configuration) (before after : SessionOutside S K D N C)
+  -- both boxes were opened, and then INPUT was refused, or the session lived by its plans
+  pub record RunsByPlans (G : Ghosts J) (sees : Sees S K D N C) (role : Role) (c : Configuration) (before after : SessionOutside S K D N C)
       (status : Status) : Type 0 where
     pub boxes : HoldBoxes sees.told (flow_received role c.link) (disks_of before)
     pub ended : StopsAtInput sees c.trade.senders before after status ⊎ Lived G sees c.trade.senders (end_of role c.link) before after status
+
+  -- both boxes were opened, and the session lived by what its desks, or the one with a book, answer; INPUT is as it was
+  pub record RunsByDesks (G : Ghosts J) (sees : Sees S K D N C) (role : Role) (c : Configuration) (before after : SessionOutside S K D N C)
+      (status : Status) : Type 0 where
+    pub boxes : HoldBoxes sees.told (flow_received role c.link) (disks_of before)
+    pub lived : LivedAnswering G sees (answerers c.trade) (end_of role c.link) before after status
+
+  -- where a run whose configuration is this ended by the plans of INPUT
+  abbrev pub EndsByPlans : Ghosts J → Sees S K D N C → Role → Configuration → (before after : SessionOutside S K D N C) → Status → Type 0
+  EndsByPlans G sees role c before after status = StopsAtBoxes sees role c before after status ⊎ RunsByPlans G sees role c before after status
+
+  -- where a run of an end of this configuration ended, by senders who answer: a box was not opened, and INPUT and all behind it is as it was; or both
+  -- were, and the session lived by them
+  abbrev pub EndsAnswering : Ghosts J → Sees S K D N C → EndConfig → Senders → (before after : SessionOutside S K D N C) → Status → Type 0
+  EndsAnswering G sees config senders before after status =
+      (RefusedBoxes sees.told sees.may_leave sees.disk config.peer_flow (disks_of before) (disks_of after) status × KeepsBehindInbox before after)
+      ⊎ (HoldBoxes sees.told config.peer_flow (disks_of before) × LivedAnswering G sees senders config before after status)
+
+  -- both boxes were opened, and the session ran by the plans of INPUT, or by its desks, where CONFIG has any
+  abbrev pub RunsOn : Ghosts J → Sees S K D N C → Role → Configuration → (before after : SessionOutside S K D N C) → Status → Type 0
+  RunsOn G sees role c before after status = ((c.trade.desks ≡ 0) × RunsByPlans G sees role c before after status)
+      ⊎ ((0 < c.trade.desks) × RunsByDesks G sees role c before after status)
 
   -- where a run whose configuration is this ended
   abbrev pub EndsBehindConfig : Ghosts J → Sees S K D N C → Role → Configuration → (before after : SessionOutside S K D N C) → Status → Type 0

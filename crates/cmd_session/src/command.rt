@@ -1,18 +1,23 @@
 //! The whole of `accept` and `connect`.
 
-ghost use Rattle.std.specs.Prelude.{◌≡◌, ◌+◌, ◌<◌, ◌≤◌, ◌^◌, ◌⊎◌, false, map, length, vec_len, IfOk, IfErr};
+ghost use Rattle.std.specs.Prelude.{◌≡◌, ◌+◌, ◌<◌, ◌≤◌, ◌^◌, ◌⊎◌, false, List, [], map, length, vec_len, IfOk, IfErr};
 ghost use Rattle.gw_outside.specs.Faults.{HasRisen};
 ghost use Rattle.cmd_config.specs.Settings.{IsLinkInRange, IsTradeInRange};
+ghost use Rattle.session_model.specs.Inbox.{InboxRecord};
 ghost use Rattle.fixp_msgs.specs.declared.flow.Flow.TheVariants as flows;
 ghost use Rattle.jr_kept.specs.Outbox as outboxes;
 ghost use Rattle.jr_kept.specs.Inbox as inboxes;
 ghost use Rattle.cmd_base.specs.Causes.{NoneFellInSession};
 ghost use Rattle.plan_values.specs.Plans.{payloads_of};
+ghost use Rattle.life_laws.specs.Plans.{submitting};
+ghost use Rattle.business_laws.specs.Answered.{answering};
+ghost use Rattle.cmd_session.specs.Answers.{desks_of, plan_of, MayAnswer};
 ghost use Rattle.cmd_session.specs.Inputs.{ArePlanned};
 ghost use Rattle.cmd_session.specs.Lived.{OpensOutbox, OpensInbox, GoOn, LeftBoth, IsOfLife, BeganNone, HasLived, over_boxes};
 ghost use Rattle.cmd_session.specs.Outsides.{hears, sees, counts_of};
-ghost use Rattle.cmd_session.specs.Steps.{RefusedInput, RefusedPlans, HoldBoxes, RefusedBoxes, EndsBehindConfig, Steps};
+ghost use Rattle.cmd_session.specs.Steps.{RefusedInput, RefusedPlans, HoldBoxes, RefusedBoxes, EndsByPlans, EndsAnswering, EndsBehindConfig, Steps};
 
+use crate::answering::{Answerer, answerer_of, live_answering};
 use crate::boxes::{close_inbox, close_outbox, open_inbox, open_outbox};
 use crate::going_on::plans_on;
 use crate::inputs::end_config;
@@ -135,7 +140,7 @@ fn run_over_boxes<K: Sink, D: Disk + Send, N: Dialer, C: Clock, R: Threads + Wai
     requires numbered { inboxes.flow_of inbox.old ≡ flows.Recoverable → inboxes.next_of inbox.old + 1 < 2 ^ 64 }
     requires few_entries { outboxes.front_of outbox < 2 ^ 40 }
     ensures lived { BeganNone K.faults (over_boxes devices.old outbox inbox.old) (over_boxes devices.new result.1 inbox.new) result.0
-        ⊎ HasLived (hears K.Sink N.Dialer N.Link.Link C.Clock) config (map payloads_of plans.items) (over_boxes devices.old outbox inbox.old) (over_boxes devices.new result.1 inbox.new) result.0 }
+        ⊎ HasLived (hears K.Sink N.Dialer N.Link.Link C.Clock) config (submitting (map payloads_of plans.items)) (over_boxes devices.old outbox inbox.old) (over_boxes devices.new result.1 inbox.new) result.0 }
     ensures of_life { IsOfLife result.0 }
     ensures output { result.0 ≡ Status.OutputFault → HasRisen (K.faults devices.old.out) (K.faults devices.new.out) }
     ensures dial { result.0 ≡ Status.DialFault → HasRisen (N.faults devices.old.dialer) (N.faults devices.new.dialer) }
@@ -150,16 +155,109 @@ fn run_over_boxes<K: Sink, D: Disk + Send, N: Dialer, C: Clock, R: Threads + Wai
     live(rt, alloc, config, plans, devices, outbox, inbox)
 }
 
+/// Begins OUT, and lives over the boxes with those who answer. The outbox comes back with the status.
+fn answer_over_boxes<K: Sink, D: Disk + Send, N: Dialer, C: Clock, R: Threads + Wait + Sync>(
+    rt: &R,
+    alloc: Global,
+    config: EndConfig,
+    answerer: Answerer,
+    devices: &mut Live<K, N, C>,
+    outbox: Outbox<SegJournal<D>>,
+    inbox: &mut Inbox<SegJournal<D>>,
+) -> (Status, Outbox<SegJournal<D>>)
+    requires able { MayAnswer answerer }
+    requires least { 100 ≤ config.keepalive }
+    requires greatest { config.keepalive ≤ 60000 }
+    requires credentials { length config.credentials ≤ 2048 }
+    requires sound { outboxes.is_broken outbox ≡ false }
+    requires in_sound { inboxes.is_broken inbox.old ≡ false }
+    requires held { ∥ ((i : List InboxRecord) × inboxes.HoldsBox inbox.old i []) ∥₁ }
+    requires lent { N.lent devices.old.dialer ≡ false }
+    requires flow { inboxes.flow_of inbox.old ≡ config.peer_flow }
+    requires limit { (inboxes.limits_of inbox.old).entries ≡ 2 ^ 26 }
+    requires numbered { inboxes.flow_of inbox.old ≡ flows.Recoverable → inboxes.next_of inbox.old + 1 < 2 ^ 64 }
+    requires few_entries { outboxes.front_of outbox < 2 ^ 40 }
+    ensures lived { BeganNone K.faults (over_boxes devices.old outbox inbox.old) (over_boxes devices.new result.1 inbox.new) result.0
+        ⊎ HasLived (hears K.Sink N.Dialer N.Link.Link C.Clock) config (answering (plan_of answerer) (desks_of answerer)) (over_boxes devices.old outbox inbox.old) (over_boxes devices.new result.1 inbox.new) result.0 }
+    ensures of_life { IsOfLife result.0 }
+    ensures output { result.0 ≡ Status.OutputFault → HasRisen (K.faults devices.old.out) (K.faults devices.new.out) }
+    ensures dial { result.0 ≡ Status.DialFault → HasRisen (N.faults devices.old.dialer) (N.faults devices.new.dialer) }
+    ensures lent { N.lent devices.new.dialer ≡ false }
+    ensures never_falls { (K.faults devices.old.out ≤ K.faults devices.new.out) × (N.faults devices.old.dialer ≤ N.faults devices.new.dialer) }
+    ensures boxes_never_fall { (outboxes.faults_of outbox ≤ outboxes.faults_of result.1) × (inboxes.faults_of inbox.old ≤ inboxes.faults_of inbox.new) }
+{
+    match begin(&mut devices.out) {
+        Ok(()) => {}
+        Err(_) => return (Status::OutputFault, outbox),
+    }
+    live_answering(rt, alloc, config, answerer, devices, outbox, inbox)
+}
+
+/// Opens the boxes of a session whose end answers on their disks, and runs over them; INPUT is left as it is. The devices come back with the status.
+/// What is ensured of the run holds whatever CONFIG was before it was read.
+fn run_answering<S: Source, K: Sink, D: Disk + Send, N: Dialer, C: Clock, R: Threads + Wait + Sync>(
+    rt: &R,
+    alloc: Global,
+    end: EndConfig,
+    answerer: Answerer,
+    outside: SessionOutside<S, K, D, N, C>,
+) -> (Status, SessionOutside<S, K, D, N, C>)
+    requires able { MayAnswer answerer }
+    requires least { 100 ≤ end.keepalive }
+    requires greatest { end.keepalive ≤ 60000 }
+    requires credentials { length end.credentials ≤ 2048 }
+    requires lent { N.lent outside.dialer ≡ false }
+    ensures ended { (config : S) → EndsAnswering ⟦<SegJournal<D> as Journal>⟧ (sees S.Source K.Sink D.Disk N.Dialer N.Link.Link C.Clock) end (answering (plan_of answerer) (desks_of answerer)) (record outside { config = config }) result.1 result.0 }
+    ensures config { result.1.config ≡ outside.config }
+    ensures input { result.1.input ≡ outside.input }
+    ensures lent { N.lent result.1.dialer ≡ false }
+    ensures none_fell { NoneFellInSession (counts_of (sees S.Source K.Sink D.Disk N.Dialer N.Link.Link C.Clock) outside) (counts_of (sees S.Source K.Sink D.Disk N.Dialer N.Link.Link C.Clock) result.1) }
+{
+    let SessionOutside {
+        config,
+        input,
+        out,
+        out_disk,
+        in_disk,
+        dialer,
+        clock,
+    } = outside;
+    let mut devices = Live { out, dialer, clock };
+    let (status, out_disk, in_disk) = match open_boxes(alloc, end.peer_flow, out_disk, in_disk) {
+        Ok(opened) => {
+            let (mut outbox, mut inbox) = opened;
+            // They may add an entry before the first turn of a connection.
+            let now = devices.clock.now();
+            outbox.at(now);
+            let (status, left) = answer_over_boxes(
+                rt,
+                alloc,
+                end,
+                answerer,
+                &mut devices,
+                outbox,
+                &mut inbox,
+            );
+            (status, close_outbox(left), close_inbox(inbox))
+        }
+        Err(refused) => refused,
+    };
+    let Live { out, dialer, clock } = devices;
+    let outside = SessionOutside {
+        config,
+        input,
+        out,
+        out_disk,
+        in_disk,
+        dialer,
+        clock,
+    };
+    (status, outside)
+}
+
 /// Opens the session on its disks and INPUT, and runs over it; the devices come back with the status. What is ensured of the run holds whatever CONFIG
 /// was before it was read.
-fn run_over_disks<
-    S: Source,
-    K: Sink,
-    D: Disk + Send,
-    N: Dialer,
-    C: Clock,
-    R: Threads + Wait + Sync,
->(
+fn run_by_plans<S: Source, K: Sink, D: Disk + Send, N: Dialer, C: Clock, R: Threads + Wait + Sync>(
     rt: &R,
     alloc: Global,
     role: Role,
@@ -169,7 +267,7 @@ fn run_over_disks<
     requires link { IsLinkInRange configuration.link }
     requires trade { IsTradeInRange configuration.trade }
     requires lent { N.lent outside.dialer ≡ false }
-    ensures ended { (config : S) → EndsBehindConfig ⟦<SegJournal<D> as Journal>⟧ (sees S.Source K.Sink D.Disk N.Dialer N.Link.Link C.Clock) role configuration (record outside { config = config }) result.1 result.0 }
+    ensures ended { (config : S) → EndsByPlans ⟦<SegJournal<D> as Journal>⟧ (sees S.Source K.Sink D.Disk N.Dialer N.Link.Link C.Clock) role configuration (record outside { config = config }) result.1 result.0 }
     ensures config { result.1.config ≡ outside.config }
     ensures lent { N.lent result.1.dialer ≡ false }
     ensures none_fell { NoneFellInSession (counts_of (sees S.Source K.Sink D.Disk N.Dialer N.Link.Link C.Clock) outside) (counts_of (sees S.Source K.Sink D.Disk N.Dialer N.Link.Link C.Clock) result.1) }
@@ -225,9 +323,43 @@ fn run_over_disks<
     (status, outside)
 }
 
+/// Runs over the disks a session that is configured so; the devices come back with the status. What is ensured of the run holds whatever CONFIG
+/// was before it was read.
+fn run_over_disks<
+    S: Source,
+    K: Sink,
+    D: Disk + Send,
+    N: Dialer,
+    C: Clock,
+    R: Threads + Wait + Sync,
+>(
+    rt: &R,
+    alloc: Global,
+    role: Role,
+    configuration: Configuration,
+    outside: SessionOutside<S, K, D, N, C>,
+) -> (Status, SessionOutside<S, K, D, N, C>)
+    requires link { IsLinkInRange configuration.link }
+    requires trade { IsTradeInRange configuration.trade }
+    requires lent { N.lent outside.dialer ≡ false }
+    ensures ended { (config : S) → EndsBehindConfig ⟦<SegJournal<D> as Journal>⟧ (sees S.Source K.Sink D.Disk N.Dialer N.Link.Link C.Clock) role configuration (record outside { config = config }) result.1 result.0 }
+    ensures config { result.1.config ≡ outside.config }
+    ensures lent { N.lent result.1.dialer ≡ false }
+    ensures none_fell { NoneFellInSession (counts_of (sees S.Source K.Sink D.Disk N.Dialer N.Link.Link C.Clock) outside) (counts_of (sees S.Source K.Sink D.Disk N.Dialer N.Link.Link C.Clock) result.1) }
+{
+    match answerer_of(configuration.trade) {
+        None => run_by_plans(rt, alloc, role, configuration, outside),
+        Some(answerer) => {
+            let end = end_config(role, configuration.link);
+            run_answering(rt, alloc, end, answerer, outside)
+        }
+    }
+}
+
 /// `accept` for an acceptor, and `connect` for an initiator: one life of the session that CONFIG configures, over the journals on the
-/// two disks, with the plans in INPUT, which have to go on from the outbox. CONFIG comes first, then the journals, the outbox first,
-/// then INPUT and its plans beside the outbox, and then OUT is begun; where one of them is refused or fails, all behind it is left as it was.
+/// two disks, with the plans in INPUT, which have to go on from the outbox, or with the desks that it names, and then INPUT is left as it is.
+/// CONFIG comes first, then the journals, the outbox first, then INPUT and its plans beside the outbox, and then OUT is begun; where one of
+/// them is refused or fails, all behind it is left as it was.
 pub fn run_session<
     S: Source,
     K: Sink,

@@ -1,9 +1,10 @@
 //! The commands `accept` and `connect` over devices of any kind: CONFIG, the journals with the outbox first, the plans of the
-//! senders in INPUT, which have to go on from the outbox, and then one life of a session. Relies on `cmd_base` for statuses and
+//! senders in INPUT, which have to go on from the outbox, or desks in their place, and then one life of a session. Relies on `cmd_base` for statuses and
 //! texts, on `cmd_config` and `plan_text` for what those spell, on `jr_segments` and `jr_kept` for the journals, on `plan_outbox` for
 //! the plans beside the outbox, and on `conn_serve` for the life.
 #![tactic(auto)]
 
+mod answering;
 mod boxes;
 mod command;
 mod found;

@@ -20,6 +20,7 @@ ghost use Rattle.conn_door.specs.Senders.{SomeMarked};
 ghost use Rattle.conn_serve.specs.Moments.{beside, serving_at};
 ghost use Rattle.conn_door.specs.Answers.{IsUnrefused};
 ghost use Rattle.conn_serve.specs.Opening.{opened_state, ServedThrough};
+ghost use Rattle.life_laws.specs.Plans.{submitting};
 ghost use Rattle.life_laws.specs.PlanLives.{clocked, ServedAt};
 ghost use Rattle.cmd_session.specs.Outsides.{hears};
 ghost use Rattle.cmd_session.specs.Lived.{status_of, over_boxes, IsOfLife, BeganNone, HasLived};
@@ -43,7 +44,7 @@ use std::sync::Wait;
 use std::thread::Threads;
 
 /// The status of a life that was served so.
-fn status_of(answer: Result<(), ServeFault>) -> Status
+pub fn status_of(answer: Result<(), ServeFault>) -> Status
     ensures value { result ≡ status_of answer }
     ensures of_life { IsOfLife result }
     ensures output { result ≡ Status.OutputFault → answer ≡ Err faults.Output }
@@ -192,13 +193,13 @@ fn serve_seated<
 }
 
 /// The passes and the gate of an outbox.
-type Made<D> = (Gate<SegJournal<D>>, Passes<Kept<SegJournal<D>>>);
+pub type Made<D> = (Gate<SegJournal<D>>, Passes<Kept<SegJournal<D>>>);
 
 /// A gate round an outbox for so many senders, and its passes.
 ///
 /// # Errors
 /// The outbox comes back where memory runs out.
-fn made_gate<D: Disk>(
+pub fn made_gate<D: Disk>(
     alloc: Global,
     outbox: Outbox<SegJournal<D>>,
     senders: u16,
@@ -240,7 +241,7 @@ pub fn live<K: Sink, D: Disk + Send, N: Dialer, C: Clock, R: Threads + Wait + Sy
     requires greatest { config.keepalive ≤ 60000 }
     requires credentials { length config.credentials ≤ 2048 }
     ensures lived { BeganNone K.faults (over_boxes devices.old outbox inbox.old) (over_boxes devices.new result.1 inbox.new) result.0
-        ⊎ HasLived (hears K.Sink N.Dialer N.Link.Link C.Clock) config (map payloads_of plans.items) (over_boxes devices.old outbox inbox.old) (over_boxes devices.new result.1 inbox.new) result.0 }
+        ⊎ HasLived (hears K.Sink N.Dialer N.Link.Link C.Clock) config (submitting (map payloads_of plans.items)) (over_boxes devices.old outbox inbox.old) (over_boxes devices.new result.1 inbox.new) result.0 }
     ensures of_life { IsOfLife result.0 }
     ensures output { result.0 ≡ Status.OutputFault → HasRisen (K.faults devices.old.out) (K.faults devices.new.out) }
     ensures dial { result.0 ≡ Status.DialFault → HasRisen (N.faults devices.old.dialer) (N.faults devices.new.dialer) }

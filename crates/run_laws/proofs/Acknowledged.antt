@@ -11,6 +11,8 @@ use Rattle.jr_dated.specs.declared.journal.Journal.{Ghosts}
 use Rattle.cmd_session.specs.Journals.{IsJournal, Leaves}
 use Rattle.jr_boxes.specs.Outboxes.{record_of, outbox_of, records_of_history}
 use Rattle.cmd_config.specs.declared.configuration.Configuration.{Configuration}
+use Rattle.life_laws.specs.Plans.{Senders, submitting}
+use Rattle.cmd_session.specs.Answers.{answerers}
 use Rattle.cmd_session.specs.Inputs.{end_of}
 use Rattle.cmd_session.specs.Lived.{LeftAll, HasLivedOver, Lived}
 use Rattle.cmd_session.specs.Outsides.{Sees}
@@ -35,10 +37,10 @@ module _ {S K D N C J : Type 0} (G : Ghosts J) (sees : Sees S K D N C) (role : R
   unlived : Unlived sees r.before r.after → Begun outboxes h
   unlived kept = record { opened = later.opened; was = kept_was sees outboxes r.before.out_disk r.after.out_disk (map record_of later.opened) at kept.outbox later.was; begins = later.begins }
 
-  by_life : (config : EndConfig) (plans : List (List (List ℕ))) (l : LeftAll sees r.before r.after r.status ⊎ HasLivedOver G sees config plans r.before r.after r.status)
-      → Begun outboxes h × LifeStands G sees role r.before r.after r.status h config plans l
-  by_life config plans (inl left) = (unlived (unbegun_kept sees r.before r.after r.status left), tt)
-  by_life config plans (inr lived) =
+  by_life : (config : EndConfig) (senders : Senders) (l : LeftAll sees r.before r.after r.status ⊎ HasLivedOver G sees config senders r.before r.after r.status)
+      → Begun outboxes h × LifeStands G sees role r.before r.after r.status h config senders l
+  by_life config senders (inl left) = (unlived (unbegun_kept sees r.before r.after r.status left), tt)
+  by_life config senders (inr lived) =
       let v = lived.over in
       let image : IsImage (outbox_of v.closing) v.lost later.opened =
       same_image record_of out_tells (outbox_of v.closing) v.lost later.opened
@@ -62,11 +64,12 @@ module _ {S K D N C J : Type 0} (G : Ghosts J) (sees : Sees S K D N C) (role : R
   by_boxes : (c : Configuration) (l : StopsAtInput sees c.trade.senders r.before r.after r.status ⊎ Lived G sees c.trade.senders (end_of role c.link) r.before r.after r.status)
       → Begun outboxes h × BoxesStand G sees role r.before r.after r.status h c l
   by_boxes c (inl refused) = (unlived (input_kept sees r.before r.after r.status c.trade.senders refused), tt)
-  by_boxes c (inr on) = by_life (end_of role c.link) on.plans on.lived
+  by_boxes c (inr on) = by_life (end_of role c.link) (submitting on.plans) on.lived
 
   by_config : (c : Configuration) (l : EndsBehindConfig G sees role c r.before r.after r.status) → Begun outboxes h × ConfigStands G sees role r.before r.after r.status h c l
   by_config c (inl refused) = (unlived (boxes_kept sees r.before r.after r.status role c refused), tt)
-  by_config c (inr on) = by_boxes c on.ended
+  by_config c (inr (inl on)) = by_boxes c on.1.ended
+  by_config c (inr (inr on)) = by_life (end_of role c.link) (answerers c.trade) on.1.lived.lived
 
   by_steps : (l : Steps G sees role r.before r.after r.status) → Begun outboxes h × RunStands G sees role r.before r.after r.status h l
   by_steps (inl stopped) = (unlived (config_kept sees r.before r.after r.status role stopped), tt)

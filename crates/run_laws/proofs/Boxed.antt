@@ -18,6 +18,11 @@ use Rattle.jr_boxes.specs.Inboxes.{records_of_inbox}
 use Rattle.conn_serve.specs.Connections.{all_of, adds_of, refused_of_all}
 use Rattle.life_laws.proofs.Outboxes.{entries-outbox_of}
 use Rattle.cmd_session.specs.Outsides.{Sees}
+use Rattle.fixp_shake.specs.declared.config.EndConfig.{EndConfig}
+use Rattle.life_laws.specs.Plans.{Senders, submitting}
+use Rattle.cmd_session.specs.Answers.{answerers}
+use Rattle.cmd_session.specs.Inputs.{end_of}
+use Rattle.cmd_session.specs.Lived.{HasLivedOver}
 use Rattle.run_laws.specs.Several.{Run, IsEmptyJournal, IsAt, RunsOver, IsRun}
 use Rattle.run_laws.specs.Holding.{AreBoxes, BoxesAreLeft}
 use Rattle.cmd_session.proofs.Histories.{out_tells}
@@ -78,16 +83,20 @@ AllLists contents = (records : List Record) → Leaves contents (Some records) �
 
 module _ {S K D N C J : Type 0} (G : Ghosts J) (sees : Sees S K D N C) (role : Role) (r : Run S K D N C) (outboxes inboxes : List ℕ → Type 0)
     (out_at : IsAt sees outboxes r.before.out_disk) (in_at : IsAt sees inboxes r.before.in_disk) (out_all : AllHistories outboxes) (in_all : AllLists inboxes) where
+  lived_boxes : (config : EndConfig) (senders : Senders) → HasLivedOver G sees config senders r.before r.after r.status → AllHistories (sees.may_leave r.after.out_disk) × AllLists (sees.may_leave r.after.in_disk)
+  lived_boxes config senders lived =
+      let v = lived.over in (
+        λ records left. history_left v.closing v.whole v.lost records v.goes_on v.in_order (image_left (sees.may_leave r.after.out_disk) (records_of_history v.closing) (map record_of v.lost) records v.out_left left),
+        λ records left. list_left (v.inbox ++ adds_of (all_of v.served.life.ended v.served.life.given_up)) (refused_of_all (option_to_list v.served.life.given_up)) records (v.in_left (Some records) left),
+      )
+
   both_boxes : Ways G sees role r.before r.after r.status → AllHistories (sees.may_leave r.after.out_disk) × AllLists (sees.may_leave r.after.in_disk)
   both_boxes (inl kept) = (
     λ records left. out_all records (kept_was sees outboxes r.before.out_disk r.after.out_disk records out_at kept.outbox left),
     λ records left. in_all records (kept_was sees inboxes r.before.in_disk r.after.in_disk records in_at kept.inbox left),
   )
-  both_boxes (inr by) =
-      let v = by.lived.over in (
-        λ records left. history_left v.closing v.whole v.lost records v.goes_on v.in_order (image_left (sees.may_leave r.after.out_disk) (records_of_history v.closing) (map record_of v.lost) records v.out_left left),
-        λ records left. list_left (v.inbox ++ adds_of (all_of v.served.life.ended v.served.life.given_up)) (refused_of_all (option_to_list v.served.life.given_up)) records (v.in_left (Some records) left),
-      )
+  both_boxes (inr (inl by)) = lived_boxes (end_of role by.configuration.link) (submitting by.plans) by.lived
+  both_boxes (inr (inr by)) = lived_boxes (end_of role by.configuration.link) (answerers by.configuration.trade) by.lived
 
 all_boxes : {S K D N C J : Type 0} (G : Ghosts J) (sees : Sees S K D N C) (role : Role) (runs : List (Run S K D N C)) (outboxes inboxes : List ℕ → Type 0) (outbox inbox : List ℕ) → AllHistories outboxes → AllLists inboxes
     → RunsOver sees (IsRun G sees role) runs outboxes inboxes outbox inbox → AreBoxes outbox inbox

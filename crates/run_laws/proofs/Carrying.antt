@@ -17,6 +17,8 @@ use Rattle.cmd_base.specs.declared.status.Status.{Status}
 use Rattle.cmd_config.specs.declared.configuration.Configuration.{Configuration}
 use Rattle.conn_serve.specs.Connections.{Connection, turned, all_of}
 use Rattle.conn_serve.specs.Served.{IsTold, carried_by}
+use Rattle.life_laws.specs.Plans.{Senders, submitting}
+use Rattle.cmd_session.specs.Answers.{answerers}
 use Rattle.cmd_session.specs.Inputs.{end_of}
 use Rattle.cmd_session.specs.Lived.{LeftAll, HasLivedOver, Lived}
 use Rattle.cmd_session.specs.Outsides.{Sees}
@@ -49,10 +51,10 @@ module _ {S K D N C J : Type 0} (G : Ghosts J) (sees : Sees S K D N C) (role : R
   none_brought : Unlived sees before after → Brought []
   none_brought kept = subst (λ (cs : List (Option Carried)). AllZip CarriedTold cs []) (sym (brought_none (sees.carried before.dialer) (sees.carried after.dialer) (ap sees.carried kept.dialer_is))) tt
 
-  by_life : (config : EndConfig) (plans : List (List (List ℕ))) (l : LeftAll sees before after status ⊎ HasLivedOver G sees config plans before after status)
-      → Brought (served_in_life G sees role before after status config plans l)
-  by_life config plans (inl left) = none_brought (unbegun_kept sees before after status left)
-  by_life config plans (inr lived) =
+  by_life : (config : EndConfig) (senders : Senders) (l : LeftAll sees before after status ⊎ HasLivedOver G sees config senders before after status)
+      → Brought (served_in_life G sees role before after status config senders l)
+  by_life config senders (inl left) = none_brought (unbegun_kept sees before after status left)
+  by_life config senders (inr lived) =
       let k = lived.over.served.life in
       let cs : List Connection = all_of k.ended k.given_up in
       subst (λ (xs : List (Option Carried)). AllZip CarriedTold xs (turned cs ++ [])) (sym (brought_all (sees.carried before.dialer) (sees.carried after.dialer) (carried_by cs) told k.came))
@@ -62,11 +64,12 @@ module _ {S K D N C J : Type 0} (G : Ghosts J) (sees : Sees S K D N C) (role : R
   by_input : (c : Configuration) (l : StopsAtInput sees c.trade.senders before after status ⊎ Lived G sees c.trade.senders (end_of role c.link) before after status)
       → Brought (served_behind_input G sees role before after status c l)
   by_input c (inl refused) = none_brought (input_kept sees before after status c.trade.senders refused)
-  by_input c (inr life) = by_life (end_of role c.link) life.plans life.lived
+  by_input c (inr life) = by_life (end_of role c.link) (submitting life.plans) life.lived
 
   by_config : (c : Configuration) (l : EndsBehindConfig G sees role c before after status) → Brought (served_behind_config G sees role before after status c l)
   by_config c (inl refused) = none_brought (boxes_kept sees before after status role c refused)
-  by_config c (inr on) = by_input c on.ended
+  by_config c (inr (inl on)) = by_input c on.1.ended
+  by_config c (inr (inr on)) = by_life (end_of role c.link) (answerers c.trade) on.1.lived.lived
 
   pub run_brought : (s : Steps G sees role before after status) → Brought (served_in G sees role before after status s)
   run_brought (inl stopped) = none_brought (config_kept sees before after status role stopped)

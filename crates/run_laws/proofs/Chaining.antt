@@ -32,6 +32,7 @@ use Rattle.conn_serve.specs.Connections.{Connection, all_of, adds_of, refused_of
 use Rattle.conn_serve.specs.Served.{carried_by}
 use Rattle.conn_serve.specs.Opening.{opened_state}
 use Rattle.life_laws.specs.Lives.{LifeOfLoop}
+use Rattle.life_laws.specs.Plans.{Senders}
 use Rattle.life_laws.proofs.Loops.{life_may_turn}
 use Rattle.life_laws.proofs.Opened.{opened_opens, opened_in_range}
 use Rattle.life_laws.proofs.Outboxes.{entries-outbox_of, outbox_begins}
@@ -102,9 +103,9 @@ module _ {S K D N C J : Type 0} (G : Ghosts J) (sees : Sees S K D N C) (own peer
         (sym (brought_none (sees.carried before.dialer) (sees.carried after.dialer) (ap sees.carried kept.dialer_is))) later.links;
   }
 
-  module _ (t : G.tells) (config : EndConfig) (plans : List (List (List ℕ))) (status : Status) (lived : HasLivedOver G sees config plans before after status)
+  module _ (t : G.tells) (config : EndConfig) (senders : Senders) (status : Status) (lived : HasLivedOver G sees config senders before after status)
       (own_is : config.own_flow ≡ own) (peer_is : config.peer_flow ≡ peer) (session : length config.session ≡ 16) (keepalive : config.keepalive ≤ 60000) (credentials : length config.credentials ≤ 2048) where
-    abbrev v : LivedOver sees config plans before after lived.old lived.new lived.result
+    abbrev v : LivedOver sees config senders before after lived.old lived.new lived.result
     v = lived.over
 
     abbrev machine : State

@@ -1,5 +1,5 @@
 -- Step by step, what is left of a run over told devices that are in order, where no call of one failed.
-use Rattle.std.proofs.Common.{◌≡◌, ◌⊎◌, inl, inr, ⊎_elim, ℕ, ◌<◌, List, length, Option, Some, Ok, IsSomeAnd, sym, ap, subst, ◌∙◌}
+use Rattle.std.proofs.Common.{◌≡◌, ◌⊎◌, inl, inr, ⊎_elim, ℕ, ◌<◌, List, length, Option, Some, Ok, IsSomeAnd, sym, ap, subst, ◌∙◌, arith}
 use Rattle.fixp_shake.specs.declared.config.Role.{Role}
 use Rattle.cmd_config.specs.declared.configuration.Configuration.{Configuration}
 use Rattle.plan_text.specs.Plans.{HasPlans}
@@ -9,6 +9,8 @@ use Rattle.cmd_base.specs.declared.status.Status.{Status}
 use Rattle.cmd_base.specs.declared.status.Status.TheVariants.{Memory}
 use Rattle.conn_door.specs.declared.answer.ServeFault.TheVariants as faults
 use Rattle.conn_door.specs.Answers.{answer_of}
+use Rattle.life_laws.specs.Plans.{submitting}
+use Rattle.life_laws.proofs.Submitting.{never_waits}
 use Rattle.cmd_session.specs.Inputs.{configuration_at, flow_received, end_of}
 use Rattle.cmd_session.specs.Lived.{status_of, IsPlannedLife, HasLivedOver, Lived}
 use Rattle.cmd_session.specs.Outsides.{Sees, live_of, counts_of}
@@ -52,10 +54,10 @@ module _ {S K D N C J : Type 0} (G : Ghosts J) (sees : Sees S K D N C)
       s.refused
 
   module _ (plans : List (List (List ℕ))) (life : IsPlannedLife sees c.trade.senders plans before.input (live_of before) (live_of after) status)
-      (h : HasLivedOver G sees (end_of role c.link) plans before after status) where
+      (h : HasLivedOver G sees (end_of role c.link) (submitting plans) before after status) where
     blames_none : BlamesNone h.result
     blames_none faults.Output of e = none.out (life.output (h.status_is ∙ ap status_of e))
-    blames_none faults.Journal of e = ⊎_elim none.out_disk none.in_disk (h.over.journal e)
+    blames_none faults.Journal of e = ⊎_elim none.out_disk none.in_disk (h.over.journal e never_waits)
     blames_none (faults.Changed at) of e = (h.over.changed at e).1 told
     blames_none faults.Dial of e = none.dialer (life.dial (h.status_is ∙ ap status_of e))
     blames_none _ of e = of
@@ -83,7 +85,7 @@ module _ {S K D N C J : Type 0} (G : Ghosts J) (sees : Sees S K D N C)
           (behind_finish h.over.served.life.behind h.over.seen h.over.served.life.mid (sees.carried after.dialer) h.over.served.life.ended h.over.served.life.given_up h.over.connections h.over.refused h.over.refusal answer_blames_none h.over.served.life.answer one);
       full = λ entries bytes e. full_is h.result entries bytes (sym h.status_is ∙ e);
       marked = λ of some. h.over.marked (unrefused h.result (subst (λ (s : Status). IsOfConnections s) h.status_is of))
-          (subst (λ (n : ℕ). 0 < n) (sym (as_many c.trade.senders told_plans.0 plans has_plans)) some);
+          (subst (λ (n : ℕ). 0 < n) (sym (as_many c.trade.senders told_plans.0 plans has_plans)) some) never_waits;
     }
 
   at_life : Lived G sees c.trade.senders (end_of role c.link) before after status → LeftEnds
@@ -93,7 +95,10 @@ module _ {S K D N C J : Type 0} (G : Ghosts J) (sees : Sees S K D N C)
       l.lived
 
   behind_config : EndsBehindConfig G sees role c before after status → LeftEnds
-  behind_config e = ⊎_elim at_boxes (λ r. ⊎_elim at_input at_life r.ended) e
+  behind_config e = ⊎_elim
+      at_boxes
+      (λ r. ⊎_elim (λ p. ⊎_elim at_input at_life p.1.ended) (λ d. let some = d.0 in let none_at = set_up.no_desks in absurd (omega (arith, some, none_at))) r)
+      e
 
   pub at_step : Steps G sees role before after status → LeftEnds
   at_step s = ⊎_elim

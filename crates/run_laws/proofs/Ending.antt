@@ -14,10 +14,9 @@ use Rattle.conn_door.specs.declared.answer.ServeFault.{ServeFault}
 use Rattle.conn_door.specs.declared.answer.ServeFault.TheVariants as faults
 use Rattle.conn_door.specs.declared.answer.LifeEnd.{LifeEnd}
 use Rattle.conn_door.specs.declared.answer.LifeEnd.TheVariants as ends
-use Rattle.conn_door.specs.Answers.{answer_of, IsUnrefused}
+use Rattle.conn_door.specs.Answers.{answer_of, IsOfSender, IsUnrefused}
 use Rattle.conn_serve.specs.Connections.{Connection, Follows, IsFollowed}
 use Rattle.conn_serve.specs.Served.{EndsWith, IsLifeAnswer}
-use Rattle.life_laws.specs.PlanLives.{IsOfSender}
 use Rattle.cmd_session.specs.Lived.{status_of}
 use Rattle.run_laws.specs.Completeness.{OneFinished, EndsAs, IsBehindFinish, IsOfConnections}
 

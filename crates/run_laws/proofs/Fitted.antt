@@ -18,7 +18,7 @@ use Rattle.cmd_config.specs.declared.purpose.Purpose.{Purpose}
 use Rattle.cmd_config.specs.declared.purpose.Purpose.TheVariants.{Live}
 use Rattle.cmd_config.specs.declared.configuration.Link.{Link}
 use Rattle.cmd_config.specs.declared.configuration.Configuration.{Configuration}
-use Rattle.cmd_config.specs.Settings.{session_of, flow_of, credentials_of, known_keys, ensure_in_range, allows_client, allows_server, link_of, trade_of, version_of, configuration_of, configuration_of_document}
+use Rattle.cmd_config.specs.Settings.{session_of, flow_of, credentials_of, known_keys, ensure_in_range, allows_client, allows_server, link_of, trade_of, version_of, book_of, configuration_of, configuration_of_document}
 use Rattle.cmd_config.proofs.Readings.{credentials_le}
 use Rattle.run_laws.specs.Pieces.{LinkFits, ConfigurationsFit}
 
@@ -131,8 +131,9 @@ keys_fit purpose keys c e =
     let link = got (link_of purpose keys) _ c e in
     let trade = got (trade_of purpose link.value.client_flow link.value.server_flow keys) _ c link.goes_on in
     let version = got (version_of keys) _ c trade.goes_on in
-    let known = got (deny_unknown_keys known_keys keys) _ c version.goes_on in
-    let built : Configuration = record { link = record link.value { version = version.value }; trade = trade.value } in
+    let book = got (book_of purpose trade.value.desks keys) _ c version.goes_on in
+    let known = got (deny_unknown_keys (known_keys purpose) keys) _ c book.goes_on in
+    let built : Configuration = record { link = record link.value { version = version.value }; trade = record trade.value { book = book.value } } in
     let last = known.goes_on in
     let same : built ≡ c = cc in
     subst (λ (d : Configuration). LinkFits d.link) same (versioned link.value version.value (link_fits purpose keys link.value link.is))

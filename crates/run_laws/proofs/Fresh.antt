@@ -65,8 +65,9 @@ so_told None P h a e = absurd h
 so_told (Some b) P h a e = let same : b ≡ a = cc in subst P same h
 
 pub fresh_is_set_up : {S K D N C : Type 0} (sees : Sees S K D N C) (before : SessionOutside S K D N C) → FreshIsSetUp sees before
-fresh_is_set_up sees before role c config outbox inbox input = record {
+fresh_is_set_up sees before role c config none outbox inbox input = record {
   config = config;
+  no_desks = none;
   outbox = of_told (sees.told before.out_disk) (λ content. IsJournal content []) (IsBox Outbox (flow_received role c.link)) (empty_box Outbox (flow_received role c.link)) outbox;
   inbox = of_told (sees.told before.in_disk) (λ content. IsJournal content []) (IsBox Inbox (flow_received role c.link)) (empty_box Inbox (flow_received role c.link)) inbox;
   input = subst (λ (o : Option (List ℕ)). IsSomeAnd o (TellsPlans c.trade.senders)) (sym input) (no_lines c.trade.senders);

@@ -1,5 +1,5 @@
 -- What the outbox holds of its senders behind any runs of one end, whatever INPUT each had.
-use Rattle.std.proofs.Common.{◌≡◌, ◌⊎◌, inl, inr, ⊎_elim, ℕ, zero, suc, ◌+◌, ◌≤◌, true, false, true≢false, Contains, List, [], ◌∷◌, ◌++◌, map, length, drop, slice_get, Option, Some, None, IsSomeAnd, arith, refl, sym, ap, subst, ◌∙◌, append_assoc}
+use Rattle.std.proofs.Common.{◌≡◌, ◌⊎◌, inl, inr, ⊎_elim, ℕ, zero, suc, ◌+◌, ◌<◌, ◌≤◌, true, false, true≢false, Contains, List, [], ◌∷◌, ◌++◌, map, length, drop, slice_get, Option, Some, None, IsSomeAnd, arith, refl, sym, ap, subst, ◌∙◌, append_assoc}
 use Rattle.std.specs.Prelude.{IsTrue, is_some}
 use Rattle.std.proofs.lemmas.Bool.{cases_Bool}
 use Rattle.std.proofs.lemmas.Option.{none-some}
@@ -18,11 +18,12 @@ use Rattle.cmd_session.specs.Journals.{IsJournal, Leaves}
 use Rattle.cmd_session.proofs.Verdicts.{at_most_one_verdict}
 use Rattle.jr_boxes.specs.Outboxes.{record_of, outbox_of, records_of_history}
 use Rattle.life_laws.specs.Plans.{plan_in, KeepsPlans}
+use Rattle.life_laws.proofs.Submitting.{never_waits, plans_kept}
 use Rattle.life_laws.proofs.Outboxes.{entries-outbox_of}
 use Rattle.cmd_session.specs.Lived.{IsKept}
 use Rattle.cmd_session.specs.Outsides.{Sees}
 use Rattle.run_laws.specs.Several.{Run, IsEmptyJournal, IsAt, RunsOver}
-use Rattle.run_laws.specs.Senders.{AllSent, SomeSent, GivesAt, SomeGave, HoldsGiven, TellsInput, InputsHold}
+use Rattle.run_laws.specs.Senders.{HasNoDesks, AllSent, SomeSent, GivesAt, SomeGave, HoldsGiven, TellsInput, InputsHold}
 use Rattle.cmd_session.proofs.Histories.{out_tells}
 use Rattle.run_laws.proofs.Refusing.{some_of}
 use Rattle.run_laws.proofs.Telling.{same_outbox, same_image}
@@ -95,7 +96,7 @@ module _ {S K D N C J : Type 0} (G : Ghosts J) (sees : Sees S K D N C) (role : R
     begins : IsPrefix opened (outbox_of h)
     stays : Gave opened → Gave (outbox_of h)
 
-  module _ (r : Run S K D N C) (outboxes : List ℕ → Type 0) (at : IsAt sees outboxes r.before.out_disk) (among : Contains all r) (input : IsTrue (is_some (sees.left r.before.input)))
+  module _ (r : Run S K D N C) (outboxes : List ℕ → Type 0) (at : IsAt sees outboxes r.before.out_disk) (among : Contains all r) (config : IsSomeAnd (sees.left r.before.config) (HasNoDesks role)) (input : IsTrue (is_some (sees.left r.before.input)))
       (later : Stays (sees.may_leave r.after.out_disk)) where
     unlived : IsKept sees.told sees.may_leave r.before.out_disk r.after.out_disk → Stays outboxes
     unlived kept = record {
@@ -163,7 +164,12 @@ module _ {S K D N C J : Type 0} (G : Ghosts J) (sees : Sees S K D N C) (role : R
 
     by_way : Ways G sees role r.before r.after r.status → Stays outboxes
     by_way (inl kept) = unlived kept.outbox
-    by_way (inr by) =
+    by_way (inr (inr by)) =
+        let t = some_of (sees.left r.before.config) (HasNoDesks role) config in
+        let none : by.configuration.trade.desks ≡ 0 = t.2 by.configuration (by.spelled t.0 t.1) in
+        let some : 0 < by.configuration.trade.desks = by.some in
+        absurd (omega (arith, none, some))
+    by_way (inr (inl by)) =
         let v = by.lived.over in
         let t = told_text (sees.left r.before.input) input in
         let found = some_of (sees.told r.before.out_disk) outboxes at.tells in
@@ -177,14 +183,15 @@ module _ {S K D N C J : Type 0} (G : Ghosts J) (sees : Sees S K D N C) (role : R
           was = told_was sees outboxes r.before.out_disk (records_of_history v.opening) at v.out_opened;
           begins = prefix_trans (outbox_of v.opening) (outbox_of v.closing) (outbox_of h) (opening_closing v)
               (prefix_trans (outbox_of v.closing) later.opened (outbox_of h) (image.kept, sym image.holds) later.begins);
-          stays = λ was. later.stays (gave_now by.plans v.opening v.closing v.whole v.lost t.0 t.1 senders has v.goes_on v.in_order v.keeps (v.goes_on_from found.0 found.1) image was);
+          stays = λ was. later.stays (gave_now by.plans v.opening v.closing v.whole v.lost t.0 t.1 senders has v.goes_on v.in_order (plans_kept by.plans v.opening v.closing v.whole v.lost v.inbox _ (v.planned never_waits))
+              (by.goes_on found.0 found.1 v.opening (v.out_opened found.0 found.1)) image was);
         }
 
   stays_over : (runs : List (Run S K D N C)) (outboxes inboxes : List ℕ → Type 0) (outbox inbox : List ℕ) → ((r : Run S K D N C) → Contains runs r → Contains all r) → IsJournal outbox (records_of_history h)
       → RunsOver sees (TellsInput G sees role) runs outboxes inboxes outbox inbox → Stays outboxes
   stays_over [] outboxes inboxes outbox inbox among is over = record { opened = outbox_of h; was = (outbox, over.0, is); begins = prefix_self (outbox_of h); stays = λ was. was }
   stays_over (r ∷ later) outboxes inboxes outbox inbox among is over =
-      by_way r outboxes over.0 (among r (0, omega arith, refl)) over.2.input
+      by_way r outboxes over.0 (among r (0, omega arith, refl)) over.2.config over.2.input
       (stays_over later (sees.may_leave r.after.out_disk) (sees.may_leave r.after.in_disk) outbox inbox (λ q k. among q (Contains-append_right (r ∷ []) later q k)) is over.3)
       (ways_of G sees role r.before r.after r.status over.2.steps)
 

@@ -23,7 +23,11 @@ use Rattle.jr_boxes.specs.Outboxes.{record_of, outbox_of}
 use Rattle.jr_boxes.specs.Inboxes.{records_of_inbox}
 use Rattle.cmd_config.specs.Settings.{own_flow, peer_flow}
 use Rattle.life_laws.proofs.Outboxes.{entries-outbox_of}
-use Rattle.cmd_session.specs.Inputs.{configuration_at, end_of}
+use Rattle.life_laws.specs.Plans.{Senders, submitting}
+use Rattle.cmd_config.specs.declared.configuration.Configuration.{Configuration}
+use Rattle.cmd_session.specs.Answers.{answerers}
+use Rattle.cmd_session.specs.Inputs.{IsConfigured, configuration_at, end_of}
+use Rattle.cmd_session.specs.Lived.{HasLivedOver}
 use Rattle.cmd_session.specs.Outsides.{Sees}
 use Rattle.run_laws.specs.Several.{Run, Flows, HasFlows, IsEmptyJournal, IsAt, brought, RunsOver, WasRun, HasRun}
 use Rattle.run_laws.specs.Linked.{CarriedOn}
@@ -50,18 +54,22 @@ module _ {S K D N C J : Type 0} (G : Ghosts J) (sees : Sees S K D N C) (role : R
     abbrev Now : Type 0
     Now = Comes (own role flows) (peer role flows) outboxes inboxes (brought sees r ++ carried) o i
 
-    by_way : Ways G sees role r.before r.after r.status → Now
-    by_way (inl kept) = unlived G sees (own role flows) (peer role flows) o i payloads r.before r.after carried outboxes inboxes out_at in_at was.links later kept
-    by_way (inr by) =
-        let c = by.configuration in
+    -- it lived by these senders
+    lived_by : (c : Configuration) → IsConfigured role (sees.left r.before.config) c → (senders : Senders) → HasLivedOver G sees (end_of role c.link) senders r.before r.after r.status → Now
+    lived_by c is senders lived =
         let t = some_of (sees.left r.before.config) (HasFlows role flows) was.config in
-        let spelled : configuration_at role t.0 ≡ Ok c = by.spelled t.0 t.1 in
+        let spelled : configuration_at role t.0 ≡ Ok c = is t.0 t.1 in
         let same : (c.link.client_flow ≡ flows.client) × (c.link.server_flow ≡ flows.server) = t.2 c spelled in
         let fits = configurations_fit role t.0 c spelled in
-        lived_on G sees (own role flows) (peer role flows) o i payloads r.before r.after carried outboxes inboxes out_at in_at was.links later told (end_of role c.link) by.plans r.status by.lived
+        lived_on G sees (own role flows) (peer role flows) o i payloads r.before r.after carried outboxes inboxes out_at in_at was.links later told (end_of role c.link) senders r.status lived
         (ap (λ (f : Flow). own_flow role f c.link.server_flow) same.0 ∙ ap (λ (f : Flow). own_flow role flows.client f) same.1)
         (ap (λ (f : Flow). peer_flow role f c.link.server_flow) same.0 ∙ ap (λ (f : Flow). peer_flow role flows.client f) same.1)
         fits.session fits.keepalive fits.credentials
+
+    by_way : Ways G sees role r.before r.after r.status → Now
+    by_way (inl kept) = unlived G sees (own role flows) (peer role flows) o i payloads r.before r.after carried outboxes inboxes out_at in_at was.links later kept
+    by_way (inr (inl by)) = lived_by by.configuration by.spelled (submitting by.plans) by.lived
+    by_way (inr (inr by)) = lived_by by.configuration by.spelled (answerers by.configuration.trade) by.lived
 
     step : Now
     step = by_way (ways_of G sees role r.before r.after r.status was.steps)

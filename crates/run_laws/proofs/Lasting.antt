@@ -7,6 +7,11 @@ use Rattle.cmd_session.proofs.Verdicts.{at_most_one_verdict}
 use Rattle.jr_boxes.specs.Outboxes.{record_of, records_of_history}
 use Rattle.cmd_session.specs.Lived.{IsKept}
 use Rattle.cmd_session.specs.Outsides.{Sees}
+use Rattle.fixp_shake.specs.declared.config.EndConfig.{EndConfig}
+use Rattle.life_laws.specs.Plans.{Senders, submitting}
+use Rattle.cmd_session.specs.Answers.{answerers}
+use Rattle.cmd_session.specs.Inputs.{end_of}
+use Rattle.cmd_session.specs.Lived.{HasLivedOver}
 use Rattle.run_laws.specs.Several.{Run, IsEmptyJournal, IsAt, RunsOver, IsRun}
 use Rattle.run_laws.specs.Holding.{IsSound, NoneIsLost}
 use Rattle.run_laws.proofs.Merely.{none_left}
@@ -23,16 +28,20 @@ module _ {S K D N C : Type 0} (sees : Sees S K D N C) (contents : List ℕ → T
 
 module _ {S K D N C J : Type 0} (G : Ghosts J) (sees : Sees S K D N C) (role : Role) (r : Run S K D N C) (outboxes inboxes : List ℕ → Type 0)
     (out_at : IsAt sees outboxes r.before.out_disk) (in_at : IsAt sees inboxes r.before.in_disk) (out_all : AllListed outboxes) (in_all : AllListed inboxes) where
+  lived_listed : (config : EndConfig) (senders : Senders) → HasLivedOver G sees config senders r.before r.after r.status → AllListed (sees.may_leave r.after.out_disk) × AllListed (sees.may_leave r.after.in_disk)
+  lived_listed config senders lived =
+      let v = lived.over in (
+        λ left. none_left (sees.may_leave r.after.out_disk) (records_of_history v.closing) (map record_of v.lost) v.out_left left,
+        λ left. v.in_left None left,
+      )
+
   both_listed : Ways G sees role r.before r.after r.status → AllListed (sees.may_leave r.after.out_disk) × AllListed (sees.may_leave r.after.in_disk)
   both_listed (inl kept) = (
     kept_listed sees outboxes r.before.out_disk r.after.out_disk out_at out_all kept.outbox,
     kept_listed sees inboxes r.before.in_disk r.after.in_disk in_at in_all kept.inbox,
   )
-  both_listed (inr by) =
-      let v = by.lived.over in (
-        λ left. none_left (sees.may_leave r.after.out_disk) (records_of_history v.closing) (map record_of v.lost) v.out_left left,
-        λ left. v.in_left None left,
-      )
+  both_listed (inr (inl by)) = lived_listed (end_of role by.configuration.link) (submitting by.plans) by.lived
+  both_listed (inr (inr by)) = lived_listed (end_of role by.configuration.link) (answerers by.configuration.trade) by.lived
 
 sound : (contents : List ℕ → Type 0) (content : List ℕ) → AllListed contents → contents content → IsSound content
 sound contents content all is = record {

@@ -1,5 +1,5 @@
 -- A run keeps its session, in the words of the session model.
-use Rattle.std.proofs.Common.{◌≡◌, inl, inr, ℕ, List, ◌++◌, map, Some, None, Result, sym, ap, subst, ◌∙◌}
+use Rattle.std.proofs.Common.{◌≡◌, inl, inr, ℕ, List, ◌++◌, map, Some, None, Result, sym, ap, subst, ◌∙◌, ◌<◌, arith}
 use Rattle.std.specs.Prelude.{IsSomeAnd}
 use Rattle.std.specs.Option.{ForSome}
 use Rattle.session_model.specs.Journal.{OutboxRecord}
@@ -21,11 +21,12 @@ use Rattle.jr_kept.specs.declared.inbox.Inbox.{Inbox}
 use Rattle.cmd_config.specs.Settings.{own_flow, peer_flow}
 use Rattle.conn_door.specs.declared.answer.ServeFault.{ServeFault}
 use Rattle.conn_serve.specs.Connections.{all_of, adds_of}
-use Rattle.life_laws.specs.Plans.{plan_in}
+use Rattle.life_laws.specs.Plans.{plan_in, submitting}
 use Rattle.cmd_session.specs.Inputs.{end_of}
 use Rattle.cmd_session.specs.Lived.{LeavesImages, LivedOver}
 use Rattle.cmd_session.specs.Outsides.{Sees}
 use Rattle.cmd_session.specs.declared.outside.SessionOutside.{SessionOutside}
+use Rattle.run_laws.specs.Senders.{HasNoDesks}
 use Rattle.run_laws.specs.Several.{Run, Flows, HasFlows}
 use Rattle.run_laws.specs.Promise.{LivedOne, KeepsSession, RunKeeps}
 use Rattle.run_laws.proofs.Refusing.{some_of}
@@ -38,7 +39,7 @@ all_images may_leave closing refused merely None left = none_left may_leave clos
 all_images may_leave closing refused merely (Some records) left = image_left may_leave closing refused records merely left
 
 module _ {J : Type 0} {G : Ghosts J} {S K D N C : Type 0} (sees : Sees S K D N C) (config : EndConfig) (plans : List (List (List ℕ))) (before after : SessionOutside S K D N C) (old new : Inbox J G)
-    (result : Result (Unit {0}) ServeFault) (t : G.tells) (v : LivedOver sees config plans before after old new result) where
+    (result : Result (Unit {0}) ServeFault) (t : G.tells) (v : LivedOver sees config (submitting plans) before after old new result) where
   abbrev life : Life
   life = life_in (machine_life (v.life t).life)
 
@@ -60,10 +61,15 @@ module _ {J : Type 0} {G : Ghosts J} {S K D N C : Type 0} (sees : Sees S K D N C
   }
 
 module _ {S K D N C J : Type 0} (G : Ghosts J) (sees : Sees S K D N C) (role : Role) (flows : Flows) (r : Run S K D N C) (told : G.tells) where
-  by_way : IsSomeAnd (sees.left r.before.config) (HasFlows role flows) → Ways G sees role r.before r.after r.status
+  by_way : IsSomeAnd (sees.left r.before.config) (HasFlows role flows) → IsSomeAnd (sees.left r.before.config) (HasNoDesks role) → Ways G sees role r.before r.after r.status
       → KeepsSession sees (own_flow role flows.client flows.server) (peer_flow role flows.client flows.server) r.before r.after
-  by_way config (inl kept) = inl (record { outbox = kept.outbox; inbox = kept.inbox })
-  by_way config (inr by) =
+  by_way config none (inl kept) = inl (record { outbox = kept.outbox; inbox = kept.inbox })
+  by_way config none (inr (inr by)) =
+      let t = some_of (sees.left r.before.config) (HasNoDesks role) none in
+      let zero : by.configuration.trade.desks ≡ 0 = t.2 by.configuration (by.spelled t.0 t.1) in
+      let some : 0 < by.configuration.trade.desks = by.some in
+      absurd (omega (arith, zero, some))
+  by_way config none (inr (inl by)) =
       let c = by.configuration in
       let t = some_of (sees.left r.before.config) (HasFlows role flows) config in
       let same : (c.link.client_flow ≡ flows.client) × (c.link.server_flow ≡ flows.server) = t.2 c (by.spelled t.0 t.1) in
@@ -74,4 +80,4 @@ module _ {S K D N C J : Type 0} (G : Ghosts J) (sees : Sees S K D N C) (role : R
       c.trade.senders (λ text told. (by.planned text told).1))
 
 pub run_keeps : {S K D N C J : Type 0} (G : Ghosts J) (sees : Sees S K D N C) → RunKeeps G sees
-run_keeps G sees told role flows r config steps = by_way G sees role flows r told config (ways_of G sees role r.before r.after r.status steps)
+run_keeps G sees told role flows r config none steps = by_way G sees role flows r told config none (ways_of G sees role r.before r.after r.status steps)

@@ -38,6 +38,7 @@ use Rattle.jr_dated.specs.declared.journal.Journal.{Ghosts}
 use Rattle.jr_dated.specs.Dated.{dated}
 use Rattle.jr_dated.specs.Images.{journal_size}
 use Rattle.cmd_session.specs.Journals.{IsJournal}
+use Rattle.cmd_session.proofs.Histories.{same_history}
 use Rattle.cmd_session.proofs.Verdicts.{at_most_one_verdict}
 use Rattle.jr_boxes.specs.Outboxes.{IsOutbox, record_of, outbox_of, records_of_history}
 use Rattle.jr_boxes.specs.declared.faults.Which.TheVariants.{Outbox, Inbox as InboxBox}
@@ -51,17 +52,17 @@ use Rattle.conn_door.specs.declared.answer.ServeFault.TheVariants as faults
 use Rattle.conn_door.specs.declared.answer.LifeEnd.{LifeEnd}
 use Rattle.conn_door.specs.declared.answer.LifeEnd.TheVariants as ends
 use Rattle.conn_serve.specs.Connections.{LinkSeen, IsOver, ByClock, Connection, all_of, MadeNoMore, IsConnection, AllEnded, IsFollowed, IsFaithfulLeg, adds_of, refused_of_all}
-use Rattle.conn_door.specs.Answers.{answer_of, IsUnrefused}
+use Rattle.conn_door.specs.Answers.{answer_of, IsOfSender, IsUnrefused}
 use Rattle.conn_steps.specs.Settling.{HaveRoom}
 use Rattle.gw_outside.specs.Faults.{HasRisen}
 use Rattle.fixp_msgs.specs.declared.flow.Flow.TheVariants.{Recoverable}
 use Rattle.jr_boxes.specs.Inboxes.{records_of_inbox}
-use Rattle.life_laws.specs.PlanLives.{IsOfSender}
 use Rattle.conn_serve.specs.Moments.{life_at}
 use Rattle.conn_serve.specs.Opening.{opened_state}
 use Rattle.conn_serve.specs.Served.{ServedLife, ServedOver, IsTold}
 use Rattle.life_laws.specs.Lives.{LifeOfLoop, served_of}
-use Rattle.life_laws.specs.Plans.{plan_in, KeepsPlans, LosesNext, GoesOnBy, GoesOnWith}
+use Rattle.life_laws.specs.Plans.{plan_in, KeepsPlans, LosesNext, GoesOnBy, GoesOnWith, submitting}
+use Rattle.life_laws.proofs.Submitting.{keeps_submitted}
 use Rattle.life_laws.proofs.Lost.{plans_go_on}
 use Rattle.life_laws.proofs.Loops.{served_keeps}
 use Rattle.life_laws.proofs.Opened.{opened_opens}
@@ -170,7 +171,7 @@ keeps_same plans h unmarked = record {
   none = λ e. refl;
 }
 
-module _ {J : Type 0} {G : Ghosts J} (box : Inbox J G) (held : HoldsBox box [] []) (config : EndConfig) (plans : List (List (List ℕ))) (h : History) (from : GoesOnFrom plans h) (lost : List OutboxRecord) (loses : LosesNext plans h h lost)
+module _ {J : Type 0} {G : Ghosts J} (box : Inbox J G) (held : HoldsBox box [] []) (config : EndConfig) (plans : List (List (List ℕ))) (h : History) (lost : List OutboxRecord) (loses : LosesNext plans h h lost)
     (order : InOrder h.made) (unmarked : h.finished ≡ false) (few : length h.made < 2 ^ 40)
     (j : IsJournal (journal_of h) (records_of_history h)) (before after : MemoryOutside) (out_is : before.out_disk ≡ settled h) (in_was : before.in_disk ≡ settled nothing) (in_is : after.in_disk ≡ settled nothing)
     (connections : Result LifeEnd ServeFault) (refused : Option ServeFault) (of_sender : IfSome refused IsOfSender) (result : Result (Unit {0}) ServeFault) (answer : result ≡ answer_of connections refused)
@@ -215,7 +216,7 @@ module _ {J : Type 0} {G : Ghosts J} (box : Inbox J G) (held : HoldsBox box [] [
       (subst (λ (rs : List OutboxRecord). GoesOnWith plans h h rs) (sym k.outboxes.2) goes) k.outboxes.0 k.outboxes.1
       (_, sym k.keeps.inbox_adds)
 
-  abbrev quiet : LivedOver memory config plans before after box box result
+  abbrev quiet : LivedOver memory config (submitting plans) before after box box result
   quiet = record {
     opening = h;
     closing = h;
@@ -225,7 +226,6 @@ module _ {J : Type 0} {G : Ghosts J} (box : Inbox J G) (held : HoldsBox box [] [
     refused = refused;
     out_opened = subst (λ (d : MemoryDisk). ForSome (memory.told d) (λ content. IsJournal content (records_of_history h))) (sym out_is) (told_so (λ content. IsJournal content (records_of_history h)) (journal_of h) j);
     in_opened = subst (λ (d : MemoryDisk). ForSome (memory.told d) (λ content. IsJournal content [])) (sym in_was) (told_so (λ content. IsJournal content []) (journal_of nothing) journal_nothing);
-    goes_on_from = λ content is. from;
     holds = held;
     served = served;
     answer = answer;
@@ -233,11 +233,10 @@ module _ {J : Type 0} {G : Ghosts J} (box : Inbox J G) (held : HoldsBox box [] [
     begins = begins_self h;
     grows = begins_self h;
     lost = lost;
-    loses = loses;
     whole = goes_whole.whole;
     goes_on = goes_whole.goes_on;
     in_order = goes_whole.in_order order;
-    keeps = goes_whole.keeps;
+    planned = λ looks. keeps_submitted plans h h goes_whole.whole lost [] (adds_of (all_of served.life.ended served.life.given_up)) loses goes_whole.keeps;
     life = life;
     contract = λ t. record { connections = keeps t; outbox = outbox_is_kept t };
     out_left = out_left;
@@ -247,9 +246,9 @@ module _ {J : Type 0} {G : Ghosts J} (box : Inbox J G) (held : HoldsBox box [] [
         (subst (λ (rs : List InboxRecord). LeavesImages (memory.may_leave (settled nothing)) [] (records_of_inbox rs)) (sym none) (settled_leaves nothing journal_nothing)));
     room = subst (λ (rs : List InboxRecord). HaveRoom (2 ^ 33) (journal_size []) (rs ++ refused_of_all (option_to_list served.life.given_up))) (sym adds)
         (subst (λ (rs : List InboxRecord). HaveRoom (2 ^ 33) (journal_size []) rs) (sym none) tt);
-    marked = marked;
+    marked = λ u some waits. marked u some;
     none = λ e. refl;
-    journal = journal;
+    journal = λ e looks. journal e;
     changed = λ at e. absurd (not_changed at e);
     full = λ es bytes e. absurd (not_full es bytes e);
   }
@@ -306,8 +305,8 @@ module _ {J : Type 0} {G : Ghosts J} (box : Inbox J G) (held : HoldsBox box [] [
     past = λ es bytes e. absurd (not_full_stopped es bytes e);
   }
 
-  abbrev first_lived : LivedOver memory (end_of role configured.link) first_plans first.before first.after box box (Err faults.Journal)
-  first_lived = quiet box held (end_of role configured.link) first_plans nothing (goes_on_nothing first_plans [] false refl refl) (entry submitted ∷ []) loses_first (λ s. refl) refl (omega arith) journal_nothing first.before first.after refl refl refl
+  abbrev first_lived : LivedOver memory (end_of role configured.link) (submitting first_plans) first.before first.after box box (Err faults.Journal)
+  first_lived = quiet box held (end_of role configured.link) first_plans nothing (entry submitted ∷ []) loses_first (λ s. refl) refl (omega arith) journal_nothing first.before first.after refl refl refl
       (Ok ends.Stopped) (Some faults.Journal) tt (Err faults.Journal) refl (record { life = none_served; links = tt; clock = omega arith }) refl refl ∣ torn_leaves ∣₁ (λ never. absurd (never (omega arith))) (λ unrefused some. absurd (true≢false (sym unrefused)))
       (λ e. inl (omega arith)) journal_not_changed journal_not_full
 
@@ -358,8 +357,8 @@ module _ {J : Type 0} {G : Ghosts J} (box : Inbox J G) (held : HoldsBox box [] [
     abbrev second : MemoryRun
     second = cut_run text h carried
 
-    abbrev second_lived : LivedOver memory (end_of role configured.link) [] second.before second.after box box (Err (faults.Unfinished Ended))
-    second_lived = quiet box held (end_of role configured.link) [] h (no_plans h) [] (inl refl) order unmarked few j second.before second.after refl refl refl (Err (faults.Unfinished Ended)) None tt (Err (faults.Unfinished Ended)) refl
+    abbrev second_lived : LivedOver memory (end_of role configured.link) (submitting []) second.before second.after box box (Err (faults.Unfinished Ended))
+    second_lived = quiet box held (end_of role configured.link) [] h [] (inl refl) order unmarked few j second.before second.after refl refl refl (Err (faults.Unfinished Ended)) None tt (Err (faults.Unfinished Ended)) refl
         (record { life = cut_served ended phase timely faithful; links = (over, tt); clock = by_clock }) refl refl ∣ settled_leaves h j ∣₁ (λ never. refl) (λ unrefused some. absurd (omega (arith, some))) (λ e. absurd (cut_no_journal e)) cut_not_changed cut_not_full
 
 -- what is recorded as a life opens on an inbox without records
@@ -631,40 +630,46 @@ timely_a = record {
 -- ---- the runs of either end
 
 module _ {J : Type 0} {G : Ghosts J} (box : Inbox J G) (held : HoldsBox box [] []) (role : Role) (text : List ℕ) (spelled : configuration_at role text ≡ Ok configured) where
-  abbrev pub was : (r : MemoryRun) (h : History) (plans : List (List (List ℕ))) (result : Result (Unit {0}) ServeFault) → r.before.config ≡ Some text → r.before.input ≡ None → r.before.out_disk ≡ settled h → r.before.in_disk ≡ settled nothing
+  abbrev pub was : (r : MemoryRun) (h : History) (plans : List (List (List ℕ))) → GoesOnFrom plans h → (result : Result (Unit {0}) ServeFault) → r.before.config ≡ Some text → r.before.input ≡ None → r.before.out_disk ≡ settled h → r.before.in_disk ≡ settled nothing
       → IsJournal (journal_of h) (records_of_history h) → IsOutbox (records_of_history h) h → r.status ≡ status_of result → IsOfLife r.status → (r.status ≡ OutputFault → ⊥) → (r.status ≡ DialFault → ⊥)
-      → LivedOver memory (end_of role configured.link) plans r.before r.after box box result → WasRun G memory role both_recoverable r
-  was r h plans result config input out_is in_is j outbox status of_life no_output no_dial life = record {
+      → LivedOver memory (end_of role configured.link) (submitting plans) r.before r.after box box result → WasRun G memory role both_recoverable r
+  was r h plans from result config input out_is in_is j outbox status of_life no_output no_dial life = record {
     config = subst (λ (o : Option (List ℕ)). IsSomeAnd o (HasFlows role both_recoverable)) (sym config)
         (λ c e. let same : configured ≡ c = cc (sym spelled ∙ e) in subst (λ (d : Configuration). (d.link.client_flow ≡ Recoverable) × (d.link.server_flow ≡ Recoverable)) same (refl, refl));
     links = refl;
     steps = inr (record {
       configuration = configured;
       spelled = λ other e. subst (λ (t : List ℕ). configuration_at role t ≡ Ok configured) (same_Some text other (sym config ∙ e)) spelled;
-      ended = inr (record {
-        boxes = record {
-          outbox = subst (λ (d : MemoryDisk). ForSome (memory.told d) (IsBox Outbox (flow_received role configured.link))) (sym out_is)
-              (told_so (IsBox Outbox (flow_received role configured.link)) (journal_of h) (record { records = records_of_history h; journal = j; those = (h, outbox) }));
-          inbox = subst (λ (d : MemoryDisk). ForSome (memory.told d) (IsBox InboxBox (flow_received role configured.link))) (sym in_is)
-              (told_so (IsBox InboxBox (flow_received role configured.link)) (journal_of nothing) (empty_box InboxBox (flow_received role configured.link) (journal_of nothing) journal_nothing));
-        };
-        ended = inr (record {
-          plans = plans;
-          life = record {
-            planned = λ other e. absurd (let d = sym input ∙ e in cc);
-            of_life = of_life;
-            output = λ e. absurd (no_output e);
-            dial = λ e. absurd (no_dial e);
+      ended = inr (inl (
+        refl,
+        record {
+          boxes = record {
+            outbox = subst (λ (d : MemoryDisk). ForSome (memory.told d) (IsBox Outbox (flow_received role configured.link))) (sym out_is)
+                (told_so (IsBox Outbox (flow_received role configured.link)) (journal_of h) (record { records = records_of_history h; journal = j; those = (h, outbox) }));
+            inbox = subst (λ (d : MemoryDisk). ForSome (memory.told d) (IsBox InboxBox (flow_received role configured.link))) (sym in_is)
+                (told_so (IsBox InboxBox (flow_received role configured.link)) (journal_of nothing) (empty_box InboxBox (flow_received role configured.link) (journal_of nothing) journal_nothing));
           };
-          lived = inr (record { old = box; new = box; result = result; status_is = status; over = life });
-        });
-      });
+          ended = inr (record {
+            plans = plans;
+            life = record {
+              planned = λ other e. absurd (let d = sym input ∙ e in cc);
+              of_life = of_life;
+              output = λ e. absurd (no_output e);
+              dial = λ e. absurd (no_dial e);
+            };
+            goes_on = subst (λ (d : MemoryDisk). ForSome (memory.told d) (λ content. (k : History) → IsJournal content (records_of_history k) → GoesOnFrom plans k)) (sym out_is)
+                (told_so (λ content. (k : History) → IsJournal content (records_of_history k) → GoesOnFrom plans k) (journal_of h)
+                (λ k journal. subst (λ (x : History). GoesOnFrom plans x) (same_history h k (at_most_one_verdict.one_list (journal_of h) (records_of_history h) (records_of_history k) j journal)) from));
+            lived = inr (record { old = box; new = box; result = result; status_is = status; over = life });
+          });
+        },
+      ));
     });
   }
 
   -- the first run
   abbrev pub first_was : WasRun G memory role both_recoverable (stopped_run text)
-  first_was = was (stopped_run text) nothing first_plans (Err faults.Journal) refl refl refl refl journal_nothing outbox_nothing refl tt (λ e. cc) (λ e. cc) (first_lived box held role text)
+  first_was = was (stopped_run text) nothing first_plans (goes_on_nothing first_plans [] false refl refl) (Err faults.Journal) refl refl refl refl journal_nothing outbox_nothing refl tt (λ e. cc) (λ e. cc) (first_lived box held role text)
 
   -- both, where the second found this history
   abbrev pub runs_over : (h : History) (carried : Carried) → IsOneOf (journal_of h) torn.left → WasRun G memory role both_recoverable (cut_run text h carried)
@@ -690,7 +695,7 @@ module _ {J : Type 0} {G : Ghosts J} (box : Inbox J G) where
         outbox = journal_of with_one;
         inbox = journal_of nothing;
         over = runs_over box held Initiator text spelled with_one of_initiator (inr (inl refl))
-            (was box held Initiator text spelled (cut_run text with_one of_initiator) with_one [] (Err (faults.Unfinished Ended)) refl refl refl refl journal_one outbox_one refl tt (λ e. cc) (λ e. cc)
+            (was box held Initiator text spelled (cut_run text with_one of_initiator) with_one [] (no_plans with_one) (Err (faults.Unfinished Ended)) refl refl refl refl journal_one outbox_one refl tt (λ e. cc) (λ e. cc)
             (second_lived box held Initiator with_one last_i.machine link_i leg_i of_initiator in_order refl (omega arith) journal_one text ended refl timely_i (tt, tt) (over_memory first_i end_i) (omega arith, omega arith)));
         outbox_is = journal_one;
         inbox_is = journal_nothing;
@@ -705,7 +710,7 @@ module _ {J : Type 0} {G : Ghosts J} (box : Inbox J G) where
         outbox = journal_of nothing;
         inbox = journal_of nothing;
         over = runs_over box held Acceptor text spelled nothing of_acceptor (inl refl)
-            (was box held Acceptor text spelled (cut_run text nothing of_acceptor) nothing [] (Err (faults.Unfinished Ended)) refl refl refl refl journal_nothing outbox_nothing refl tt (λ e. cc) (λ e. cc)
+            (was box held Acceptor text spelled (cut_run text nothing of_acceptor) nothing [] (no_plans nothing) (Err (faults.Unfinished Ended)) refl refl refl refl journal_nothing outbox_nothing refl tt (λ e. cc) (λ e. cc)
             (second_lived box held Acceptor nothing last_a.machine link_a leg_a of_acceptor (λ s. refl) refl (omega arith) journal_nothing text ended refl timely_a ((refl, refl), (tt, tt)) (over_memory first_a end_a) (omega arith, omega arith)));
         outbox_is = journal_nothing;
         inbox_is = journal_nothing;

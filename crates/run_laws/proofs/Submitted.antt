@@ -1,5 +1,5 @@
 -- What the outbox holds of its senders behind any runs of one end.
-use Rattle.std.proofs.Common.{◌≡◌, inl, inr, ⊎_elim, ℕ, suc, true, false, true≢false, Contains, List, [], ◌∷◌, ◌++◌, map, length, drop, Option, Some, IsSomeAnd, Result, zero, arith, refl, sym, ap, subst, ◌∙◌, append_assoc}
+use Rattle.std.proofs.Common.{◌≡◌, inl, inr, ⊎_elim, ℕ, suc, ◌<◌, true, false, true≢false, Contains, List, [], ◌∷◌, ◌++◌, map, length, drop, Option, Some, IsSomeAnd, Result, zero, arith, refl, sym, ap, subst, ◌∙◌, append_assoc}
 use Rattle.std.proofs.lemmas.Bool.{cases_Bool}
 use Rattle.std.proofs.lemmas.List.Elements.{Contains-append_right}
 use mathlib.Core.List.{IsPrefix}
@@ -18,12 +18,13 @@ use Rattle.cmd_session.specs.declared.outside.SessionOutside.{SessionOutside}
 use Rattle.cmd_session.specs.Journals.{IsJournal, Leaves}
 use Rattle.cmd_session.proofs.Verdicts.{at_most_one_verdict}
 use Rattle.jr_boxes.specs.Outboxes.{record_of, outbox_of, records_of_history}
-use Rattle.life_laws.specs.Plans.{plan_in, KeepsPlans}
+use Rattle.life_laws.specs.Plans.{plan_in, KeepsPlans, Senders}
+use Rattle.life_laws.proofs.Submitting.{never_waits, plans_kept}
 use Rattle.life_laws.proofs.Outboxes.{entries-outbox_of, outbox_begins}
 use Rattle.cmd_session.specs.Lived.{IsKept, LivedOver}
 use Rattle.cmd_session.specs.Outsides.{Sees}
 use Rattle.run_laws.specs.Several.{Run, IsEmptyJournal, IsAt, RunsOver}
-use Rattle.run_laws.specs.Senders.{IsPartOf, AllSent, SomeSent, HoldsSent, SendsPart, SendersHold}
+use Rattle.run_laws.specs.Senders.{HasNoDesks, IsPartOf, AllSent, SomeSent, HoldsSent, SendsPart, SendersHold}
 use Rattle.run_laws.proofs.Refusing.{some_of}
 use Rattle.cmd_session.proofs.Histories.{out_tells}
 use Rattle.run_laws.proofs.Telling.{same_outbox, same_image}
@@ -59,8 +60,8 @@ continued plan whole before after part begun c =
     (prefix_trans c.more (drop (length before) plan) (drop (length before) whole) c.planned (prefix_drop (length before) plan whole part)))
 
 -- a life only adds to its outbox
-pub opening_closing : {J : Type 0} {G : Ghosts J} {S K D N C : Type 0} {sees : Sees S K D N C} {config : EndConfig} {plans : List (List (List ℕ))} {before after : SessionOutside S K D N C} {old new : Inbox J G} {result : Result (Unit {0}) ServeFault}
-    (v : LivedOver sees config plans before after old new result) → IsPrefix (outbox_of v.opening) (outbox_of v.closing)
+pub opening_closing : {J : Type 0} {G : Ghosts J} {S K D N C : Type 0} {sees : Sees S K D N C} {config : EndConfig} {senders : Senders} {before after : SessionOutside S K D N C} {old new : Inbox J G} {result : Result (Unit {0}) ServeFault}
+    (v : LivedOver sees config senders before after old new result) → IsPrefix (outbox_of v.opening) (outbox_of v.closing)
 opening_closing v = outbox_begins v.opening v.closing v.grows
 
 module _ {S K D N C J : Type 0} (G : Ghosts J) (sees : Sees S K D N C) (role : Role) (plan : ℕ → List (List ℕ)) (all : List (Run S K D N C)) (h : History) where
@@ -77,7 +78,7 @@ module _ {S K D N C J : Type 0} (G : Ghosts J) (sees : Sees S K D N C) (role : R
     begins : IsPrefix opened (outbox_of h)
     stays : Sent opened → Sent (outbox_of h)
 
-  module _ (r : Run S K D N C) (outboxes : List ℕ → Type 0) (at : IsAt sees outboxes r.before.out_disk) (among : Contains all r) (input : IsSomeAnd (sees.left r.before.input) (IsPartOf plan))
+  module _ (r : Run S K D N C) (outboxes : List ℕ → Type 0) (at : IsAt sees outboxes r.before.out_disk) (among : Contains all r) (config : IsSomeAnd (sees.left r.before.config) (HasNoDesks role)) (input : IsSomeAnd (sees.left r.before.input) (IsPartOf plan))
       (later : Stays (sees.may_leave r.after.out_disk)) where
     unlived : IsKept sees.told sees.may_leave r.before.out_disk r.after.out_disk → Stays outboxes
     unlived kept = record {
@@ -133,7 +134,12 @@ module _ {S K D N C J : Type 0} (G : Ghosts J) (sees : Sees S K D N C) (role : R
 
     by_way : Ways G sees role r.before r.after r.status → Stays outboxes
     by_way (inl kept) = unlived kept.outbox
-    by_way (inr by) =
+    by_way (inr (inr by)) =
+        let t = some_of (sees.left r.before.config) (HasNoDesks role) config in
+        let none : by.configuration.trade.desks ≡ 0 = t.2 by.configuration (by.spelled t.0 t.1) in
+        let some : 0 < by.configuration.trade.desks = by.some in
+        absurd (omega (arith, none, some))
+    by_way (inr (inl by)) =
         let v = by.lived.over in
         let t = some_of (sees.left r.before.input) (IsPartOf plan) input in
         let senders = by.configuration.trade.senders in
@@ -146,14 +152,14 @@ module _ {S K D N C J : Type 0} (G : Ghosts J) (sees : Sees S K D N C) (role : R
           was = told_was sees outboxes r.before.out_disk (records_of_history v.opening) at v.out_opened;
           begins = prefix_trans (outbox_of v.opening) (outbox_of v.closing) (outbox_of h) (opening_closing v)
               (prefix_trans (outbox_of v.closing) later.opened (outbox_of h) (image.kept, sym image.holds) later.begins);
-          stays = λ was. later.stays (sent_now by.plans v.opening v.closing v.whole v.lost t.0 t.1 senders has (t.2 senders by.plans has) v.goes_on v.in_order v.keeps image was);
+          stays = λ was. later.stays (sent_now by.plans v.opening v.closing v.whole v.lost t.0 t.1 senders has (t.2 senders by.plans has) v.goes_on v.in_order (plans_kept by.plans v.opening v.closing v.whole v.lost v.inbox _ (v.planned never_waits)) image was);
         }
 
   stays_over : (runs : List (Run S K D N C)) (outboxes inboxes : List ℕ → Type 0) (outbox inbox : List ℕ) → ((r : Run S K D N C) → Contains runs r → Contains all r) → IsJournal outbox (records_of_history h)
       → RunsOver sees (SendsPart G sees role plan) runs outboxes inboxes outbox inbox → Stays outboxes
   stays_over [] outboxes inboxes outbox inbox among is over = record { opened = outbox_of h; was = (outbox, over.0, is); begins = prefix_self (outbox_of h); stays = λ was. was }
   stays_over (r ∷ later) outboxes inboxes outbox inbox among is over =
-      by_way r outboxes over.0 (among r (0, omega arith, refl)) over.2.input
+      by_way r outboxes over.0 (among r (0, omega arith, refl)) over.2.config over.2.input
       (stays_over later (sees.may_leave r.after.out_disk) (sees.may_leave r.after.in_disk) outbox inbox (λ q k. among q (Contains-append_right (r ∷ []) later q k)) is over.3)
       (ways_of G sees role r.before r.after r.status over.2.steps)
 

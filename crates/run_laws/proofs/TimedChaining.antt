@@ -27,6 +27,8 @@ use Rattle.conn_serve.specs.Connections.{turned, all_of, adds_of, refused_of_all
 use Rattle.conn_serve.specs.Moments.{LifeAt, life_at}
 use Rattle.conn_serve.specs.Opening.{opened_state}
 use Rattle.conn_serve.specs.Served.{ServedLife}
+use Rattle.life_laws.specs.Plans.{Senders, submitting}
+use Rattle.cmd_session.specs.Answers.{answerers}
 use Rattle.cmd_session.specs.Inputs.{IsConfigured, end_of}
 use Rattle.cmd_session.specs.Lived.{LeftAll, LivedOver, HasLivedOver, Lived}
 use Rattle.cmd_session.specs.Outsides.{Sees}
@@ -114,11 +116,11 @@ module _ {S K D N C J : Type 0} (G : Ghosts J) (told : G.tells) (sees : Sees S K
     way = later.way;
   }
 
-  module _ (status : Status) (mine : Link) (same : mine ≡ link) (plans : List (List (List ℕ))) (lived : HasLivedOver G sees (end_of role mine) plans before after status) where
+  module _ (status : Status) (mine : Link) (same : mine ≡ link) (senders : Senders) (lived : HasLivedOver G sees (end_of role mine) senders before after status) where
     abbrev config : EndConfig
     config = end_of role mine
 
-    abbrev v : LivedOver sees config plans before after lived.old lived.new lived.result
+    abbrev v : LivedOver sees config senders before after lived.old lived.new lived.result
     v = lived.over
 
     abbrev at : LifeAt J G
@@ -288,19 +290,20 @@ module _ {S K D N C J : Type 0} (G : Ghosts J) (told : G.tells) (sees : Sees S K
     abbrev Now : List Served → Type 0
     Now some = Comes h i (end_of role link) outboxes inboxes (some ++ lives)
 
-    by_life : (c : Configuration) → c.link ≡ link → (plans : List (List (List ℕ))) → (l : LeftAll sees before after status ⊎ HasLivedOver G sees (end_of role c.link) plans before after status)
-        → Now (served_in_life G sees role before after status (end_of role c.link) plans l)
-    by_life c same plans (inl left) = unlived (unbegun_kept sees before after status left)
-    by_life c same plans (inr lived) = lived_on status c.link same plans lived
+    by_life : (c : Configuration) → c.link ≡ link → (senders : Senders) → (l : LeftAll sees before after status ⊎ HasLivedOver G sees (end_of role c.link) senders before after status)
+        → Now (served_in_life G sees role before after status (end_of role c.link) senders l)
+    by_life c same senders (inl left) = unlived (unbegun_kept sees before after status left)
+    by_life c same senders (inr lived) = lived_on status c.link same senders lived
 
     by_input : (c : Configuration) → c.link ≡ link → (l : StopsAtInput sees c.trade.senders before after status ⊎ Lived G sees c.trade.senders (end_of role c.link) before after status)
         → Now (served_behind_input G sees role before after status c l)
     by_input c same (inl refused) = unlived (input_kept sees before after status c.trade.senders refused)
-    by_input c same (inr life) = by_life c same life.plans life.lived
+    by_input c same (inr life) = by_life c same (submitting life.plans) life.lived
 
     by_config : (c : Configuration) → c.link ≡ link → (l : EndsBehindConfig G sees role c before after status) → Now (served_behind_config G sees role before after status c l)
     by_config c same (inl refused) = unlived (boxes_kept sees before after status role c refused)
-    by_config c same (inr on) = by_input c same on.ended
+    by_config c same (inr (inl on)) = by_input c same on.1.ended
+    by_config c same (inr (inr on)) = by_life c same (answerers c.trade) on.1.lived.lived
 
     by_steps : (s : Steps G sees role before after status) → Now (served_in G sees role before after status s)
     by_steps (inl stopped) = unlived (config_kept sees before after status role stopped)

@@ -1,9 +1,16 @@
 -- A run kept both disks, each by itself, or lived over them.
-use Rattle.std.proofs.Common.{◌≡◌, ◌⊎◌, inl, inr, ℕ, List, ap, subst}
+use Rattle.std.proofs.Common.{◌≡◌, ◌⊎◌, inl, inr, ℕ, ◌<◌, List, ap, subst}
 use Rattle.fixp_shake.specs.declared.config.Role.{Role}
 use Rattle.jr_dated.specs.declared.journal.Journal.{Ghosts}
+use Rattle.std.specs.Option.{ForSome}
+use Rattle.session_model.specs.Journal.{History}
+use Rattle.jr_boxes.specs.Outboxes.{records_of_history}
 use Rattle.cmd_base.specs.declared.status.Status.{Status}
+use Rattle.plan_outbox.specs.Behind.{GoesOnFrom}
+use Rattle.life_laws.specs.Plans.{submitting}
+use Rattle.cmd_session.specs.Journals.{IsJournal}
 use Rattle.cmd_config.specs.declared.configuration.Configuration.{Configuration}
+use Rattle.cmd_session.specs.Answers.{answerers}
 use Rattle.cmd_session.specs.Inputs.{IsConfigured, ArePlanned, flow_received, end_of}
 use Rattle.cmd_session.specs.Lived.{IsKept, LeftAll, HasLivedOver, Lived}
 use Rattle.cmd_session.specs.Outsides.{Sees, disks_of}
@@ -43,21 +50,34 @@ module _ {S K D N C : Type 0} (sees : Sees S K D N C) where
     unbegun_kept l = record { outbox = inr l.left.outbox; inbox = inr l.left.inbox; dialer_is = l.dialer_is }
 
 module _ {S K D N C J : Type 0} (G : Ghosts J) (sees : Sees S K D N C) (role : Role) (before after : SessionOutside S K D N C) (status : Status) where
-  -- it lived over both, by the configuration that CONFIG spells and the plans that INPUT has
+  -- it lived over both, by the configuration that CONFIG spells and the plans that INPUT has, which go on from the outbox
   pub record LivedBy : Type 0 where
     pub configuration : Configuration
     pub spelled : IsConfigured role (sees.left before.config) configuration
     pub plans : List (List (List ℕ))
     pub planned : ArePlanned configuration.trade.senders (sees.left before.input) plans
-    pub lived : HasLivedOver G sees (end_of role configuration.link) plans before after status
+    pub goes_on : ForSome (sees.told before.out_disk) (λ content. (h : History) → IsJournal content (records_of_history h) → GoesOnFrom plans h)
+    pub lived : HasLivedOver G sees (end_of role configuration.link) (submitting plans) before after status
+
+  -- it lived over both, by what the desks of the configuration that CONFIG spells answer
+  pub record LivedByDesks : Type 0 where
+    pub configuration : Configuration
+    pub spelled : IsConfigured role (sees.left before.config) configuration
+    pub some : 0 < configuration.trade.desks
+    pub lived : HasLivedOver G sees (end_of role configuration.link) (answerers configuration.trade) before after status
 
   abbrev pub Ways : Type 0
-  Ways = Unlived sees before after ⊎ LivedBy
+  Ways = Unlived sees before after ⊎ (LivedBy ⊎ LivedByDesks)
 
   by_life : (c : Configuration) → IsConfigured role (sees.left before.config) c → (on : Lived G sees c.trade.senders (end_of role c.link) before after status)
-      → LeftAll sees before after status ⊎ HasLivedOver G sees (end_of role c.link) on.plans before after status → Ways
+      → LeftAll sees before after status ⊎ HasLivedOver G sees (end_of role c.link) (submitting on.plans) before after status → Ways
   by_life c spelled on (inl left) = inl (unbegun_kept sees before after status left)
-  by_life c spelled on (inr lived) = inr (record { configuration = c; spelled = spelled; plans = on.plans; planned = on.life.planned; lived = lived })
+  by_life c spelled on (inr lived) = inr (inl (record { configuration = c; spelled = spelled; plans = on.plans; planned = on.life.planned; goes_on = on.goes_on; lived = lived }))
+
+  by_desks : (c : Configuration) → IsConfigured role (sees.left before.config) c → 0 < c.trade.desks
+      → LeftAll sees before after status ⊎ HasLivedOver G sees (end_of role c.link) (answerers c.trade) before after status → Ways
+  by_desks c spelled some (inl left) = inl (unbegun_kept sees before after status left)
+  by_desks c spelled some (inr lived) = inr (inr (record { configuration = c; spelled = spelled; some = some; lived = lived }))
 
   by_boxes : (c : Configuration) → IsConfigured role (sees.left before.config) c
       → StopsAtInput sees c.trade.senders before after status ⊎ Lived G sees c.trade.senders (end_of role c.link) before after status → Ways
@@ -66,7 +86,8 @@ module _ {S K D N C J : Type 0} (G : Ghosts J) (sees : Sees S K D N C) (role : R
 
   by_config : (c : Configuration) → IsConfigured role (sees.left before.config) c → EndsBehindConfig G sees role c before after status → Ways
   by_config c spelled (inl refused) = inl (boxes_kept sees before after status role c refused)
-  by_config c spelled (inr on) = by_boxes c spelled on.ended
+  by_config c spelled (inr (inl on)) = by_boxes c spelled on.1.ended
+  by_config c spelled (inr (inr on)) = by_desks c spelled on.0 on.1.lived.lived
 
   -- which of both a run did
   pub ways_of : Steps G sees role before after status → Ways

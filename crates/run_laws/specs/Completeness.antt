@@ -25,6 +25,7 @@ use Rattle.conn_door.specs.declared.answer.ServeFault.TheVariants as faults
 use Rattle.conn_door.specs.declared.answer.LifeEnd.TheVariants as ends
 use Rattle.conn_serve.specs.Connections.{Connection}
 use Rattle.conn_serve.specs.Served.{IsLifeAnswer}
+use Rattle.life_laws.specs.Plans.{submitting}
 use Rattle.cmd_session.specs.Inputs.{configuration_at, flow_received, end_of}
 use Rattle.cmd_session.specs.Boxes.{IsBox}
 use Rattle.cmd_session.specs.Lived.{HasLivedOver}
@@ -57,6 +58,7 @@ module _ {S K D N C : Type 0} where
   -- inbox of the flow that it receives, and INPUT has plans for its senders, which go on from the outbox
   pub record IsSetUp (sees : Sees S K D N C) (role : Role) (c : Configuration) (before : SessionOutside S K D N C) : Type 0 where
     pub config : IsSomeAnd (sees.left before.config) (λ text. configuration_at role text ≡ Ok c)
+    pub no_desks : c.trade.desks ≡ 0
     pub outbox : IsSomeAnd (sees.told before.out_disk) (IsBox Outbox (flow_received role c.link))
     pub inbox : IsSomeAnd (sees.told before.in_disk) (IsBox Inbox (flow_received role c.link))
     pub input : IsSomeAnd (sees.left before.input) (TellsPlans c.trade.senders)
@@ -108,7 +110,7 @@ module _ {S K D N C J : Type 0} where
       (status : Status) : Type 0 where
     pub plans : List (List (List ℕ))
     pub planned : IsSomeAnd (sees.left before.input) (λ text. HasPlans c.trade.senders text plans)
-    pub lived : HasLivedOver G sees (end_of role c.link) plans before after status
+    pub lived : HasLivedOver G sees (end_of role c.link) (submitting plans) before after status
     pub ends : EndsAs lived.over.served.life.behind lived.over.seen lived.over.served.life.mid (sees.carried after.dialer) lived.over.served.life.ended
         lived.over.served.life.given_up status
     pub finished : OneFinished lived.over.served.life.ended → IsBehindFinish lived.over.refused status
@@ -127,7 +129,7 @@ module _ {S K D N C J : Type 0} where
 abbrev pub FreshIsSetUp : {S K D N C : Type 0} → Sees S K D N C → (before : SessionOutside S K D N C) → Type 0
 FreshIsSetUp sees before =
     (role : Role) (c : Configuration)
-    → IsSomeAnd (sees.left before.config) (λ text. configuration_at role text ≡ Ok c)
+    → IsSomeAnd (sees.left before.config) (λ text. configuration_at role text ≡ Ok c) → c.trade.desks ≡ 0
     → IsSomeAnd (sees.told before.out_disk) (λ content. IsJournal content []) → IsSomeAnd (sees.told before.in_disk) (λ content. IsJournal content [])
     → sees.left before.input ≡ Some []
     → IsSetUp sees role c before

@@ -16,6 +16,7 @@ use Rattle.life_laws.specs.Plans.{plan_in}
 use Rattle.cmd_session.specs.Lived.{LeavesImages, IsKept}
 use Rattle.cmd_session.specs.Outsides.{Sees}
 use Rattle.cmd_session.specs.declared.outside.SessionOutside.{SessionOutside}
+use Rattle.run_laws.specs.Senders.{HasNoDesks}
 use Rattle.run_laws.specs.Several.{Run, Flows, HasFlows, IsRun}
 
 module _ {S K D N C : Type 0} where
@@ -42,8 +43,8 @@ module _ {S K D N C : Type 0} where
   KeepsSession sees own peer before after = KeepsBoth sees before after ⊎ LivedOne sees own peer before after
 
 module _ {S K D N C J : Type 0} where
-  -- so it is of each run over disks that tell their content, whose CONFIG tells these flows, whatever its peer does
+  -- so it is of each run over disks that tell their content, whose CONFIG tells these flows and has no desks, whatever its peer does
   abbrev pub RunKeeps : Ghosts J → Sees S K D N C → Type 0
   RunKeeps G sees = G.tells → (role : Role) (flows : Flows) (r : Run S K D N C)
-      → IsSomeAnd (sees.left r.before.config) (HasFlows role flows) → IsRun G sees role r
+      → IsSomeAnd (sees.left r.before.config) (HasFlows role flows) → IsSomeAnd (sees.left r.before.config) (HasNoDesks role) → IsRun G sees role r
       → KeepsSession sees (own_flow role flows.client flows.server) (peer_flow role flows.client flows.server) r.before r.after

@@ -31,7 +31,7 @@ use Rattle.run_laws.specs.Linked.{LinkedCarried}
 abbrev pub configured : Configuration
 configured = record {
   link = record { session = replicate 16 7; keepalive = 1000; client_flow = Recoverable; server_flow = Recoverable; credentials = []; version = 0 };
-  trade = record { senders = 1; desks = 0; order_version = 1; reference = 1000000 };
+  trade = record { senders = 1; desks = 0; order_version = 1; reference = 1000000; book = false };
 }
 
 -- a text that spells it

@@ -1,5 +1,5 @@
 -- What the outbox of an end holds of its senders behind any runs, over INPUTs that go on from run to run.
-use Rattle.std.specs.Prelude.{◌≡◌, ℕ, true, Contains, List, [], slice_get, Some, IsSomeAnd, IsTrue, is_some}
+use Rattle.std.specs.Prelude.{◌≡◌, ℕ, true, Contains, List, [], slice_get, Some, Ok, IsSomeAnd, IsTrue, is_some}
 use mathlib.Core.List.{IsPrefix}
 use Rattle.session_model.specs.Journal.{History, InOrder}
 use Rattle.session_model.specs.Plans.{sent_by}
@@ -9,8 +9,14 @@ use Rattle.jr_dated.specs.declared.journal.Journal.{Ghosts}
 use Rattle.cmd_session.specs.Journals.{IsJournal}
 use Rattle.jr_boxes.specs.Outboxes.{records_of_history}
 use Rattle.life_laws.specs.Plans.{plan_in}
+use Rattle.cmd_config.specs.declared.configuration.Configuration.{Configuration}
+use Rattle.cmd_session.specs.Inputs.{configuration_at}
 use Rattle.cmd_session.specs.Outsides.{Sees}
 use Rattle.run_laws.specs.Several.{Run, IsEmptyJournal, RunsOver, IsRun}
+
+-- a CONFIG that spells a configuration for an end of this role spells one without desks
+abbrev pub HasNoDesks : Role → List ℕ → Type 0
+HasNoDesks role text = (c : Configuration) → configuration_at role text ≡ Ok c → c.trade.desks ≡ 0
 
 -- whatever plans a text has, each is a beginning of the plan of its sender
 abbrev pub IsPartOf : (ℕ → List (List ℕ)) → List ℕ → Type 0
@@ -38,8 +44,9 @@ module _ {S K D N C : Type 0} where
     pub finished : h.finished ≡ true → SomeSent sees runs h
 
 module _ {S K D N C J : Type 0} where
-  -- a run whose INPUT tells a part of this plan
+  -- a run that CONFIG gives no desks, and whose INPUT tells a part of this plan
   pub record SendsPart (G : Ghosts J) (sees : Sees S K D N C) (role : Role) (plan : ℕ → List (List ℕ)) (r : Run S K D N C) : Type 0 where
+    pub config : IsSomeAnd (sees.left r.before.config) (HasNoDesks role)
     pub input : IsSomeAnd (sees.left r.before.input) (IsPartOf plan)
     pub steps : IsRun G sees role r
 
@@ -72,8 +79,9 @@ module _ {S K D N C : Type 0} where
     pub finished : h.finished ≡ true → SomeSent sees runs h
 
 module _ {S K D N C J : Type 0} where
-  -- a run whose INPUT tells its text
+  -- a run that CONFIG gives no desks, and whose INPUT tells its text
   pub record TellsInput (G : Ghosts J) (sees : Sees S K D N C) (role : Role) (r : Run S K D N C) : Type 0 where
+    pub config : IsSomeAnd (sees.left r.before.config) (HasNoDesks role)
     pub input : IsTrue (is_some (sees.left r.before.input))
     pub steps : IsRun G sees role r
 

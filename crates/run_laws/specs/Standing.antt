@@ -9,6 +9,8 @@ use Rattle.cmd_session.specs.Journals.{IsJournal}
 use Rattle.jr_boxes.specs.Outboxes.{records_of_history}
 use Rattle.cmd_base.specs.declared.status.Status.{Status}
 use Rattle.cmd_config.specs.declared.configuration.Configuration.{Configuration}
+use Rattle.life_laws.specs.Plans.{Senders, submitting}
+use Rattle.cmd_session.specs.Answers.{answerers}
 use Rattle.cmd_session.specs.Inputs.{end_of}
 use Rattle.cmd_session.specs.Lived.{LeftAll, HasLivedOver, Lived}
 use Rattle.cmd_session.specs.Outsides.{Sees}
@@ -18,19 +20,20 @@ use Rattle.run_laws.specs.Several.{Run, IsEmptyJournal, RunsOver, IsRun}
 
 module _ {S K D N C J : Type 0} (G : Ghosts J) (sees : Sees S K D N C) (role : Role) (before after : SessionOutside S K D N C) (status : Status) where
   -- what a life closed on, if one was lived, begins this history
-  abbrev pub LifeStands : (h : History) (config : EndConfig) (plans : List (List (List ℕ)))
-      → LeftAll sees before after status ⊎ HasLivedOver G sees config plans before after status → Type 0
-  LifeStands h config plans (inl left) = ⊤
-  LifeStands h config plans (inr lived) = BeginsHistory lived.over.closing h
+  abbrev pub LifeStands : (h : History) (config : EndConfig) (senders : Senders)
+      → LeftAll sees before after status ⊎ HasLivedOver G sees config senders before after status → Type 0
+  LifeStands h config senders (inl left) = ⊤
+  LifeStands h config senders (inr lived) = BeginsHistory lived.over.closing h
 
   abbrev pub BoxesStand : (h : History) (c : Configuration)
       → StopsAtInput sees c.trade.senders before after status ⊎ Lived G sees c.trade.senders (end_of role c.link) before after status → Type 0
   BoxesStand h c (inl refused) = ⊤
-  BoxesStand h c (inr life) = LifeStands h (end_of role c.link) life.plans life.lived
+  BoxesStand h c (inr life) = LifeStands h (end_of role c.link) (submitting life.plans) life.lived
 
   abbrev pub ConfigStands : (h : History) (c : Configuration) → EndsBehindConfig G sees role c before after status → Type 0
   ConfigStands h c (inl refused) = ⊤
-  ConfigStands h c (inr on) = BoxesStand h c on.ended
+  ConfigStands h c (inr (inl on)) = BoxesStand h c on.1.ended
+  ConfigStands h c (inr (inr on)) = LifeStands h (end_of role c.link) (answerers c.trade) on.1.lived.lived
 
   abbrev pub RunStands : (h : History) → Steps G sees role before after status → Type 0
   RunStands h (inl stopped) = ⊤

@@ -18,6 +18,8 @@ use Rattle.conn_door.specs.declared.answer.LifeEnd.{LifeEnd}
 use Rattle.conn_serve.specs.Connections.{Connection, turned, all_of}
 use Rattle.conn_serve.specs.Moments.{LifeAt}
 use Rattle.conn_serve.specs.Served.{WasGivenUp, ServedLife}
+use Rattle.life_laws.specs.Plans.{Senders, submitting}
+use Rattle.cmd_session.specs.Answers.{answerers}
 use Rattle.cmd_session.specs.Inputs.{configuration_at, end_of}
 use Rattle.cmd_session.specs.Lived.{LeftAll, HasLivedOver, Lived}
 use Rattle.cmd_session.specs.Outsides.{Sees}
@@ -54,19 +56,20 @@ module _ {J : Type 0} {G : Ghosts J} {tells : Type 0} where
 
 module _ {S K D N C J : Type 0} (G : Ghosts J) (sees : Sees S K D N C) (role : Role) (before after : SessionOutside S K D N C) (status : Status) where
   -- those of the life that a run lived, if it lived one
-  abbrev pub served_in_life : (config : EndConfig) (plans : List (List (List ℕ)))
-      → LeftAll sees before after status ⊎ HasLivedOver G sees config plans before after status → List Served
-  served_in_life config plans (inl left) = []
-  served_in_life config plans (inr lived) = served_of _ _ _ _ lived.over.served.life ∷ []
+  abbrev pub served_in_life : (config : EndConfig) (senders : Senders)
+      → LeftAll sees before after status ⊎ HasLivedOver G sees config senders before after status → List Served
+  served_in_life config senders (inl left) = []
+  served_in_life config senders (inr lived) = served_of _ _ _ _ lived.over.served.life ∷ []
 
   abbrev pub served_behind_input : (c : Configuration)
       → StopsAtInput sees c.trade.senders before after status ⊎ Lived G sees c.trade.senders (end_of role c.link) before after status → List Served
   served_behind_input c (inl refused) = []
-  served_behind_input c (inr life) = served_in_life (end_of role c.link) life.plans life.lived
+  served_behind_input c (inr life) = served_in_life (end_of role c.link) (submitting life.plans) life.lived
 
   abbrev pub served_behind_config : (c : Configuration) → EndsBehindConfig G sees role c before after status → List Served
   served_behind_config c (inl refused) = []
-  served_behind_config c (inr on) = served_behind_input c on.ended
+  served_behind_config c (inr (inl on)) = served_behind_input c on.1.ended
+  served_behind_config c (inr (inr on)) = served_in_life (end_of role c.link) (answerers c.trade) on.1.lived.lived
 
   abbrev pub served_in : Steps G sees role before after status → List Served
   served_in (inl stopped) = []

@@ -1,0 +1,24 @@
+use Rattle.std.proofs.Common.{refl, inl, inr, ⊎_elim, subst, arith}
+use Rattle.gw_outside.specs.Faults.{HasRisen}
+use Rattle.cmd_session.specs.Outsides.{hears}
+use Rattle.cmd_session.proofs.Served.{lived_from}
+use Rattle.cmd_session.proofs.command.answer_over_boxes.Goals as goal
+
+pub returns-in-Err-clause-lived : goal.returns-in-Err-clause-lived
+returns-in-Err-clause-lived g c = inl (record { cause = inr (refl, c.in-Err.ensures.cause.risen); dialer_is = refl; box_is = refl; outbox_is = refl })
+
+pub returns-clause-lived : goal.returns-clause-lived
+returns-clause-lived g c =
+    let as_before = c.in-Ok.ensures.cause.risen in
+    ⊎_elim
+    (λ b. inl (record {
+      cause = ⊎_elim (λ m. inl m) (λ f. inr (f.0, subst (λ n. HasRisen n (g.K.Sink.faults c.live_answering.new.devices.out)) as_before f.1)) b.cause;
+      dialer_is = b.dialer_is;
+      box_is = b.box_is;
+      outbox_is = b.outbox_is;
+    }))
+    (λ h. inr (lived_from (hears g.K.Sink g.N.Dialer g.N.Link.Link g.C.Clock) _ _ c.args.devices.now _ _ _ _ _ _ c.in-Ok.ensures.nothing (omega arith) h))
+    c.live_answering.ensures.lived
+
+pub returns-clause-output : goal.returns-clause-output
+returns-clause-output g c = λ e. subst (λ n. HasRisen n (g.K.Sink.faults c.live_answering.new.devices.out)) c.in-Ok.ensures.cause.risen (c.live_answering.ensures.output e)

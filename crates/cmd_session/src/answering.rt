@@ -1,0 +1,319 @@
+//! The life of a session whose end answers the orders of its peer: desks, or one with a book, at a gate round the outbox, beside the
+//! connections. Relies on `order_gate` and `order_book_gate` for what is answered, and on `conn_serve` for when.
+
+ghost use Rattle.std.specs.Prelude.{◌≡◌, ◌⊎◌, ℕ, ◌+◌, ◌<◌, ◌≤◌, ◌^◌, false, None, [], List, length, IfSome, Err};
+ghost use denote.Param.Send.{IsSend};
+ghost use Rattle.order_gate.specs.contracts.desk.Desk as desk;
+ghost use Rattle.order_gate.specs.contracts.form.Form as form;
+ghost use Rattle.order_book.specs.contracts.book.Book as book;
+ghost use Rattle.gate_plans.specs.contracts.door.OpenDoor as open_door;
+ghost use Rattle.gw_outside.specs.Faults.{HasRisen};
+ghost use Rattle.session_model.specs.Inbox.{InboxRecord};
+ghost use Rattle.cmd_config.specs.Settings.{IsTradeInRange};
+ghost use Rattle.fixp_msgs.specs.declared.flow.Flow.TheVariants as flows;
+ghost use Rattle.jr_kept.specs.Outbox as outboxes;
+ghost use Rattle.jr_kept.specs.Inbox as inboxes;
+ghost use Rattle.gate_turn.specs.Places.{known};
+ghost use Rattle.gate_turn.specs.Rule.{In};
+ghost use Rattle.gate_turn.specs.Listed.{known_at};
+ghost use Rattle.gate_turn.specs.Calls.{IsFree, made_part};
+ghost use Rattle.gate_senders.specs.Gate.{opening_of, senders_of, IsPassAt, MadeAt, AllBackAt};
+ghost use Rattle.gate_business.specs.Business.{lock_of, HasThese};
+ghost use Rattle.conn_door.specs.declared.answer.ServeFault.TheVariants as faults;
+ghost use Rattle.conn_serve.specs.Moments.{beside};
+ghost use Rattle.life_laws.specs.PlanLives.{clocked, LivesOnceClosed};
+ghost use Rattle.business_laws.specs.Answered.{answering};
+ghost use Rattle.cmd_session.specs.Answers.{desks_of, plan_of, MayAnswer, AreOf};
+ghost use Rattle.cmd_session.specs.Outsides.{hears};
+ghost use Rattle.cmd_session.specs.Lived.{over_boxes, IsOfLife, BeganNone, HasLived};
+
+use crate::boxes::MOST;
+use crate::life::{made_gate, status_of};
+use crate::outside::Live;
+use cmd_base::Status;
+use cmd_config::Trade;
+use conn_serve::{Answering, ServeFault, serve_answering};
+use fixp_shake::EndConfig;
+use gate_business::{Business, give_connection, take_connection};
+use gate_plans::OpenDoor;
+use gate_senders::{Gate, Kept};
+use gate_turn::{Pass, Passes};
+use gw_links::{Clock, Dialer};
+use gw_outside::{Disk, Sink};
+use jr_dated::Journal;
+use jr_kept::{Inbox, Outbox};
+use jr_segments::SegJournal;
+use order_book::Book;
+use order_book_gate::BookDesk;
+use order_gate::{Desk, Desks, Form, Terms};
+use std::alloc::Global;
+use std::sync::Wait;
+use std::thread::Threads;
+
+/// Who answers the orders of the peer.
+#[derive(Clone, Copy)]
+pub enum Answerer {
+    /// Desks, on these terms.
+    Desks(Terms),
+    /// One desk that keeps a book, by this version of the order schema.
+    Book { version: u16 },
+}
+
+impl Answerer {
+    /// How many desks there are, 1 to 16.
+    fn desks(self) -> u16
+        ensures { result ≡ desks_of self }
+    {
+        match self {
+            Answerer::Desks(terms) => terms.desks,
+            Answerer::Book { .. } => 1,
+        }
+    }
+}
+
+/// Who answers in a session that is configured so; nobody where senders have plans.
+pub fn answerer_of(trade: Trade) -> Option<Answerer>
+    requires range { IsTradeInRange trade }
+    ensures none { result ≡ None → trade.desks ≡ 0 }
+    ensures some { IfSome result (λ a. (0 < trade.desks) × AreOf trade a) }
+{
+    if trade.desks == 0 {
+        return None;
+    }
+    let version = u16::from(trade.order_version);
+    if trade.book {
+        return Some(Answerer::Book { version });
+    }
+    Some(Answerer::Desks(Terms {
+        desks: u16::from(trade.desks),
+        version,
+        reference: trade.reference as i64,
+    }))
+}
+
+/// Says of a type that its values may go to another thread. Said of each part apart, since all of a desk is too much for one search.
+fn sends<T: Send>()
+    ensures { IsSend T.row }
+{}
+
+/// The form of orders may go to another thread.
+fn form_sends()
+    ensures { IsSend form.the_row }
+{
+    sends::<Form>();
+}
+
+/// An order book may go to another thread.
+fn book_sends()
+    ensures { IsSend book.the_row }
+{
+    sends::<Book>();
+}
+
+/// A door that lets all pass may go to another thread.
+fn door_sends()
+    ensures { IsSend open_door.the_row }
+{
+    sends::<OpenDoor>();
+}
+
+/// One desk may go to another thread.
+fn desk_sends<O: Journal + Send>()
+    ensures { IsSend (desk.the_row O.row O.Journal) }
+{
+    sends::<Desk<O>>();
+}
+
+/// Serves the connections of the dialer, with a business of so many desks that answers what they apply. All passes come back.
+fn serve_business<
+    O: Journal + Send,
+    K: Sink,
+    I: Journal,
+    N: Dialer,
+    C: Clock,
+    B: Business<O, Held = Kept<O>> + Send,
+    R: Threads + Wait + Sync,
+>(
+    rt: &R,
+    alloc: Global,
+    config: EndConfig,
+    business: B,
+    desks: u16,
+    devices: &mut Live<K, N, C>,
+    gate: &Gate<O>,
+    pass: Pass<Kept<O>>,
+    inbox: &mut Inbox<I>,
+) -> (Result<(), ServeFault>, Passes<Kept<O>>)
+    requires count { B.count business ≡ desks }
+    requires senders { senders_of gate.now ≡ desks }
+    requires some { 0 < desks }
+    requires few { desks ≤ 16 }
+    requires has { B.has business (lock_of gate.now) }
+    requires parts { (n : ℕ) → In desks n → B.part business n ≡ made_part (desks + 1) (opening_of gate.now) n }
+    requires last { known pass ≡ made_part (desks + 1) (opening_of gate.now) (desks + 1) }
+    requires own { IsPassAt gate.now pass }
+    requires free { IsFree pass }
+    requires sent { length (opening_of gate.now).history.made < 2 ^ 40 }
+    requires in_sound { inboxes.is_broken inbox.old ≡ false }
+    requires held { ∥ ((i : List InboxRecord) × inboxes.HoldsBox inbox.old i []) ∥₁ }
+    requires lent { N.lent devices.old.dialer ≡ false }
+    requires flow { inboxes.flow_of inbox.old ≡ config.peer_flow }
+    requires limit { (inboxes.limits_of inbox.old).entries ≡ 2 ^ 26 }
+    requires numbered { inboxes.flow_of inbox.old ≡ flows.Recoverable → inboxes.next_of inbox.old + 1 < 2 ^ 64 }
+    requires least { 100 ≤ config.keepalive }
+    requires greatest { config.keepalive ≤ 60000 }
+    requires credentials { length config.credentials ≤ 2048 }
+    ensures back { AllBackAt gate.now result.1 }
+    ensures lived { LivesOnceClosed (clocked O.tells N.Link.Link (C.last devices.old.clock) (C.last devices.new.clock)) config (answering (B.plan business) (B.count business)) (beside (N.told devices.old.dialer) (K.taken devices.old.out) inbox.old) (beside (N.told devices.new.dialer) (K.taken devices.new.out) inbox.new) gate.now result.1 result.0 }
+    ensures output { result.0 ≡ Err faults.Output → HasRisen (K.faults devices.old.out) (K.faults devices.new.out) }
+    ensures dial { result.0 ≡ Err faults.Dial → HasRisen (N.faults devices.old.dialer) (N.faults devices.new.dialer) }
+    ensures lent { N.lent devices.new.dialer ≡ false }
+    ensures never_falls { (inboxes.faults_of inbox.old ≤ inboxes.faults_of inbox.new) × (K.faults devices.old.out ≤ K.faults devices.new.out) × (N.faults devices.old.dialer ≤ N.faults devices.new.dialer) }
+{
+    let mut pass = pass;
+    let mut answering = Answering::new(alloc, business);
+    let answer = serve_answering(
+        alloc,
+        &mut devices.dialer,
+        &mut devices.out,
+        gate,
+        &mut pass,
+        inbox,
+        &mut devices.clock,
+        config,
+        MOST,
+        &mut answering,
+        rt,
+    );
+    let mut passes = answering.end().end();
+    give_connection(gate, &mut passes, desks, pass);
+    (answer, passes)
+}
+
+/// All passes of so many desks and of the connection, where there was no memory for those who answer.
+fn none_made<O: Journal>(
+    gate: &Gate<O>,
+    passes: Passes<Kept<O>>,
+    desks: u16,
+    pass: Pass<Kept<O>>,
+) -> (Result<(), ServeFault>, Passes<Kept<O>>)
+    requires few { desks ≤ 16 }
+    requires own { IsPassAt gate.now pass }
+    requires free { IsFree pass }
+    requires number { (known pass).number ≡ desks + 1 }
+    requires alone { desks ≡ 0 → (known pass).made ≡ 1 }
+    requires these { HasThese (lock_of gate.now) passes desks }
+    requires first { 0 < desks → (known_at passes 1).made ≡ desks + 1 }
+    ensures answer { result.0 ≡ Err faults.Memory }
+    ensures back { AllBackAt gate.now result.1 }
+    ensures parts { (n : ℕ) → In desks n → known_at result.1 n ≡ known_at passes n }
+    ensures last { known_at result.1 (desks + 1) ≡ known pass }
+{
+    let mut passes = passes;
+    give_connection(gate, &mut passes, desks, pass);
+    (Err(ServeFault::Memory), passes)
+}
+
+/// Those who answer, made for the passes of so many desks: they serve the connections, and all passes come back, also where there is no
+/// memory for them.
+fn serve_answerer<
+    O: Journal + Send,
+    K: Sink,
+    I: Journal,
+    N: Dialer,
+    C: Clock,
+    R: Threads + Wait + Sync,
+>(
+    rt: &R,
+    alloc: Global,
+    config: EndConfig,
+    answerer: Answerer,
+    devices: &mut Live<K, N, C>,
+    gate: &Gate<O>,
+    passes: Passes<Kept<O>>,
+    inbox: &mut Inbox<I>,
+) -> (Result<(), ServeFault>, Passes<Kept<O>>)
+    requires able { MayAnswer answerer }
+    requires senders { senders_of gate.now ≡ desks_of answerer }
+    requires made { MadeAt gate.now passes (desks_of answerer + 1) }
+    requires sent { length (opening_of gate.now).history.made < 2 ^ 40 }
+    requires in_sound { inboxes.is_broken inbox.old ≡ false }
+    requires held { ∥ ((i : List InboxRecord) × inboxes.HoldsBox inbox.old i []) ∥₁ }
+    requires lent { N.lent devices.old.dialer ≡ false }
+    requires flow { inboxes.flow_of inbox.old ≡ config.peer_flow }
+    requires limit { (inboxes.limits_of inbox.old).entries ≡ 2 ^ 26 }
+    requires numbered { inboxes.flow_of inbox.old ≡ flows.Recoverable → inboxes.next_of inbox.old + 1 < 2 ^ 64 }
+    requires least { 100 ≤ config.keepalive }
+    requires greatest { config.keepalive ≤ 60000 }
+    requires credentials { length config.credentials ≤ 2048 }
+    ensures back { AllBackAt gate.now result.1 }
+    ensures lived { LivesOnceClosed (clocked O.tells N.Link.Link (C.last devices.old.clock) (C.last devices.new.clock)) config (answering (plan_of answerer) (desks_of answerer)) (beside (N.told devices.old.dialer) (K.taken devices.old.out) inbox.old) (beside (N.told devices.new.dialer) (K.taken devices.new.out) inbox.new) gate.now result.1 result.0 }
+    ensures output { result.0 ≡ Err faults.Output → HasRisen (K.faults devices.old.out) (K.faults devices.new.out) }
+    ensures dial { result.0 ≡ Err faults.Dial → HasRisen (N.faults devices.old.dialer) (N.faults devices.new.dialer) }
+    ensures lent { N.lent devices.new.dialer ≡ false }
+    ensures never_falls { (inboxes.faults_of inbox.old ≤ inboxes.faults_of inbox.new) × (K.faults devices.old.out ≤ K.faults devices.new.out) × (N.faults devices.old.dialer ≤ N.faults devices.new.dialer) }
+{
+    form_sends();
+    book_sends();
+    door_sends();
+    desk_sends::<O>();
+    let count = answerer.desks();
+    let mut passes = passes;
+    let pass = take_connection(gate, &mut passes, count);
+    match answerer {
+        Answerer::Desks(terms) => match Desks::new(alloc, passes, terms, OpenDoor) {
+            Ok(desks) => {
+                serve_business(rt, alloc, config, desks, count, devices, gate, pass, inbox)
+            }
+            Err(passes) => none_made(gate, passes, count, pass),
+        },
+        Answerer::Book { version } => match BookDesk::new(alloc, passes, version) {
+            Ok(book) => {
+                serve_business(rt, alloc, config, book, count, devices, gate, pass, inbox)
+            }
+            Err(passes) => none_made(gate, passes, count, pass),
+        },
+    }
+}
+
+/// Serves the connections of the dialer, with those who answer beside them, each by a pass of its own. The outbox comes back with the
+/// status.
+pub fn live_answering<K: Sink, D: Disk + Send, N: Dialer, C: Clock, R: Threads + Wait + Sync>(
+    rt: &R,
+    alloc: Global,
+    config: EndConfig,
+    answerer: Answerer,
+    devices: &mut Live<K, N, C>,
+    outbox: Outbox<SegJournal<D>>,
+    inbox: &mut Inbox<SegJournal<D>>,
+) -> (Status, Outbox<SegJournal<D>>)
+    requires able { MayAnswer answerer }
+    requires sound { outboxes.is_broken outbox ≡ false }
+    requires in_sound { inboxes.is_broken inbox.old ≡ false }
+    requires held { ∥ ((i : List InboxRecord) × inboxes.HoldsBox inbox.old i []) ∥₁ }
+    requires few_entries { outboxes.front_of outbox < 2 ^ 40 }
+    requires lent { N.lent devices.old.dialer ≡ false }
+    requires flow { inboxes.flow_of inbox.old ≡ config.peer_flow }
+    requires limit { (inboxes.limits_of inbox.old).entries ≡ 2 ^ 26 }
+    requires numbered { inboxes.flow_of inbox.old ≡ flows.Recoverable → inboxes.next_of inbox.old + 1 < 2 ^ 64 }
+    requires least { 100 ≤ config.keepalive }
+    requires greatest { config.keepalive ≤ 60000 }
+    requires credentials { length config.credentials ≤ 2048 }
+    ensures lived { BeganNone K.faults (over_boxes devices.old outbox inbox.old) (over_boxes devices.new result.1 inbox.new) result.0
+        ⊎ HasLived (hears K.Sink N.Dialer N.Link.Link C.Clock) config (answering (plan_of answerer) (desks_of answerer)) (over_boxes devices.old outbox inbox.old) (over_boxes devices.new result.1 inbox.new) result.0 }
+    ensures of_life { IsOfLife result.0 }
+    ensures output { result.0 ≡ Status.OutputFault → HasRisen (K.faults devices.old.out) (K.faults devices.new.out) }
+    ensures dial { result.0 ≡ Status.DialFault → HasRisen (N.faults devices.old.dialer) (N.faults devices.new.dialer) }
+    ensures lent { N.lent devices.new.dialer ≡ false }
+    ensures never_falls { (inboxes.faults_of inbox.old ≤ inboxes.faults_of inbox.new) × (K.faults devices.old.out ≤ K.faults devices.new.out) × (N.faults devices.old.dialer ≤ N.faults devices.new.dialer) }
+    ensures outbox_never_falls { outboxes.faults_of outbox ≤ outboxes.faults_of result.1 }
+{
+    let (gate, passes) = match made_gate(alloc, outbox, answerer.desks()) {
+        Ok(made) => made,
+        Err(outbox) => return (Status::Memory, outbox),
+    };
+    let (answer, passes) = serve_answerer(
+        rt, alloc, config, answerer, devices, &gate, passes, inbox,
+    );
+    (status_of(answer), gate.close(passes))
+}
