@@ -1,10 +1,10 @@
 //! Cases of frames and of the session machine: reads the frames of `frames.txt` and the cases of
 //! `sessions.txt`, and prints what each case shows. What it has to print stands in `stdout`, worked out by hand.
 
-mod ends;
+pub mod ends;
 mod frames;
-mod named;
-mod words;
+pub mod named;
+pub mod words;
 
 use crate::entries::entries;
 use crate::sessions::ends::Sources;

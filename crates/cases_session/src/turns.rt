@@ -1,17 +1,23 @@
 //! Sessions of two ends over their turns: two connections against each other over pipes in memory, with gates, journals and inboxes
 //! as a session has them. Senders submit between the turns, links give and take a part or a byte at a time, and connections are cut
-//! where it is drawn; the last one is not. The journals are opened again and judged by plain lists. Then each end hears what an honest
-//! peer sends in a connection with one byte changed, by `tapes.txt`. What the program has to print stands in `stdout`, worked out by
-//! hand: how many sessions and tapes there are, and that all hold.
+//! where it is drawn; the last one is not. The journals are opened again and judged by plain lists. Before them stand rows of whole turns,
+//! by `turns.txt`, and a long session over a link with losses; behind them each end hears what an honest peer sends in a connection with
+//! one byte changed, by `tapes.txt`. What the program has to print stands in `stdout`, worked out by hand.
 
-mod chance;
 mod judge;
+mod losses;
+mod lossy;
 mod narrow;
+mod rows;
 mod runs;
 mod session;
 mod tapes;
+mod written;
 
+use crate::sessions::named::Named;
 use fixp_end::{Flow, Role};
+use losses::push_losses;
+use rows::push_row;
 use runs::{Kind, push_sessions};
 use std::alloc::{AllocError, Global};
 use std::rt::Files;
@@ -94,8 +100,49 @@ fn print_tapes<R: Print + AllocGlobal + Wait>(
     rt.println(line)
 }
 
+/// Adds a row of whole turns, or a comment as it stands.
+fn push_line<R: Wait>(
+    rt: &R,
+    alloc: Global,
+    line: &mut String,
+    named: Named<'_>,
+    row: &str,
+) -> Result<(), AllocError> {
+    if row.starts_with("#") {
+        return line.push_str(row);
+    }
+    push_row(alloc, line, named, row, rt)
+}
+
+/// Prints a row of whole turns.
+fn print_row<R: Print + AllocGlobal + Wait>(rt: &R, named: Named<'_>, row: &str) -> io::Result<()> {
+    let mut line = String::new(rt.alloc());
+    push_line(rt, rt.alloc(), &mut line, named, row)?;
+    rt.println(line)
+}
+
+/// Prints the rows of whole turns.
+fn print_rows<R: Files + Print + AllocGlobal + Wait>(rt: &R) -> io::Result<()> {
+    let table = fs::read_to_string(rt, "frames.txt")?;
+    let rows = fs::read_to_string(rt, "turns.txt")?;
+    for row in rows.lines() {
+        print_row(rt, Named::of(table.as_str()), row)?;
+    }
+    Ok(())
+}
+
+/// Prints how a long session goes over a link with losses, in which the end of this role sends.
+fn print_losses<R: Print + AllocGlobal + Wait>(rt: &R, role: Role) -> io::Result<()> {
+    let mut line = String::new(rt.alloc());
+    push_losses(rt.alloc(), &mut line, role, rt)?;
+    rt.println(line)
+}
+
 /// Prints what the section shows.
 pub fn print<R: Files + Print + AllocGlobal + Wait>(rt: &R) -> io::Result<()> {
+    print_rows(rt)?;
+    print_losses(rt, Role::Initiator)?;
+    print_losses(rt, Role::Acceptor)?;
     print_sessions(rt)?;
     let lines = fs::read_to_string(rt, "tapes.txt")?;
     print_tapes(rt, Role::Acceptor, "accept", lines.as_str())?;

@@ -183,8 +183,8 @@ pub fn by_threes(
     )
 }
 
-/// The same where the ends are of these versions, of which one at least is 1. A second connection is cut too where both are, and both
-/// flows are recoverable.
+/// The same where the ends are of these versions, of which one at least is 1. A second connection is cut too where both flows are
+/// recoverable.
 pub fn by_versions(
     alloc: Global,
     initiator: Flow,
@@ -192,8 +192,8 @@ pub fn by_versions(
     entries: &[Stable],
     versions: [u16; 2],
 ) -> Result<String, AllocError> {
-    let (most, twice) = match (initiator, acceptor, versions) {
-        (Flow::Recoverable, Flow::Recoverable, [1, 1]) => (ALL, " and two cuts"),
+    let (most, twice) = match (initiator, acceptor) {
+        (Flow::Recoverable, Flow::Recoverable) => (ALL, " and two cuts"),
         _ => (0, ""),
     };
     let mut runs = Runs::none(alloc, initiator, acceptor, entries, COUNT, versions, most);

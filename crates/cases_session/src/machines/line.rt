@@ -1,6 +1,7 @@
 //! The bytes under way from one end to the other, and how many frames a connection carries before it is cut.
 
-use fixp_msgs::{FrameKind, SessionMsg, kind, read};
+use crate::spoken::session_in;
+use fixp_msgs::SessionMsg;
 use sbe_prim::Order;
 use std::alloc::{AllocError, Global};
 
@@ -103,8 +104,8 @@ impl Passage {
 
 /// Whether a message asks for a retransmission.
 fn asks_again(order: Order, message: &[u8]) -> bool {
-    if message.len() < 8 || order != Order::Little || kind(order, message) != FrameKind::Session {
-        return false;
-    }
-    matches!(read(message), Ok(SessionMsg::RetransmitRequest(_)))
+    matches!(
+        session_in(order, message),
+        Some(SessionMsg::RetransmitRequest(_))
+    )
 }

@@ -1,6 +1,6 @@
 //! Sessions that are drawn, and what was wrong with the first of them with which something was.
 
-use crate::turns::chance::Chance;
+use crate::chance::Chance;
 use crate::turns::judge::{both_opened, fault};
 use crate::turns::session::{Plan, Session};
 use fixp_end::Flow;

@@ -1,6 +1,6 @@
 //! Two ends of a session, and the pipe between them.
 
-use crate::turns::chance::Chance;
+use crate::chance::Chance;
 use crate::turns::narrow::Narrow;
 use cases_made::{Disks, DrivenEnd, Setup, Standing, fresh_disks};
 use fixp_end::{Ending, Flow, Role};
