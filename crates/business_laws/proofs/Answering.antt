@@ -82,7 +82,7 @@ plan_else plan count messages ps zero out = refl
 plan_else plan count messages ps (suc s) out = get_or_past (plans_over plan count messages) s []
     (⊎_elim (λ (lt : s < count). absurd (out (record { from_one = omega arith; up_to = omega (arith, lt) }))) (λ (le : count ≤ s). omega (arith, le, length-over plan count messages)) (cases_lt s count))
 
-plan_any : (plan : ℕ → List (List ℕ) → List (List ℕ)) (count : ℕ) (messages ps qs : List (List ℕ)) (s : ℕ) → plan_in (plans_over plan count messages) s ps ≡ plan_in (plans_over plan count messages) s qs
+pub plan_any : (plan : ℕ → List (List ℕ) → List (List ℕ)) (count : ℕ) (messages ps qs : List (List ℕ)) (s : ℕ) → plan_in (plans_over plan count messages) s ps ≡ plan_in (plans_over plan count messages) s qs
 plan_any plan count messages ps qs zero = refl
 plan_any plan count messages ps qs (suc s) = refl
 
@@ -121,7 +121,7 @@ module _ (opening now : Account) (plan : ℕ → List (List ℕ) → List (List 
   which : (n : ℕ) → In (count + 1) n → In count n ⊎ (n ≡ count + 1)
   which n h = ⊎_elim (λ (lt : n < count + 1). inl (record { from_one = h.from_one; up_to = omega (arith, lt) })) (λ (le : count + 1 ≤ n). inr (omega (arith, le, h.up_to))) (cases_lt n (count + 1))
 
-  all_made : business.AllMade (λ n. plan n messages) count (made_part (count + 1) opening) known → AllMade opening plans known
+  pub all_made : business.AllMade (λ n. plan n messages) count (made_part (count + 1) opening) known → AllMade opening plans known
   all_made all s h = all s (fewer s h) ∙ ap (λ ps. entries_of opening.history.made s ++ entries_behind s (length (entries_of opening.history.made s)) (drop (length (entries_of opening.history.made s)) ps)) (sym (its s (fewer s h)))
 
   ended_by : (n : ℕ) → In (count + 1) n → (known n).ended ≡ true → (finished ≡ true) × AllMade opening plans known

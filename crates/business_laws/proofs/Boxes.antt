@@ -1,5 +1,5 @@
 -- A life with a business over its boxes, once the gate is closed.
-use Rattle.std.proofs.Common.{◌≡◌, ◌⊎◌, inl, inr, ⊎_elim, ℕ, ◌+◌, ◌^◌, ◌<◌, Bool, true, false, true≢false, if◌then◌else◌, List, [], ◌++◌, length, slice_get, Option, Some, None, Result, Ok, Err, refl, sym, ap, subst, ◌∙◌, arith}
+use Rattle.std.proofs.Common.{◌≡◌, ◌⊎◌, inl, inr, ⊎_elim, ℕ, zero, suc, ◌+◌, ◌^◌, ◌<◌, Bool, true, false, true≢false, if◌then◌else◌, List, [], ◌++◌, length, slice_get, Option, Some, None, Result, Ok, Err, refl, sym, ap, subst, ◌∙◌, arith}
 use Rattle.std.specs.Prelude.{option_to_list, IfErr, IfSome, IsTrue}
 use Rattle.std.proofs.Math.Logic.{∥∥₁_elim}
 use Rattle.std.proofs.Math.Bool.{Bool-set}
@@ -9,7 +9,7 @@ use native.Mathlib.Nat.{ℕ_set}
 use Rattle.gw_outside.specs.Faults.{HasRisen}
 use Rattle.session_model.specs.Journal.{Entry, History, OutboxRecord, BeginsHistory, InOrder, entries_of, history_of}
 use Rattle.session_model.specs.Inbox.{InboxRecord, has_peer_finished}
-use Rattle.session_model.specs.Plans.{GoesOn}
+use Rattle.session_model.specs.Plans.{GoesOn, sent_by, Completes}
 use Rattle.session_model.specs.Lives.{Life, KeepsOutbox}
 use Rattle.session_model.proofs.Lists.{prefix_self}
 use Rattle.fixp_shake.specs.declared.config.EndConfig.{EndConfig}
@@ -45,18 +45,18 @@ use Rattle.conn_serve.specs.Moments.{beside, life_at}
 use Rattle.conn_serve.specs.Opening.{opened_state}
 use Rattle.conn_serve.specs.Served.{ServedLife, IsLifeAnswer, WasGivenUp}
 use Rattle.conn_serve.specs.Answering.{messages_of, AnsweringAt, AnsweredTo, Answers, AnsweredLife, AnsweredEach, AnsweredSo, faults_around}
-use Rattle.life_laws.specs.Plans.{plan_in, KeepsPlans, LosesNext, GoesOnBy, Senders, plans_at, KeepsSenders}
+use Rattle.life_laws.specs.Plans.{plan_in, KeepsPlans, LosesNext, GoesOnBy, Senders, plans_at, SentAll, KeepsSenders}
 use Rattle.life_laws.specs.PlanLives.{Clocked, SomePass, SeesMark, SeesFailure, MetFull, WasFull, FillsInbox, BlamesBoxes, IsLifeOver, LivedBoxes}
 use Rattle.life_laws.proofs.Closing.{found_at, broken_at, marked_at, failed_at, order_at, full_at}
 use Rattle.life_laws.proofs.Lost.{plans_go_on}
 use Rattle.life_laws.proofs.Outboxes.{history_of-outbox_of}
 use Rattle.life_laws.proofs.Passes.{answer_blames, blamed_at}
-use Rattle.life_laws.proofs.Planned.{plans_are_kept}
+use Rattle.life_laws.proofs.Planned.{plans_are_kept, all_complete}
 use Rattle.life_laws.proofs.Seen.{order_prop, own_among}
 use Rattle.life_laws.proofs.Submitting.{none_of}
 use Rattle.business_laws.specs.Answered.{plans_over, answering_plan, answering, PassesOver, PassesAnswered}
 use Rattle.business_laws.specs.Served.{KeepsWhole, KnowAnswered, UsedPasses}
-use Rattle.business_laws.proofs.Answering.{length-over, plan_at, plans_answered, plans_made, answers_whole}
+use Rattle.business_laws.proofs.Answering.{length-over, plan_at, plan_else, plan_any, plans_answered, plans_made, all_made, answers_whole}
 use Rattle.business_laws.proofs.Passes.{over_answered, over_none, more_behind, know_keeps}
 
 outbox_set : IsSet OutboxRecord
@@ -124,6 +124,10 @@ unrefused (Err fault) (Some r) of u = absurd (⊎_elim
 where_some : (r : Option ServeFault) → ((fault : ServeFault) → r ≡ Some fault → IsOfSender fault) → IfSome r IsOfSender
 where_some None each = tt
 where_some (Some fault) each = each fault refl
+
+cases_count : (n : ℕ) → (n ≡ 0) ⊎ (0 < n)
+cases_count zero = inl refl
+cases_count (suc n) = inr (omega arith)
 
 -- where there was no memory to begin, that is the answer
 begun_memory : (refused : Option ServeFault) → answer_of (Err faults.Memory) refused ≡ Err faults.Memory
@@ -217,13 +221,65 @@ module _ {J : Type 0} {G : Ghosts J} {O : Type 0} {H : Ghosts O} {L : Type 0} (o
 
   -- ---- where the disk of the inbox tells its content
 
-  -- what it answered of these records, and of those behind them
+  refusal : IfSome new.business.refused IsOfSender
+  refusal = where_some new.business.refused (λ fault e. (s.refusal fault e).of_sender)
+
+  memory_each : Unrefused s.connections new.business.refused → s.connections ≡ Err faults.Memory → ⊥
+  memory_each r e = (subst (λ c. AnsweredEach c) e r.each) tt
+
+  -- the plans of its senders
+  abbrev senders : Senders
+  senders = answering plan count
+
+  -- the mark stands, or each sender sent all of its plan over what these records apply
+  abbrev SentOver : List InboxRecord → Type 0
+  SentOver list = (k.history.finished ≡ true) ⊎ SentAll senders opening.history k.history list
+
+  -- each completed its plan over these messages
+  abbrev Complete : List (List ℕ) → Type 0
+  Complete messages = (s : ℕ) → Completes (plan_in (plans_over plan count messages) s []) (sent_by opening.history.made s) (sent_by k.history.made s)
+
+  complete_over : (messages : List (List ℕ)) (finished : Bool) → PassesOver opening plan count known messages finished → business.AllMade (λ n. plan n messages) count (made_part (count + 1) opening) known → Complete messages
+  complete_over messages finished p a =
+      all_complete opening now (plans_over plan count messages) known (plans_made opening now plan count known messages finished p k.closed) k.closed (all_made opening now plan count known messages finished p k.closed a)
+
+  sent_all : (list : List InboxRecord) → Complete (messages_of list) → SentAll senders opening.history k.history list
+  sent_all list c s = subst (λ (ps : List (List ℕ)). Completes ps (sent_by opening.history.made s) (sent_by k.history.made s)) (plan_any plan count (messages_of list) [] (messages_of list) s) (c s)
+
+  -- where there is no sender, it is so over each list
+  none_sent : count ≡ 0 → (messages : List (List ℕ)) (list : List InboxRecord) → Complete messages → SentAll senders opening.history k.history list
+  none_sent empty messages list c s =
+      let out : In count s → ⊥ = λ h. omega (arith, empty, h.from_one, h.up_to) in
+      subst (λ (ps : List (List ℕ)). Completes ps (sent_by opening.history.made s) (sent_by k.history.made s))
+      (plan_else plan count messages [] s out ∙ sym (plan_else plan count (messages_of list) (messages_of list) s out)) (c s)
+
+  marked_by : made.SeesMark count new.business.part → k.history.finished ≡ true
+  marked_by m = marked_at gate passes outbox closed o sound k count many (some_pass SeesMark m.number m.inside m.marked)
+
+  made_same : (ps : List (List ℕ)) (n : ℕ) (p q r t : Part) → p ≡ r → q ≡ t → made.IsAllMade p.mine n ps q.mine → made.IsAllMade r.mine n ps t.mine
+  made_same ps n p q r t before behind a = subst (λ (x : Part). made.IsAllMade x.mine n ps t.mine) before (subst (λ (x : Part). made.IsAllMade p.mine n ps x.mine) behind a)
+
+  -- what it made over some messages, where nothing was refused
+  whole_over : (messages : List (List ℕ)) (finished : Bool) → new.business.refused ≡ None → AnsweredTo new.business old.business.part messages finished → business.Whole (λ n. plan n messages) count old.business.part new.business.part finished
+  whole_over messages finished none to =
+      subst (λ (pl : ℕ → List (List ℕ) → List (List ℕ)). business.Whole (λ n. pl n messages) count old.business.part new.business.part finished) u.same.1
+      (subst (λ (c : ℕ). business.Whole (λ n. new.business.plan n messages) c old.business.part new.business.part finished) u.same.0 (to.whole none))
+
+  complete_by : (messages : List (List ℕ)) (finished : Bool) → PassesOver opening plan count known messages finished → business.Whole (λ n. plan n messages) count old.business.part new.business.part finished
+      → (k.history.finished ≡ true) ⊎ Complete messages
+  complete_by messages finished p w = ⊎_elim
+      (λ m. inl (marked_by m))
+      (λ a. inr (complete_over messages finished p (λ n h. made_same (plan n messages) n (old.business.part n) (new.business.part n) (made_part (count + 1) opening n) (known n) (was n h) (u.back.business n h) (a n h))))
+      w.all
+
+  -- what it answered of these records, and of those behind them; and where nothing was refused, all of both, or the mark stands
   record Told (i : List InboxRecord) : Type 0 where
     answered : List InboxRecord
     reached : IsPrefix answered adds
     by : PassesAnswered opening plan count known (i ++ answered)
     full : (entries bytes : ℕ) → result ≡ Err (faults.Full entries bytes) → new.business.refused ≡ Some (faults.Full entries bytes)
         → made.MetFull (λ n. plan n (messages_of (i ++ answered))) count new.business.part entries bytes
+    sent : IsUnrefused result → SentOver (i ++ adds)
 
   met_full : (messages : List (List ℕ)) (finished : Bool) → AnsweredTo new.business old.business.part messages finished → (entries bytes : ℕ) → new.business.refused ≡ Some (faults.Full entries bytes)
       → made.MetFull (λ n. plan n messages) count new.business.part entries bytes
@@ -234,6 +290,23 @@ module _ {J : Type 0} {G : Ghosts J} {O : Type 0} {H : Ghosts O} {L : Type 0} (o
   told : (i : List InboxRecord) → inboxes.HoldsBox old.box i [] → G.tells → Told i
   told i holds t = ⊎_elim by_life by_none s.business
     where
+      sent_by_life : (x : Answers (AnsweredEach s.connections) new.business old.business.part i (messages_of i) adds) → messages_of i ++ messages_of x.answered ≡ messages_of (i ++ x.answered)
+          → PassesOver opening plan count known (messages_of i ++ messages_of x.answered) (has_peer_finished (i ++ x.answered)) → IsUnrefused result → SentOver (i ++ adds)
+      sent_by_life x same p un =
+          let r : Unrefused s.connections new.business.refused = unrefused s.connections new.business.refused refusal (subst IsUnrefused s.answer un) in
+          let messages : List (List ℕ) = messages_of i ++ messages_of x.answered in
+          let finished = has_peer_finished (i ++ x.answered) in
+          let w = whole_over messages finished r.none x.to in
+          let c : (k.history.finished ≡ true) ⊎ Complete messages = complete_by messages finished p w in
+          ⊎_elim
+          (λ done. ⊎_elim
+          (λ empty. ⊎_elim (λ m. inl m) (λ all. inr (none_sent empty messages (i ++ adds) all)) c)
+          (λ some. inl (marked_by (w.finish some done)))
+          (cases_count count))
+          (λ all. ⊎_elim (λ m. inl m)
+          (λ made. inr (subst (λ (rs : List InboxRecord). SentAll senders opening.history k.history (i ++ rs)) all.0 (sent_all (i ++ x.answered) (subst (λ (ms : List (List ℕ)). Complete ms) same made)))) c)
+          (x.all r.each r.none)
+
       by_life : AnsweredLife (AnsweredEach s.connections) old new adds → Told i
       by_life a =
           let x : Answers (AnsweredEach s.connections) new.business old.business.part i (messages_of i) adds = a.told i t holds in
@@ -245,6 +318,7 @@ module _ {J : Type 0} {G : Ghosts J} {O : Type 0} {H : Ghosts O} {L : Type 0} (o
             by = subst (λ (ms : List (List ℕ)). PassesOver opening plan count known ms finished) same (over_answered old new opening known u (messages_of i ++ messages_of x.answered) finished x.to);
             full = λ entries bytes e r. subst (λ (ms : List (List ℕ)). made.MetFull (λ n. plan n ms) count new.business.part entries bytes) same
                 (met_full (messages_of i ++ messages_of x.answered) finished x.to entries bytes r);
+            sent = sent_by_life x same (over_answered old new opening known u (messages_of i ++ messages_of x.answered) finished x.to);
           }
 
       by_none : (new.business.part ≡ old.business.part) × (s.connections ≡ Err faults.Memory) → Told i
@@ -255,11 +329,8 @@ module _ {J : Type 0} {G : Ghosts J} {O : Type 0} {H : Ghosts O} {L : Type 0} (o
         full = λ entries bytes e r.
             let never : Err faults.Memory ≡ Err (faults.Full entries bytes) = sym (begun_memory new.business.refused) ∙ (ap (λ c. answer_of c new.business.refused) (sym b.1) ∙ (sym s.answer ∙ e)) in
             absurd cc;
+        sent = λ un. absurd (memory_each (unrefused s.connections new.business.refused refusal (subst IsUnrefused s.answer un)) b.1);
       }
-
-  -- the plans of its senders
-  abbrev senders : Senders
-  senders = answering plan count
 
   module _ (i : List InboxRecord) (holds : inboxes.HoldsBox old.box i []) (t : G.tells) where
     abbrev list : List InboxRecord
@@ -308,9 +379,6 @@ module _ {J : Type 0} {G : Ghosts J} {O : Type 0} {H : Ghosts O} {L : Type 0} (o
 
   -- ---- what its answer is of
 
-  refusal : IfSome new.business.refused IsOfSender
-  refusal = where_some new.business.refused (λ fault e. (s.refusal fault e).of_sender)
-
   -- where nothing was refused, and the peer's finish is recorded, one of the passes has seen the mark
   marked : IsUnrefused result → 0 < count → (i : List InboxRecord) → inboxes.HoldsBox old.box i [] → has_peer_finished (i ++ adds) ≡ true → k.history.finished ≡ true
   marked un some i holds done =
@@ -328,9 +396,6 @@ module _ {J : Type 0} {G : Ghosts J} {O : Type 0} {H : Ghosts O} {L : Type 0} (o
           let sees : made.SeesMark new.business.count new.business.part = (x.to.whole r.none).finish (subst (λ (c : ℕ). 0 < c) (sym u.same.0) some) (finished r l x) in
           let here : made.SeesMark count new.business.part = subst (λ (c : ℕ). made.SeesMark c new.business.part) u.same.0 sees in
           marked_at gate passes outbox closed o sound k count many (some_pass SeesMark here.number here.inside here.marked)
-
-      memory_each : Unrefused s.connections new.business.refused → s.connections ≡ Err faults.Memory → ⊥
-      memory_each r e = (subst (λ c. AnsweredEach c) e r.each) tt
 
   last_failed : HasFailed old.pass.faults new.pass.faults ⊎ HasFailed new.pass.opening.faults new.pass.faults → HasRisen (outboxes.faults_of outbox) (outboxes.faults_of closed)
   last_failed f = failed_at gate passes outbox closed o sound k count many (record {
@@ -428,6 +493,7 @@ module _ {J : Type 0} {G : Ghosts J} {O : Type 0} {H : Ghosts O} {L : Type 0} (o
     answer = s.answer;
     refusal = refusal;
     marked = λ un some i holds waits. marked un some i holds (waits refl);
+    sent = λ un waits i holds t. (told i holds t).sent un;
     none = none;
     journal = journal;
     changed = changed;

@@ -177,6 +177,7 @@ module _ {S K D N C J : Type 0} {H : Ghosts J} (outbox : Outbox J H) (sees : See
           (λ image left. held.journal.images image (leaves_are (inboxes.journal_of since) image (subst (λ (d : D). LeavesDated (sees.may_leave d) image) now_in_is left)));
       room = room;
       marked = λ u some waits. l.marked u some i.inbox i.holds waits;
+      sent = λ u waits t. l.sent u waits i.inbox i.holds t;
       none = l.none;
       journal = λ e looks. ⊎_elim
           (λ blamed. ⊎_elim

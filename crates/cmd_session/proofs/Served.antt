@@ -199,6 +199,7 @@ module _ {J : Type 0} {G : Ghosts J} (taken : Option (List ℕ)) (old new : Besi
     answer = l.answer;
     refusal = l.refusal;
     marked = l.marked;
+    sent = l.sent;
     none = l.none;
     journal = l.journal;
     changed = l.changed;

@@ -36,7 +36,7 @@ use Rattle.conn_serve.specs.Moments.{life_at, beside}
 use Rattle.conn_serve.specs.Served.{ServedOver}
 use Rattle.conn_serve.specs.Opening.{opened_state}
 use Rattle.life_laws.specs.Lives.{LifeOfLoop}
-use Rattle.life_laws.specs.Plans.{Senders, submitting, plans_at, KeepsSenders}
+use Rattle.life_laws.specs.Plans.{Senders, submitting, plans_at, SentAll, KeepsSenders}
 use Rattle.life_laws.specs.PlanLives.{clocked, LivedBoxes, WasFull}
 use Rattle.plan_outbox.specs.Behind.{GoesOnFrom}
 use Rattle.cmd_session.specs.Inputs.{ArePlanned}
@@ -167,6 +167,8 @@ module _ {J : Type 0} {G : Ghosts J} where
           (adds_of (all_of served.life.ended served.life.given_up) ++ refused_of_all (option_to_list served.life.given_up))
       pub marked : IsUnrefused result → 0 < senders.count
           → (senders.waits ≡ true → has_peer_finished (inbox ++ adds_of (all_of served.life.ended served.life.given_up)) ≡ true) → closing.finished ≡ true
+      pub sent : IsUnrefused result → senders.waits ≡ true → G.tells
+          → (closing.finished ≡ true) ⊎ SentAll senders opening closing (inbox ++ adds_of (all_of served.life.ended served.life.given_up))
       pub none : senders.count ≡ 0 → closing.finished ≡ opening.finished
       pub journal : result ≡ Err faults.Journal → (senders.waits ≡ true → G.tells)
           → HasRisen (sees.disk before.out_disk) (sees.disk after.out_disk) ⊎ HasRisen (sees.disk before.in_disk) (sees.disk after.in_disk)

@@ -160,6 +160,11 @@ module _ (opening now : Account) (plans : List (List (List ℕ))) (known : ℕ �
           let last : n ≡ length plans + 1 = omega (arith, inside.from_one, inside.up_to, p.made, ap length none) in
           true≢false (sym (subst (λ (k : ℕ). (known k).ended ≡ true) last ended) ∙ p.unmarked)
 
+-- where each pass made all of its plan, each sender's entries complete it
+pub all_complete : (opening now : Account) (plans : List (List (List ℕ))) (known : ℕ → Part) → PlansMade opening plans known → Closed known (known 1).made opening now → AllMade opening plans known
+    → (s : ℕ) → Completes (plan_in plans s []) (sent_by opening.history.made s) (sent_by now.history.made s)
+all_complete opening now plans known p c all s = completes_of opening now plans known p c all s (cases_In opening now plans known p c s)
+
 pub plans_are_kept : PlansAreKept
 plans_are_kept opening now plans known p c = (
   record {

@@ -30,7 +30,7 @@ use Rattle.conn_serve.specs.Connections.{all_of, adds_of, wanted_of_all}
 use Rattle.conn_serve.specs.Moments.{Beside, with_seen}
 use Rattle.conn_serve.specs.Served.{ServedOver}
 use Rattle.conn_serve.specs.Opening.{opened_state}
-use Rattle.life_laws.specs.Plans.{plan_in, PlansMade, Senders, plans_at, KeepsSenders}
+use Rattle.life_laws.specs.Plans.{plan_in, PlansMade, Senders, plans_at, SentAll, KeepsSenders}
 
 -- What a life is served over: whether the outbox's disk tells its content; links, as the contracts of its dialer have them; and what its clock
 -- gave last before and behind it
@@ -152,6 +152,8 @@ module _ {J : Type 0} {G : Ghosts J} {O : Type 0} {H : Ghosts O} where
     pub refusal : IfSome refused IsOfSender
     pub marked : IsUnrefused result → 0 < senders.count → (i : List InboxRecord) → inboxes.HoldsBox old.box i []
         → (senders.waits ≡ true → has_peer_finished (i ++ adds_of (all_of served.life.ended served.life.given_up)) ≡ true) → closing.finished ≡ true
+    pub sent : IsUnrefused result → senders.waits ≡ true → (i : List InboxRecord) → inboxes.HoldsBox old.box i [] → G.tells
+        → (closing.finished ≡ true) ⊎ SentAll senders opening closing (i ++ adds_of (all_of served.life.ended served.life.given_up))
     pub none : senders.count ≡ 0 → closing.finished ≡ opening.finished
     pub journal : result ≡ Err faults.Journal → BlamesBoxes old.box new.box outbox outbox' ⊎ ((senders.waits ≡ true) × (G.tells → ⊥))
     pub changed : (at : ℕ) → result ≡ Err (faults.Changed at) → (at < length seen.made) × (over.tells → ⊥)

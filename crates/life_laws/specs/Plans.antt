@@ -110,6 +110,10 @@ submitting plans = record { count = length plans; plan = plan_in plans; waits = 
 abbrev pub plans_at : Senders → List InboxRecord → List (List (List ℕ))
 plans_at senders inbox = map (λ (n : ℕ). senders.plan n (messages_of inbox)) (counts_from 1 senders.count)
 
+-- each of them sent all of its plan over what these records apply
+abbrev pub SentAll : Senders → (opening closing : History) → List InboxRecord → Type 0
+SentAll senders opening closing inbox = (s : ℕ) → Completes (senders.plan s (messages_of inbox)) (sent_by opening.made s) (sent_by closing.made s)
+
 -- An outbox kept the plans of its senders, over what its inbox applied up to a list between these: `whole` is its closing history with all that was
 -- lost behind it. A mark that waits for the peer's finish was added, or lost, where that list has it
 pub record KeepsSenders (senders : Senders) (opening closing whole : History) (lost : List OutboxRecord) (i j : List InboxRecord) : Type 0 where

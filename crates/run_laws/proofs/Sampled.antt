@@ -247,6 +247,7 @@ module _ {J : Type 0} {G : Ghosts J} (box : Inbox J G) (held : HoldsBox box [] [
     room = subst (λ (rs : List InboxRecord). HaveRoom (2 ^ 33) (journal_size []) (rs ++ refused_of_all (option_to_list served.life.given_up))) (sym adds)
         (subst (λ (rs : List InboxRecord). HaveRoom (2 ^ 33) (journal_size []) rs) (sym none) tt);
     marked = λ u some waits. marked u some;
+    sent = λ u waits t. absurd (true≢false (sym waits));
     none = λ e. refl;
     journal = λ e looks. journal e;
     changed = λ at e. absurd (not_changed at e);
