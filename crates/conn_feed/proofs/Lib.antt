@@ -1,0 +1,10 @@
+mod Texts
+mod Coming
+mod Making
+mod Ending
+mod Lines
+mod Seats
+mod Moving
+mod Feeders
+mod Feeds
+mod Counts

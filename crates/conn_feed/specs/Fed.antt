@@ -1,0 +1,70 @@
+-- What the passes of the senders know once lines were fed (this project's profile).
+use Rattle.std.specs.Prelude.{⊤, ◌≡◌, ℕ, zero, suc, ◌+◌, ◌-◌, ◌≤◌, All, List, ◌++◌, length, map, slice_get, slice_index_or, Some}
+use Rattle.session_model.specs.Journal.{Entry, payloads, entries_of}
+use Rattle.jr_dated.specs.declared.journal.Journal.{Ghosts}
+use Rattle.gate_turn.specs.Views.{Part, new_part, nothing}
+use Rattle.gate_turn.specs.Rule.{In}
+use Rattle.gate_turn.specs.Places.{known}
+use Rattle.gate_senders.specs.declared.gate.Gate.{Gate}
+use Rattle.gate_senders.specs.Shown.{LosesAll, entries_after}
+use Rattle.gate_plans.specs.Sent.{GoesOn}
+use Rattle.gate_plans.specs.Seats.{Seated}
+use Rattle.gate_plans.specs.declared.sender.Sender.{Sender}
+use Rattle.plan_text.specs.Plans.{Gift, AreGiven}
+use Rattle.conn_feed.specs.Words.{Word, accepted, refused, entries_in}
+
+module _ {J : Type 0} {G : Ghosts J} where
+  -- a sender counts the entries of its pass
+  abbrev pub IsCounted : Sender J G → Type 0
+  IsCounted s = s.done ≡ length (known s.pass).mine
+
+  -- the senders have the passes of the numbers from 1 on, in order, and count their entries
+  pub record AtSeats (gate : Gate J G) (senders : List (Sender J G)) : Type 0 where
+    pub few : length senders ≤ 16
+    pub seated : Seated gate senders (length senders + 1)
+    pub counted : All IsCounted senders
+
+  -- how many messages each counts
+  abbrev pub dones_of : List (Sender J G) → List ℕ
+  dones_of senders = map (λ (s : Sender J G). s.done) senders
+
+  -- what their passes know
+  abbrev pub parts_of : List (Sender J G) → List Part
+  parts_of senders = map (λ (s : Sender J G). known s.pass) senders
+
+-- how many messages each pass has of its own
+abbrev pub counts_of : List Part → List ℕ
+counts_of parts = map (λ (p : Part). length p.mine) parts
+
+-- what the pass of a number knows, from 1 on
+abbrev pub part_at : List Part → ℕ → Part
+part_at parts zero = new_part 0 0 nothing
+part_at parts (suc k) = slice_index_or parts k (new_part 0 0 nothing)
+
+-- a pass made exactly these entries, the next ones of its own
+pub record Made (p q : Part) (es : List Entry) : Type 0 where
+  pub goes_on : GoesOn p q
+  pub mine : q.mine ≡ p.mine ++ es
+  pub counted : es ≡ entries_after p (payloads es)
+
+-- an entry that was accepted has its number in what the pass of its sender has seen
+abbrev pub StandsIn : List Part → Word → Type 0
+StandsIn now (accepted n e) = (1 ≤ n) × (slice_get (part_at now e.sender).seen.made (n - 1) ≡ Some e)
+StandsIn now (refused why) = ⊤
+
+-- each pass made exactly the entries of its sender that were accepted, in order, and they stand at their numbers
+pub record Fed (start now : List Part) (words : List Word) : Type 0 where
+  pub long : length now ≡ length start
+  pub each : (s : ℕ) → In (length start) s → Made (part_at start s) (part_at now s) (entries_of (entries_in words) s)
+  pub stand : All (StandsIn now) words
+
+-- payloads that lines give to one sender
+abbrev pub gifts_to : ℕ → List (List ℕ) → List Gift
+gifts_to sender payloads = map (λ payload. record { sender = sender; payload = payload }) payloads
+
+-- behind a failed call a pass was to add its next entries, of the first of these lines, a piece at most, and adds nothing any more
+pub record LosesLines (senders : ℕ) (q : Part) (lines : List (List ℕ)) : Type 0 where
+  pub payloads : List (List ℕ)
+  pub given : AreGiven senders lines (gifts_to q.number payloads)
+  pub few : length payloads ≤ 64
+  pub loses : LosesAll q payloads

@@ -1,0 +1,4 @@
+pub mod Words
+pub mod Fed
+pub mod Ends
+pub mod Course
