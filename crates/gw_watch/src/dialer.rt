@@ -128,21 +128,12 @@ fn pause_behind(pauses: Pauses, was_established: bool, last: u64) -> u64 {
     }
 }
 
-impl<R: Clock, N: Approaches, E: Ear> WatchedDialer<'_, R, N, E>
-where
-    N::Link: HasPeer,
-{
-    /// Tells how the next connection will come.
-    fn approach(&mut self)
-        ensures told { N.told self.new.inner ≡ N.told self.old.inner }
-        ensures lent { N.lent self.new.inner ≡ N.lent self.old.inner }
-        ensures faults { N.faults self.new.inner ≡ N.faults self.old.inner }
-    {
-        match self.inner.approach() {
-            Approach::Listens => self.ear.hear(Heard::Listens),
-            Approach::Connects => self.ear.hear(Heard::Connects),
-            Approach::AsBefore => {}
-        }
+/// Tells an ear how the next connection will come.
+fn tell_approach<E: Ear>(ear: &E, approach: Approach) {
+    match approach {
+        Approach::Listens => ear.hear(Heard::Listens),
+        Approach::Connects => ear.hear(Heard::Connects),
+        Approach::AsBefore => {}
     }
 }
 
@@ -151,6 +142,8 @@ where
     N::Link: HasPeer,
 {
     type Link = WatchedLink<'e, N::Link, E>;
+
+    type Waker = N::Waker;
 
     ghost told = { λ d. N.told d.inner };
 
@@ -162,7 +155,8 @@ where
         if is_stopped_in(self.rt, self.pause, stop) {
             return Ok(Next::Stopped);
         }
-        self.approach();
+        let approach = self.inner.approach();
+        tell_approach(self.ear, approach);
         match self.inner.next(stop) {
             Ok(Next::Link(link)) => {
                 self.ear.hear(Heard::Connected { peer: link.peer() });
@@ -175,6 +169,10 @@ where
                 Err(failed)
             }
         }
+    }
+
+    fn waker(&self) -> N::Waker {
+        self.inner.waker()
     }
 
     fn back(&mut self, link: WatchedLink<'e, N::Link, E>) {
