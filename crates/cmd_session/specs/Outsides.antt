@@ -36,17 +36,17 @@ pub record Hears (K N C : Type 0) : Type 1 where
   pub links : LinkGhosts Link
   pub last : C → ℕ
 
-module _ {K N C L : Type 0} where
-  abbrev pub hears : SinkGhosts K → DialerGhosts N L → LinkGhosts L → ClockGhosts C → Hears K N C
+module _ {K N C L W : Type 0} where
+  abbrev pub hears : SinkGhosts K → DialerGhosts N L W → LinkGhosts L → ClockGhosts C → Hears K N C
   hears sink dialer links clock = record { taken = sink.taken; carried = dialer.told; Link = L; links = links; last = clock.last }
 
 module _ {S K D N C : Type 0} where
   abbrev pub heard : Sees S K D N C → Hears K N C
   heard seen = record { taken = seen.taken; carried = seen.carried; Link = seen.Link; links = seen.links; last = seen.last }
 
-module _ {S K D N C L : Type 0} where
+module _ {S K D N C L W : Type 0} where
   -- as the contracts of the devices have it
-  abbrev pub sees : SourceGhosts S → SinkGhosts K → DiskGhosts D → DialerGhosts N L → LinkGhosts L → ClockGhosts C → Sees S K D N C
+  abbrev pub sees : SourceGhosts S → SinkGhosts K → DiskGhosts D → DialerGhosts N L W → LinkGhosts L → ClockGhosts C → Sees S K D N C
   sees source sink disk dialer links clock = record {
     left = source.left;
     taken = sink.taken;

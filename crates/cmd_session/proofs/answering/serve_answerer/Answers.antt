@@ -17,8 +17,8 @@ use Rattle.order_book_gate.specs.contracts.book_desk.BookDesk as BookDesk
 use Rattle.gate_plans.specs.contracts.door.OpenDoor as open_door
 use Rattle.life_laws.specs.Plans.{Senders}
 use Rattle.life_laws.specs.PlanLives.{clocked, LivesOnceClosed}
-use Rattle.business_laws.specs.Answered.{answering}
-use Rattle.business_laws.specs.Served.{AreParted}
+use Rattle.life_laws.specs.Answered.{answering}
+use Rattle.life_laws.specs.AnsweredLives.{AreParted}
 use Rattle.cmd_session.specs.Answers.{desks_of, plan_of}
 use Rattle.cmd_session.proofs.Crossing.{hand_send, desks_send, book_desk_send}
 use Rattle.cmd_session.proofs.Parted.{none_began, answerer_goes_on}
@@ -37,7 +37,7 @@ serve_business-requires-send-B-Hand g c κs within =
     let o = param 0 g.row.O in
     let desk : IsSend (Desk.the_row o g.O.Journal) = c.desk_sends.ensures in
     let hand : IsSend (Hand.the_row o open_door.the_row g.O.Journal) = hand_send o open_door.the_row g.O.Journal desk c.form_sends.ensures c.door_sends.ensures in
-    record { owned = hand.owned; leaving = (param_send 8 (Hand.the_row o open_door.the_row g.O.Journal) hand).leaving }
+    record { owned = hand.owned; leaving = (param_send 9 (Hand.the_row o open_door.the_row g.O.Journal) hand).leaving }
 
 pub serve_business-requires-in-Ok-new-send-B : goal.serve_business-requires-in-Ok-new-send-B
 serve_business-requires-in-Ok-new-send-B g c κs within =

@@ -54,10 +54,10 @@ use Rattle.life_laws.proofs.Passes.{answer_blames, blamed_at}
 use Rattle.life_laws.proofs.Planned.{plans_are_kept, all_complete}
 use Rattle.life_laws.proofs.Seen.{order_prop, own_among}
 use Rattle.life_laws.proofs.Submitting.{none_of}
-use Rattle.business_laws.specs.Answered.{plans_over, answering_plan, answering, PassesOver, PassesAnswered}
-use Rattle.business_laws.specs.Served.{KeepsWhole, KnowAnswered, UsedPasses}
-use Rattle.business_laws.proofs.Answering.{length-over, plan_at, plan_else, plan_any, plans_answered, plans_made, all_made, answers_whole}
-use Rattle.business_laws.proofs.Passes.{over_answered, over_none, more_behind, know_keeps}
+use Rattle.life_laws.specs.Answered.{plans_over, answering_plan, answering, PassesOver, PassesAnswered}
+use Rattle.life_laws.specs.AnsweredLives.{KeepsWhole, KnowAnswered, UsedPasses}
+use Rattle.life_laws.proofs.BusinessPlans.{length-over, plan_at, plan_else, plan_any, plans_answered, plans_made, all_made, answers_whole}
+use Rattle.life_laws.proofs.BusinessPasses.{over_answered, over_none, more_behind, know_keeps}
 
 outbox_set : IsSet OutboxRecord
 outbox_set = hlevel (ℕ_set, List-set, ⊎_set)

@@ -1,5 +1,5 @@
-use Rattle.business_laws.proofs.Passes.{know_answered, know_keeps}
-use Rattle.business_laws.proofs.served.answering_keeps_outbox.Goals as goal
+use Rattle.life_laws.proofs.BusinessPasses.{know_answered, know_keeps}
+use Rattle.life_laws.proofs.answering.answering_keeps_outbox.Goals as goal
 
 pub returns : goal.returns
 returns g c = record {

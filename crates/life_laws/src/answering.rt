@@ -1,6 +1,6 @@
 //! Laws from what `serve_answering` ensures of a life to what its outbox keeps.
 
-ghost use Rattle.business_laws.specs.Served.{AnsweredPasses, AnsweringKeepsOutbox, AnsweringKeepsSenders, AnsweringIsLived};
+ghost use Rattle.life_laws.specs.AnsweredLives.{AnsweredPasses, AnsweringKeepsOutbox, AnsweringKeepsSenders, AnsweringIsLived};
 
 use gate_business::Business;
 use gw_links::Dialer;

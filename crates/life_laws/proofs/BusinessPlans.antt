@@ -23,8 +23,8 @@ use Rattle.conn_turns.proofs.Delivering.{applied_payloads}
 use Rattle.conn_serve.specs.Answering.{messages_of}
 use Rattle.life_laws.specs.Plans.{plan_in, MadeOf, LosesMessages, AllMade, LosesOwn, PlansMade, KeepsPlans, LosesNext, plans_at}
 use Rattle.life_laws.proofs.Submitting.{plans_submitted}
-use Rattle.business_laws.specs.Served.{KeepsWhole}
-use Rattle.business_laws.specs.Answered.{plans_over, answering_plan, answering, PassesOver, PassesAnswered, KeepsAnswers, AnswersOnBy, ContinuesGoesOn, ContinuesCompletes, AnsweringGoesOn, AnswersAreKept, AnswersKeepOutbox}
+use Rattle.life_laws.specs.AnsweredLives.{KeepsWhole}
+use Rattle.life_laws.specs.Answered.{plans_over, answering_plan, answering, PassesOver, PassesAnswered, KeepsAnswers, AnswersOnBy, ContinuesGoesOn, ContinuesCompletes, AnsweringGoesOn, AnswersAreKept, AnswersKeepOutbox}
 use Rattle.life_laws.proofs.Planned.{plans_are_kept}
 use Rattle.life_laws.proofs.Lost.{plans_go_on}
 use Rattle.life_laws.proofs.Outboxes.{history_of-outbox_of, entries-outbox_of, outbox_begins}

@@ -1,6 +1,6 @@
 //! Laws over the plans of a business, which are over what its own end applied.
 
-ghost use Rattle.business_laws.specs.Answered.{AnsweringGoesOn, AnswersAreKept, AnswersKeepOutbox, ContinuesCompletes, ContinuesGoesOn};
+ghost use Rattle.life_laws.specs.Answered.{AnsweringGoesOn, AnswersAreKept, AnswersKeepOutbox, ContinuesCompletes, ContinuesGoesOn};
 
 /// What continues a plan over some applied messages, and then the plan over more of them, continues the latter.
 pub fn continues_goes_on()

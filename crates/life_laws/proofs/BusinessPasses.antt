@@ -22,9 +22,9 @@ use Rattle.conn_door.specs.declared.answer.ServeFault.{ServeFault}
 use Rattle.conn_door.specs.declared.answer.ServeFault.TheVariants as faults
 use Rattle.conn_turns.proofs.Delivering.{applied_payloads}
 use Rattle.conn_serve.specs.Answering.{messages_of, AnsweredTo, AnsweringAt, Answers, AnsweredLife}
-use Rattle.business_laws.specs.Answered.{answering_plan, answering, PassesOver}
-use Rattle.business_laws.specs.Served.{AreParted, KnowAnswered, KeepsWhole, IsOver, UsedPasses}
-use Rattle.business_laws.proofs.Answering.{answers_are_kept, answers_keep_outbox, answers_whole}
+use Rattle.life_laws.specs.Answered.{answering_plan, answering, PassesOver}
+use Rattle.life_laws.specs.AnsweredLives.{AreParted, KnowAnswered, KeepsWhole, IsOver, UsedPasses}
+use Rattle.life_laws.proofs.BusinessPlans.{answers_are_kept, answers_keep_outbox, answers_whole}
 
 -- what a call left of some passes, said of passes that know the same
 module _ (plan : ℕ → List (List ℕ)) (count : ℕ) (p q r t : ℕ → Part) (finished : Bool) (before : (n : ℕ) → In count n → p n ≡ r n)

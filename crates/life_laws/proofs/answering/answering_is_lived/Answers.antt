@@ -1,5 +1,5 @@
-use Rattle.business_laws.proofs.Boxes.{business_boxes}
-use Rattle.business_laws.proofs.served.answering_is_lived.Goals as goal
+use Rattle.life_laws.proofs.BusinessBoxes.{business_boxes}
+use Rattle.life_laws.proofs.answering.answering_is_lived.Goals as goal
 
 pub returns : goal.returns
 returns g c = record {

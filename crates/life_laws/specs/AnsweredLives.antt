@@ -31,7 +31,7 @@ use Rattle.conn_serve.specs.Opening.{opened_state}
 use Rattle.conn_serve.specs.Answering.{BusinessAt, business_at, AnsweringAt, answering_at, AnsweredSo}
 use Rattle.life_laws.specs.Plans.{Senders, KeepsSenders}
 use Rattle.life_laws.specs.PlanLives.{clocked, IsLifeOver, LivesOnceClosed}
-use Rattle.business_laws.specs.Answered.{answering_plan, answering, PassesAnswered}
+use Rattle.life_laws.specs.Answered.{answering_plan, answering, PassesAnswered}
 
 -- these passes are those of a business and, behind them, that of the connection
 pub record AreParted (known : ℕ → Part) (count : ℕ) (part : ℕ → Part) (pass : Part) : Type 0 where

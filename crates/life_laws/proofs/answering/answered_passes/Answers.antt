@@ -1,5 +1,5 @@
-use Rattle.business_laws.proofs.Passes.{know_answered}
-use Rattle.business_laws.proofs.served.answered_passes.Goals as goal
+use Rattle.life_laws.proofs.BusinessPasses.{know_answered}
+use Rattle.life_laws.proofs.answering.answered_passes.Goals as goal
 
 pub returns : goal.returns
 returns g c = record {
