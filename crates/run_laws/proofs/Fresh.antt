@@ -16,7 +16,7 @@ use Rattle.cmd_session.specs.Boxes.{IsBox}
 use Rattle.cmd_session.specs.Inputs.{flow_received}
 use Rattle.cmd_session.specs.Outsides.{Sees}
 use Rattle.cmd_session.specs.declared.outside.SessionOutside.{SessionOutside}
-use Rattle.run_laws.specs.Completeness.{GoOnFrom, TellsPlans, FreshIsSetUp}
+use Rattle.run_laws.specs.Completeness.{GoOnFrom, TellsPlans, FreshIsSetUp, FreshIsSetUpWithDesks}
 
 -- what follows of the value that is told
 of_told : {A : Type 0} (o : Option A) (P Q : A → Type 0) → ((a : A) → P a → Q a) → IsSomeAnd o P → IsSomeAnd o Q
@@ -64,12 +64,24 @@ so_told : {A : Type 0} (o : Option A) (P : A → Type 0) → IsSomeAnd o P → F
 so_told None P h a e = absurd h
 so_told (Some b) P h a e = let same : b ≡ a = cc in subst P same h
 
+-- what is empty is a box of either kind
+box_told : (which : Which) (flow : Flow) (told : Option (List ℕ)) → IsSomeAnd told (λ content. IsJournal content []) → IsSomeAnd told (IsBox which flow)
+box_told which flow told empty = of_told told (λ content. IsJournal content []) (IsBox which flow) (empty_box which flow) empty
+
 pub fresh_is_set_up : {S K D N C : Type 0} (sees : Sees S K D N C) (before : SessionOutside S K D N C) → FreshIsSetUp sees before
 fresh_is_set_up sees before role c config none outbox inbox input = record {
   config = config;
   no_desks = none;
-  outbox = of_told (sees.told before.out_disk) (λ content. IsJournal content []) (IsBox Outbox (flow_received role c.link)) (empty_box Outbox (flow_received role c.link)) outbox;
-  inbox = of_told (sees.told before.in_disk) (λ content. IsJournal content []) (IsBox Inbox (flow_received role c.link)) (empty_box Inbox (flow_received role c.link)) inbox;
+  outbox = box_told Outbox (flow_received role c.link) (sees.told before.out_disk) outbox;
+  inbox = box_told Inbox (flow_received role c.link) (sees.told before.in_disk) inbox;
   input = subst (λ (o : Option (List ℕ)). IsSomeAnd o (TellsPlans c.trade.senders)) (sym input) (no_lines c.trade.senders);
   goes_on = λ content told text read. goes_on_fresh c.trade.senders content text (so_told (sees.told before.out_disk) (λ content. IsJournal content []) outbox content told);
+}
+
+pub fresh_is_set_up_with_desks : {S K D N C : Type 0} (sees : Sees S K D N C) (before : SessionOutside S K D N C) → FreshIsSetUpWithDesks sees before
+fresh_is_set_up_with_desks sees before role c config some outbox inbox = record {
+  config = config;
+  desks = some;
+  outbox = box_told Outbox (flow_received role c.link) (sees.told before.out_disk) outbox;
+  inbox = box_told Inbox (flow_received role c.link) (sees.told before.in_disk) inbox;
 }

@@ -15,6 +15,7 @@ pub mod Chaining
 pub mod Holding
 pub mod Lasting
 pub mod Submitted
+pub mod Reporting
 pub mod Gave
 pub mod Promised
 pub mod Sampled

@@ -10,6 +10,7 @@ use Rattle.session_model.specs.Inbox.{InboxRecord}
 use Rattle.session_model.specs.Plans.{sent_by}
 use Rattle.session_model.specs.Lives.{IsImage, KeepsConnections, KeepsOutbox}
 use Rattle.session_model.proofs.Lists.{prefix_self, prefix_equal}
+use mathlib.Core.List.{IsPrefix}
 use Rattle.gate_turn.proofs.Histories.{begins_self}
 use Rattle.fixp_msgs.specs.Payload.{IsApplication}
 use Rattle.fixp_shake.specs.declared.config.EndConfig.{EndConfig}
@@ -54,6 +55,7 @@ use Rattle.conn_door.specs.declared.answer.LifeEnd.TheVariants as ends
 use Rattle.conn_serve.specs.Connections.{LinkSeen, IsOver, ByClock, Connection, all_of, MadeNoMore, IsConnection, AllEnded, IsFollowed, IsFaithfulLeg, adds_of, refused_of_all}
 use Rattle.conn_door.specs.Answers.{answer_of, IsOfSender, IsUnrefused}
 use Rattle.conn_steps.specs.Settling.{HaveRoom}
+use Rattle.conn_steps.proofs.Rooms.{gains_none, refuses_none}
 use Rattle.gw_outside.specs.Faults.{HasRisen}
 use Rattle.fixp_msgs.specs.declared.flow.Flow.TheVariants.{Recoverable}
 use Rattle.jr_boxes.specs.Inboxes.{records_of_inbox}
@@ -61,7 +63,10 @@ use Rattle.conn_serve.specs.Moments.{life_at}
 use Rattle.conn_serve.specs.Opening.{opened_state}
 use Rattle.conn_serve.specs.Served.{ServedLife, ServedOver, IsTold}
 use Rattle.life_laws.specs.Lives.{LifeOfLoop, served_of}
-use Rattle.life_laws.specs.Plans.{plan_in, KeepsPlans, LosesNext, GoesOnBy, GoesOnWith, submitting}
+use Rattle.life_laws.specs.Plans.{plan_in, KeepsPlans, LosesNext, GoesOnBy, GoesOnWith, Senders, submitting, plans_at}
+use Rattle.life_laws.specs.Answered.{plans_over}
+use Rattle.life_laws.proofs.BusinessPlans.{answers_keep_outbox}
+use Rattle.conn_serve.specs.Answering.{messages_of}
 use Rattle.life_laws.proofs.Submitting.{keeps_submitted}
 use Rattle.life_laws.proofs.Lost.{plans_go_on}
 use Rattle.life_laws.proofs.Loops.{served_keeps}
@@ -76,7 +81,11 @@ use Rattle.run_laws.specs.Linked.{no_more, paired}
 use Rattle.run_laws.specs.Samples.{configured, config_text, both_recoverable, message, submitted, nothing, with_one, journal_of, MemoryDisk, IsOneOf, memory_links, memory, settled, torn, one_left, MemoryOutside, MemoryRun, stopped_run, cut_run, of_initiator, of_acceptor, runs_of_initiator, runs_of_acceptor, RunsSample}
 use Rattle.plan_outbox.specs.Behind.{GoesOnFrom}
 use Rattle.run_laws.proofs.Fresh.{empty_box, goes_on_nothing}
-use Rattle.run_laws.proofs.Spelled.{spelled_initiator, spelled_acceptor}
+use Rattle.cmd_session.specs.Answers.{answers_of, answerers}
+use Rattle.run_laws.specs.Desks.{HasSameDesks, RunsDesks}
+use Rattle.run_laws.specs.DeskSamples.{with_desks, desks_text, DesksSample}
+use Rattle.run_laws.proofs.Reporting.{answers_go_on}
+use Rattle.run_laws.proofs.Spelled.{spelled_initiator, spelled_acceptor, spelled_with_desks}
 
 -- ---- journals
 
@@ -298,7 +307,7 @@ module _ {J : Type 0} {G : Ghosts J} (box : Inbox J G) (held : HoldsBox box [] [
     followed = tt;
     timely = tt;
     faithful = λ t. tt;
-    refuses = record { holds = λ i holds. subst (λ (rs : List InboxRecord). HoldsBox box rs []) (sym (append-nil i)) holds; room = tt };
+    refuses = refuses_none box box [] (gains_none box box refl);
     lines = record { earlier = []; late = []; are = refl; few = inl ([], omega arith, refl); told = record { between = Some []; first = refl; last = refl } };
     came = record { back = refl; left = refl };
     tells = λ told k d lt. absurd (omega (arith, lt));
@@ -338,7 +347,7 @@ module _ {J : Type 0} {G : Ghosts J} (box : Inbox J G) (held : HoldsBox box [] [
     followed = tt;
     timely = (timely, tt);
     faithful = λ t. (faithful, tt);
-    refuses = record { holds = λ i holds. subst (λ (rs : List InboxRecord). HoldsBox box rs []) (sym (append-nil i)) holds; room = tt };
+    refuses = refuses_none box box [] (gains_none box box refl);
     lines = record {
       earlier = [];
       late = connection_line 1 closes.LinkFault ++ [];
@@ -724,3 +733,124 @@ module _ {J : Type 0} {G : Ghosts J} (box : Inbox J G) where
     ran_a holds config_text spelled_acceptor,
     paired ([], refl) (0 ∷ [], refl) no_more,
   )
+
+-- ---- a run of an acceptor with desks: the same connection
+
+none_kept : (kept : List OutboxRecord) → IsPrefix kept [] → kept ≡ []
+none_kept [] p = refl
+none_kept (x ∷ kept) p = let e = p.1 in absurd cc
+
+-- over nothing desks are to send nothing
+nothing_due : (s : ℕ) → [] ≡ (answerers with_desks.trade).plan s []
+nothing_due zero = refl
+nothing_due (suc zero) = refl
+nothing_due (suc (suc zero)) = refl
+nothing_due (suc (suc (suc zero))) = refl
+nothing_due (suc (suc (suc (suc s)))) = refl
+
+module _ {J : Type 0} {G : Ghosts J} (box : Inbox J G) (held : HoldsBox box [] []) (text : List ℕ) (spelled : configuration_at Acceptor text ≡ Ok with_desks) where
+  abbrev desks : Senders
+  desks = answerers with_desks.trade
+
+  abbrev cut : MemoryRun
+  cut = cut_run text nothing of_acceptor
+
+  ended_here : AllEnded nothing nothing (fresh (end_of Acceptor configured.link) (opened_state nothing box) (2 ^ 26)) last_a.machine (connection_a ∷ [])
+  ended_here = subst (λ (s : EndState). AllEnded nothing nothing (fresh (end_of Acceptor configured.link) s (2 ^ 26)) last_a.machine (connection_a ∷ [])) (opened_is box held []) ended_a
+
+  -- the life that it is with no senders
+  abbrev alike : LivedOver memory (end_of Acceptor configured.link) (submitting []) cut.before cut.after box box (Err (faults.Unfinished Ended))
+  alike = second_lived box held Acceptor nothing last_a.machine link_a leg_a of_acceptor (λ s. refl) refl (omega arith) journal_nothing text ended_here refl timely_a ((refl, refl), (tt, tt)) (over_memory first_a end_a) (omega arith, omega arith)
+
+  desks_keep : (t : G.tells) → KeepsOutbox desks.plan (life_in (machine_life (alike.life t).life))
+  desks_keep t =
+      let k = alike.life t in
+      let lived = life_in (machine_life k.life) in
+      answers_keep_outbox (answers_of with_desks.trade) 3 nothing nothing lived (answers_go_on with_desks.trade) (λ s. refl) k.outboxes.0 k.outboxes.1
+      (λ kept first. record {
+        whole = nothing;
+        goes_on = none_kept kept (subst (λ (rs : List OutboxRecord). IsPrefix kept rs) k.outboxes.2 first);
+        keeps = record {
+          answered = lived.served.opening_inbox;
+          opened = prefix_self lived.served.opening_inbox;
+          reached = (_, sym k.keeps.inbox_adds);
+          keeps = keeps_same (plans_over (answers_of with_desks.trade) 3 (messages_of lived.served.opening_inbox)) nothing refl;
+          peer_done = λ before after. absurd (true≢false (sym after));
+        };
+        in_order = λ order. order;
+      })
+
+  desks_lived : LivedOver memory (end_of Acceptor configured.link) desks cut.before cut.after box box (Err (faults.Unfinished Ended))
+  desks_lived = record {
+    opening = nothing;
+    closing = nothing;
+    inbox = [];
+    seen = nothing;
+    connections = alike.connections;
+    refused = None;
+    out_opened = alike.out_opened;
+    in_opened = alike.in_opened;
+    holds = held;
+    served = alike.served;
+    answer = refl;
+    refusal = tt;
+    begins = begins_self nothing;
+    grows = begins_self nothing;
+    lost = [];
+    whole = nothing;
+    goes_on = refl;
+    in_order = λ s. refl;
+    planned = λ looks. record {
+      answered = [];
+      opened = ([], refl);
+      reached = (_, refl);
+      loses = inl refl;
+      keeps = keeps_same (plans_at desks []) nothing refl;
+      waited = λ waits before after. absurd (true≢false (sym after));
+    };
+    life = alike.life;
+    contract = λ t. record { connections = (alike.contract t).connections; outbox = desks_keep t };
+    out_left = alike.out_left;
+    out_whole = λ never. refl;
+    in_left = alike.in_left;
+    room = alike.room;
+    marked = λ u some waits. absurd (true≢false (sym (waits refl)));
+    sent = λ u waits t. inr (λ s. record { behind = nothing_due s });
+    none = λ e. absurd (omega (arith, e));
+    journal = λ e looks. absurd (cut_no_journal e);
+    changed = λ at e. absurd (cut_not_changed at e);
+    full = λ es bytes e. absurd (cut_not_full es bytes e);
+  }
+
+  desks_was : RunsDesks G memory Acceptor with_desks.trade cut
+  desks_was = record {
+    config = λ c e.
+        let same : with_desks ≡ c = cc (sym spelled ∙ e) in
+        subst (λ (d : Configuration). HasSameDesks with_desks.trade d.trade) same (record { some = omega arith; desks = refl; book = refl; version = refl; reference = refl });
+    steps = inr (record {
+      configuration = with_desks;
+      spelled = λ other e. subst (λ (t : List ℕ). configuration_at Acceptor t ≡ Ok with_desks) (same_Some text other e) spelled;
+      ended = inr (inr (
+        omega arith,
+        record {
+          boxes = record {
+            outbox = told_so (IsBox Outbox (flow_received Acceptor configured.link)) (journal_of nothing) (empty_box Outbox (flow_received Acceptor configured.link) (journal_of nothing) journal_nothing);
+            inbox = told_so (IsBox InboxBox (flow_received Acceptor configured.link)) (journal_of nothing) (empty_box InboxBox (flow_received Acceptor configured.link) (journal_of nothing) journal_nothing);
+          };
+          lived = record {
+            of_life = tt;
+            output = λ e. absurd cc;
+            dial = λ e. absurd cc;
+            input_is = refl;
+            lived = inr (record { old = box; new = box; result = Err (faults.Unfinished Ended); status_is = refl; over = desks_lived });
+          };
+        },
+      ));
+    });
+  }
+
+  desks_over : RunsOver memory (RunsDesks G memory Acceptor with_desks.trade) (cut ∷ []) IsEmptyJournal IsEmptyJournal (journal_of nothing) (journal_of nothing)
+  desks_over = (empty_at, empty_at, desks_was, (inl refl, inl refl))
+
+pub desks_sample : {J : Type 0} {G : Ghosts J} (box : Inbox J G) → DesksSample box
+desks_sample box held = desks_over box held desks_text spelled_with_desks

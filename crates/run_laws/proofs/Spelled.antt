@@ -1,4 +1,4 @@
--- A text that spells the configuration of the sample, for either role, computed.
+-- Texts that spell the configurations of the samples, computed.
 use Rattle.std.proofs.Common.{◌≡◌, Ok, refl}
 use lib.Utf8.{encode}
 use Rattle.std.specs.Str.{chars, is_utf8}
@@ -12,6 +12,7 @@ use Rattle.toml.specs.Parse.{after_element, key_equals, items, members, atom, va
 use Rattle.fixp_shake.specs.declared.config.Role.TheVariants.{Initiator, Acceptor}
 use Rattle.cmd_session.specs.Inputs.{configuration_at}
 use Rattle.run_laws.specs.Samples.{configured, config_text}
+use Rattle.run_laws.specs.DeskSamples.{with_desks, desks_text}
 
 pub spelled_initiator : configuration_at Initiator config_text ≡ Ok configured
 unfolding encode scan_numeral chars is_utf8 by_index skip_ws skip_from hex_escape escape_char escape special body one_line quoted simple_key key_after underscore_fits prefixed_integer decimal_number plain_number number word_value word_len unquoted along_header along_dots at_key define after_element key_equals items members atom val header_key expression line lines skip_bom parse_document
@@ -20,3 +21,7 @@ spelled_initiator = refl
 pub spelled_acceptor : configuration_at Acceptor config_text ≡ Ok configured
 unfolding encode scan_numeral chars is_utf8 by_index skip_ws skip_from hex_escape escape_char escape special body one_line quoted simple_key key_after underscore_fits prefixed_integer decimal_number plain_number number word_value word_len unquoted along_header along_dots at_key define after_element key_equals items members atom val header_key expression line lines skip_bom parse_document
 spelled_acceptor = refl
+
+pub spelled_with_desks : configuration_at Acceptor desks_text ≡ Ok with_desks
+unfolding encode scan_numeral chars is_utf8 by_index skip_ws skip_from hex_escape escape_char escape special body one_line quoted simple_key key_after underscore_fits prefixed_integer decimal_number plain_number number word_value word_len unquoted along_header along_dots at_key define after_element key_equals items members atom val header_key expression line lines skip_bom parse_document
+spelled_with_desks = refl

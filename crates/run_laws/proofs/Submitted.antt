@@ -53,7 +53,7 @@ covers (x ∷ a) (y ∷ p) (z ∷ q) f g =
     (r.0, ap (λ w. w ∷ (p ++ r.0)) heads ∙ ap (λ ws. x ∷ ws) r.1)
 
 -- what continues a beginning of the plan by a part of the plan is a beginning of the plan
-continued : (plan whole before after : List (List ℕ)) → IsPrefix plan whole → IsPrefix before whole → Continues plan before after → IsPrefix after whole
+pub continued : (plan whole before after : List (List ℕ)) → IsPrefix plan whole → IsPrefix before whole → Continues plan before after → IsPrefix after whole
 continued plan whole before after part begun c =
     subst (λ (xs : List (List ℕ)). IsPrefix xs whole) (sym c.behind)
     (prefix_continued before c.more whole begun

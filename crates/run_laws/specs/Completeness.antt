@@ -1,10 +1,12 @@
 -- What a run of `accept` or `connect` ends with where all that it begins on is in order and told, and no call of a device failed (this
 -- project's profile).
-use Rattle.std.specs.Prelude.{⊤, ◌≡◌, ◌⊎◌, ℕ, ◌<◌, ◌≤◌, true, Contains, List, [], length, Option, Some, IsSomeAnd, Ok, Err}
+use Rattle.std.specs.Prelude.{⊤, ◌≡◌, ◌⊎◌, ℕ, ◌<◌, ◌≤◌, true, Contains, List, [], ◌++◌, length, Option, Some, IsSomeAnd, Ok, Err}
 use Rattle.std.specs.Option.{ForSome}
 use Rattle.gw_outside.specs.Faults.{HasRisen}
 use Rattle.session_model.specs.Journal.{History}
+use Rattle.session_model.specs.Inbox.{InboxRecord, has_peer_finished}
 use Rattle.fixp_replies.specs.declared.act.Ending.TheVariants as endings
+use Rattle.fixp_shake.specs.declared.config.EndConfig.{EndConfig}
 use Rattle.fixp_shake.specs.declared.config.Role.{Role}
 use Rattle.fixp_machine.specs.Machine.{State}
 use Rattle.cmd_config.specs.declared.configuration.Configuration.{Configuration}
@@ -23,9 +25,10 @@ use Rattle.cmd_base.specs.declared.status.Status.TheVariants.{Done, Unfinished, 
 use Rattle.conn_door.specs.declared.answer.ServeFault.{ServeFault}
 use Rattle.conn_door.specs.declared.answer.ServeFault.TheVariants as faults
 use Rattle.conn_door.specs.declared.answer.LifeEnd.TheVariants as ends
-use Rattle.conn_serve.specs.Connections.{Connection}
+use Rattle.conn_serve.specs.Connections.{Connection, all_of, adds_of}
 use Rattle.conn_serve.specs.Served.{IsLifeAnswer}
-use Rattle.life_laws.specs.Plans.{submitting}
+use Rattle.life_laws.specs.Plans.{Senders, submitting, SentAll}
+use Rattle.cmd_session.specs.Answers.{answerers}
 use Rattle.cmd_session.specs.Inputs.{configuration_at, flow_received, end_of}
 use Rattle.cmd_session.specs.Boxes.{IsBox}
 use Rattle.cmd_session.specs.Lived.{HasLivedOver}
@@ -63,6 +66,13 @@ module _ {S K D N C : Type 0} where
     pub inbox : IsSomeAnd (sees.told before.in_disk) (IsBox Inbox (flow_received role c.link))
     pub input : IsSomeAnd (sees.left before.input) (TellsPlans c.trade.senders)
     pub goes_on : ForSome (sees.told before.out_disk) (λ content. ForSome (sees.left before.input) (GoOnFrom c.trade.senders content))
+
+  -- The same where CONFIG spells a configuration with desks: INPUT is not looked at
+  pub record IsSetUpWithDesks (sees : Sees S K D N C) (role : Role) (c : Configuration) (before : SessionOutside S K D N C) : Type 0 where
+    pub config : IsSomeAnd (sees.left before.config) (λ text. configuration_at role text ≡ Ok c)
+    pub desks : 0 < c.trade.desks
+    pub outbox : IsSomeAnd (sees.told before.out_disk) (IsBox Outbox (flow_received role c.link))
+    pub inbox : IsSomeAnd (sees.told before.in_disk) (IsBox Inbox (flow_received role c.link))
 
 -- one of some connections ended as Finished
 pub record OneFinished (ended : List Connection) : Type 0 where
@@ -103,19 +113,38 @@ pub record WantsMemory {S K D N C : Type 0} (before after : SessionOutside S K D
   pub dialer_is : after.dialer ≡ before.dialer
 
 module _ {S K D N C J : Type 0} where
-  -- A life by the plans of INPUT over both disks, each connection of which ended by a row of a turn but for one that was given up, if one was
-  -- (`LivedOver`). Its connections did what the status says; where one ended as Finished the status is Done, or that of a refusal in its place; at
-  -- Full it answered so, and `LivedOver` says why; and where there are senders, the mark stands at each status that comes of the connections alone
-  pub record Completed (G : Ghosts J) (sees : Sees S K D N C) (role : Role) (c : Configuration) (before after : SessionOutside S K D N C)
-      (status : Status) : Type 0 where
-    pub plans : List (List (List ℕ))
-    pub planned : IsSomeAnd (sees.left before.input) (λ text. HasPlans c.trade.senders text plans)
-    pub lived : HasLivedOver G sees (end_of role c.link) (submitting plans) before after status
+  -- A life by these senders over both disks, each connection of which ended by a row of a turn but for one that was given up, if one was
+  -- (`LivedOver`). Its connections did what the status says; where one ended as Finished the status is Done, or that of a refusal in its place; and
+  -- at Full it answered so, and `LivedOver` says why
+  pub record CompletedBy (G : Ghosts J) (sees : Sees S K D N C) (role : Role) (c : Configuration) (senders : Senders)
+      (before after : SessionOutside S K D N C) (status : Status) : Type 0 where
+    pub lived : HasLivedOver G sees (end_of role c.link) senders before after status
     pub ends : EndsAs lived.over.served.life.behind lived.over.seen lived.over.served.life.mid (sees.carried after.dialer) lived.over.served.life.ended
         lived.over.served.life.given_up status
     pub finished : OneFinished lived.over.served.life.ended → IsBehindFinish lived.over.refused status
     pub full : (entries bytes : ℕ) → status ≡ Full entries bytes → lived.result ≡ Err (faults.Full entries bytes)
-    pub marked : IsOfConnections status → 0 < c.trade.senders → lived.over.closing.finished ≡ true
+
+  -- such a life by the plans of INPUT: where there are senders, the mark stands at each status that comes of the connections alone
+  pub record Completed (G : Ghosts J) (sees : Sees S K D N C) (role : Role) (c : Configuration) (before after : SessionOutside S K D N C)
+      (status : Status) : Type 0 where
+    pub plans : List (List (List ℕ))
+    pub planned : IsSomeAnd (sees.left before.input) (λ text. HasPlans c.trade.senders text plans)
+    pub life : CompletedBy G sees role c (submitting plans) before after status
+    pub marked : IsOfConnections status → 0 < c.trade.senders → life.lived.over.closing.finished ≡ true
+
+  -- What the inbox of a life applied and noted, as it closed
+  abbrev pub closing_inbox : {G : Ghosts J} {sees : Sees S K D N C} {config : EndConfig} {senders : Senders} {before after : SessionOutside S K D N C}
+      {status : Status} → HasLivedOver G sees config senders before after status → List InboxRecord
+  closing_inbox lived = lived.over.inbox ++ adds_of (all_of lived.over.served.life.ended lived.over.served.life.given_up)
+
+  -- Such a life by the desks of CONFIG: at each status that comes of the connections alone the mark stands where the inbox has the peer's finish; and
+  -- where it does not stand, each desk sent all that it was to send over the inbox
+  pub record CompletedWithDesks (G : Ghosts J) (sees : Sees S K D N C) (role : Role) (c : Configuration) (before after : SessionOutside S K D N C)
+      (status : Status) : Type 0 where
+    pub life : CompletedBy G sees role c (answerers c.trade) before after status
+    pub marked : IsOfConnections status → has_peer_finished (closing_inbox life.lived) ≡ true → life.lived.over.closing.finished ≡ true
+    pub sent : IsOfConnections status → (life.lived.over.closing.finished ≡ true)
+        ⊎ SentAll (answerers c.trade) life.lived.over.opening life.lived.over.closing (closing_inbox life.lived)
 
   -- Whatever a run keeps to, by its clause `steps`: set up so, over disks that tell their content, and where no call of a device failed, it lived
   -- and completed, or memory ran out before
@@ -125,6 +154,13 @@ module _ {S K D N C J : Type 0} where
       → IsSetUp sees role c before → NoneRose (counts_of sees before) (counts_of sees after) → Steps G sees role before after status
       → WantsMemory before after status ⊎ Completed G sees role c before after status
 
+  -- and so where it is set up with desks
+  abbrev pub DesksComplete : Ghosts J → Sees S K D N C → (before after : SessionOutside S K D N C) → Type 0
+  DesksComplete G sees before after =
+      G.tells → (role : Role) (c : Configuration) (status : Status)
+      → IsSetUpWithDesks sees role c before → NoneRose (counts_of sees before) (counts_of sees after) → Steps G sees role before after status
+      → WantsMemory before after status ⊎ CompletedWithDesks G sees role c before after status
+
 -- two journals without records, as `format` makes them, and an INPUT without bytes, are in order with any CONFIG that spells a configuration
 abbrev pub FreshIsSetUp : {S K D N C : Type 0} → Sees S K D N C → (before : SessionOutside S K D N C) → Type 0
 FreshIsSetUp sees before =
@@ -133,3 +169,11 @@ FreshIsSetUp sees before =
     → IsSomeAnd (sees.told before.out_disk) (λ content. IsJournal content []) → IsSomeAnd (sees.told before.in_disk) (λ content. IsJournal content [])
     → sees.left before.input ≡ Some []
     → IsSetUp sees role c before
+
+-- and so they are with one that spells a configuration with desks, whatever INPUT has
+abbrev pub FreshIsSetUpWithDesks : {S K D N C : Type 0} → Sees S K D N C → (before : SessionOutside S K D N C) → Type 0
+FreshIsSetUpWithDesks sees before =
+    (role : Role) (c : Configuration)
+    → IsSomeAnd (sees.left before.config) (λ text. configuration_at role text ≡ Ok c) → 0 < c.trade.desks
+    → IsSomeAnd (sees.told before.out_disk) (λ content. IsJournal content []) → IsSomeAnd (sees.told before.in_disk) (λ content. IsJournal content [])
+    → IsSetUpWithDesks sees role c before

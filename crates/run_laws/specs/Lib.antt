@@ -12,3 +12,5 @@ pub mod TimedRuns
 pub mod TimedLaws
 pub mod Resting
 pub mod TimedSamples
+pub mod Desks
+pub mod DeskSamples

@@ -11,10 +11,10 @@ mod several;
 mod timed;
 
 pub use pieces::{boxes_tell, carried_are_linked, configurations_fit, images_within};
-pub use runs::{fresh_is_set_up, run_completes};
+pub use runs::{desks_complete, fresh_is_set_up, run_completes};
 pub use several::{
-    boxes_are_left, closings_stand, inputs_hold, none_is_lost, run_keeps, runs_hold, runs_sample,
-    senders_hold,
+    boxes_are_left, closings_stand, desks_hold, desks_sample, inputs_hold, none_is_lost, run_keeps,
+    runs_hold, runs_sample, senders_hold,
 };
 pub use timed::{
     finish_is_whole, rest_is_whole, runs_end_in_time, runs_in_time_sample, served_holds,

@@ -1,7 +1,7 @@
 //! Runs over told devices that are in order.
 
 ghost use Rattle.cmd_session.specs.Outsides.{sees};
-ghost use Rattle.run_laws.specs.Completeness.{FreshIsSetUp, RunCompletes};
+ghost use Rattle.run_laws.specs.Completeness.{DesksComplete, FreshIsSetUp, FreshIsSetUpWithDesks, RunCompletes};
 
 use cmd_session::SessionOutside;
 use gw_links::{Clock, Dialer};
@@ -18,9 +18,19 @@ pub fn run_completes<S: Source, K: Sink, D: Disk, N: Dialer, C: Clock>(
     ensures law { RunCompletes ⟦<SegJournal<D> as Journal>⟧ (sees S.Source K.Sink D.Disk N.Dialer N.Link.Link C.Clock) before.now after.now }
 {}
 
-/// Journals without records and an INPUT without bytes are in order, with any CONFIG that spells a configuration.
+/// The same where CONFIG has desks: it lived by what they answer, and left none of it out where it ended by its connections.
+pub fn desks_complete<S: Source, K: Sink, D: Disk, N: Dialer, C: Clock>(
+    before: &SessionOutside<S, K, D, N, C>,
+    after: &SessionOutside<S, K, D, N, C>,
+)
+    ensures law { DesksComplete ⟦<SegJournal<D> as Journal>⟧ (sees S.Source K.Sink D.Disk N.Dialer N.Link.Link C.Clock) before.now after.now }
+{}
+
+/// Journals without records and an INPUT without bytes are in order, with any CONFIG that spells a configuration; and those journals are with
+/// one that has desks, whatever INPUT has.
 pub fn fresh_is_set_up<S: Source, K: Sink, D: Disk, N: Dialer, C: Clock>(
     before: &SessionOutside<S, K, D, N, C>,
 )
     ensures law { FreshIsSetUp (sees S.Source K.Sink D.Disk N.Dialer N.Link.Link C.Clock) before.now }
+    ensures desks { FreshIsSetUpWithDesks (sees S.Source K.Sink D.Disk N.Dialer N.Link.Link C.Clock) before.now }
 {}

@@ -1,6 +1,8 @@
 //! Several runs of two ends.
 
 ghost use Rattle.cmd_session.specs.Outsides.{sees};
+ghost use Rattle.run_laws.specs.DeskSamples.{DesksSample};
+ghost use Rattle.run_laws.specs.Desks.{DesksHold};
 ghost use Rattle.run_laws.specs.Holding.{BoxesAreLeft, NoneIsLost, RunsHold};
 ghost use Rattle.run_laws.specs.Promise.{RunKeeps};
 ghost use Rattle.run_laws.specs.Samples.{RunsSample};
@@ -33,6 +35,18 @@ pub fn senders_hold<S: Source, K: Sink, D: Disk, N: Dialer, C: Clock>()
 /// of them gave at its place; and where it has its finish, all that INPUT of one of them had.
 pub fn inputs_hold<S: Source, K: Sink, D: Disk, N: Dialer, C: Clock>()
     ensures law { InputsHold ⟦<SegJournal<D> as Journal>⟧ (sees S.Source K.Sink D.Disk N.Dialer N.Link.Link C.Clock) }
+{}
+
+/// Behind any runs of an end whose CONFIGs name the same desks, the outbox holds each desk's messages once and in order, a beginning of what it
+/// is to send over the inbox; where it has its finish, all of it up to the peer's; and where the last run ended by its connections, none
+/// is left out.
+pub fn desks_hold<S: Source, K: Sink, D: Disk, N: Dialer, C: Clock>()
+    ensures law { DesksHold ⟦<SegJournal<D> as Journal>⟧ (sees S.Source K.Sink D.Disk N.Dialer N.Link.Link C.Clock) }
+{}
+
+/// An end with desks meets the premises of `desks_hold` on runs, by a run in memory whose link is cut.
+pub fn desks_sample<I: Journal>(empty: &Inbox<I>)
+    ensures law { DesksSample empty.now }
 {}
 
 /// A run over disks that tell their content kept both journals, each by itself, or lived one life of the session model over them.
