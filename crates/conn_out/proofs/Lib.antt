@@ -1,0 +1,6 @@
+mod Fronts
+mod Lines
+mod Splits
+mod Places
+mod Telling
+mod GoingOn
