@@ -1,7 +1,7 @@
 use Rattle.std.proofs.Common.{arith}
 use Rattle.conn_loop.specs.Conn.{line_of}
 use Rattle.cases_made.proofs.Driving.{passes_made, made_stands}
-use Rattle.cases_made.proofs.driven.DrivenEnd.open.Goals as goal
+use Rattle.cases_made.proofs.driven.DrivenEnd.open_within.Goals as goal
 
 pub close-requires : goal.close-requires
 close-requires c =
