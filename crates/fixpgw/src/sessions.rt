@@ -166,6 +166,11 @@ where
     report_of(rt, session, status, devices, &teller)
 }
 
+/// What stands at the number of a standard stream that is closed, while it is held.
+fn hold_stream<R: Files<File = File>>(rt: &R) -> io::Result<File> {
+    File::open(rt, "/dev/null")
+}
+
 /// Runs a session over a socket, over the files that its words name, and over these disks of its journals. A listener is bound
 /// once CONFIG, the journals and INPUT are accepted. A quiet one says no more on standard error than what is wrong.
 pub fn run_over_sockets<
@@ -182,13 +187,17 @@ pub fn run_over_sockets<
     D: Disk + Send + Drop + SaysWhy,
 >(rt: &'a R, session: Session<'a>, files: SessionFiles<'a, D>, is_quiet: bool) -> Report {
     let (alloc, most) = (rt.alloc(), u64::from(session.most));
+    // What a dialer waits with would take the number of a standard stream that is closed, and OUT would then be told to it.
+    let held = (hold_stream(rt), hold_stream(rt), hold_stream(rt));
     match session.role {
         Role::Initiator => {
             let dialer = ConnectDialer::new(rt, alloc, session.address, most);
+            drop(held);
             run_with(rt, session, files, dialer, is_quiet)
         }
         Role::Acceptor => {
             let dialer = AcceptDialer::new(rt, alloc, session.address, most);
+            drop(held);
             run_with(rt, session, files, dialer, is_quiet)
         }
     }
