@@ -1,6 +1,6 @@
 //! The work of two ends over their turns, by hand and with no proof: a sender's messages are appended to an outbox, framed, moved over
-//! a link in memory, taken out of their frames and appended to an inbox, with the journals' two writes and two syncs a record, on
-//! disks in memory. What `cases_threads bench turns` does is compared with this. It is no part of the product. Usage: turns COUNT SIZE
+//! a link in memory, taken out of their frames and appended to an inbox, on disks in memory, with the journals' two writes and two syncs a
+//! record of the outbox, and for all that a turn appends to the inbox. What `cases_threads bench turns` does is compared with this. It is no part of the product. Usage: turns COUNT SIZE
 mod memory_disk;
 
 use memory_disk::Disk;
@@ -54,15 +54,25 @@ struct Inbox {
 }
 
 impl Inbox {
-    fn apply(&mut self, payload: &[u8]) -> u64 {
-        let number = self.applied.len() as u64 + 1;
-        let mut record = record(3, 8 + payload.len());
-        record.extend_from_slice(&number.to_le_bytes());
-        record.extend_from_slice(payload);
-        record.push(0);
-        self.disk.append(&record);
-        self.applied.push(payload.to_vec());
-        number
+    /// Appends the payloads of a turn behind one another, and answers the number of the first.
+    fn apply_all(&mut self, payloads: &[Vec<u8>]) -> u64 {
+        let first = self.applied.len() as u64 + 1;
+        if payloads.is_empty() {
+            return first;
+        }
+        let mut batch = Vec::new();
+        for (number, payload) in (first..).zip(payloads) {
+            if number > first {
+                batch.push(1);
+            }
+            batch.extend_from_slice(&record(3, 8 + payload.len()));
+            batch.extend_from_slice(&number.to_le_bytes());
+            batch.extend_from_slice(payload);
+            self.applied.push(payload.clone());
+        }
+        batch.push(0);
+        self.disk.append(&batch);
+        first
     }
 }
 
@@ -103,11 +113,11 @@ fn main() {
         let mut taken = 0;
         let mut news = Vec::new();
         while let Some((payload, size)) = first(&held[taken..]) {
-            news.push((inbox.apply(payload), payload.to_vec()));
+            news.push(payload.to_vec());
             taken += size;
         }
         held.drain(..taken);
-        for (number, payload) in news {
+        for (number, payload) in (inbox.apply_all(&news)..).zip(news) {
             sum += number + payload.iter().map(|byte| u64::from(*byte)).sum::<u64>();
         }
     }

@@ -1,6 +1,7 @@
 //! Cases of devices: reads `devices.txt`, plays the calls of each line on a source, a sink, a disk or lines in memory or on a file,
 //! and prints what each call gave. What it has to print stands in `stdout`, worked out by hand.
 
+mod appended;
 mod disks;
 mod failing;
 mod files;
@@ -26,6 +27,7 @@ fn print_case<R: Files<File = File> + Print + AllocGlobal>(rt: &R, line: &str) -
     let mut told = String::new(rt.alloc());
     match line.split_once(": ") {
         Some(("file", calls)) => files::add_file(rt, calls, &mut told)?,
+        Some(("append", path)) => appended::add_appended(rt, path, &mut told)?,
         Some((kind, rest)) => add_case(rt.alloc(), kind, rest, &mut told)?,
         None => told.push_str(line)?,
     }

@@ -9,7 +9,7 @@ ghost use Rattle.gate_senders.specs.Gate.{opening_of};
 ghost use Rattle.conn_loop.specs.Conn.{line_of, new_line};
 ghost use Rattle.cases_made.specs.Driving.{Rests};
 
-use crate::journals::{Disks, Log, MOST, open_inbox, open_outbox};
+use crate::journals::{Disks, LIMITS, Log, MOST, open_inbox, open_outbox};
 use crate::passes::{finish, submit, taken};
 use crate::standing::Standing;
 use crate::turning::make_turn;
@@ -141,9 +141,16 @@ impl DrivenEnd {
     pub fn open(alloc: Global, setup: Setup, disks: Disks) -> Option<DrivenEnd>
         requires senders { (1 ≤ setup.senders) × (setup.senders ≤ 16) }
     {
+        DrivenEnd::open_within(alloc, setup, disks, LIMITS.bytes)
+    }
+
+    /// As `open`, with an inbox of so many bytes at most.
+    pub fn open_within(alloc: Global, setup: Setup, disks: Disks, bytes: u64) -> Option<DrivenEnd>
+        requires senders { (1 ≤ setup.senders) × (setup.senders ≤ 16) }
+    {
         let Disks { outbox, inbox } = disks;
         let outbox = open_outbox(alloc, outbox)?;
-        let inbox = open_inbox(alloc, inbox, setup.peer_flow)?;
+        let inbox = open_inbox(alloc, inbox, setup.peer_flow, bytes)?;
         let Ok((gate, passes)) = Gate::new(alloc, outbox, setup.senders) else {
             return None;
         };

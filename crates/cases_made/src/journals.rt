@@ -19,7 +19,7 @@ pub type Log = SegJournal<MemDisk>;
 pub(crate) const MOST: u64 = 1 << 24;
 
 /// The limits of both journals, which no disk in memory here has room for.
-const LIMITS: Limits = Limits {
+pub(crate) const LIMITS: Limits = Limits {
     entries: MOST,
     bytes: 1 << 30,
 };
@@ -72,13 +72,14 @@ pub(crate) fn open_outbox(alloc: Global, disk: MemDisk) -> Option<Outbox<Log>>
     Outbox::open(alloc, journal, limits).ok()
 }
 
-/// The inbox of a flow on a disk; none where there is none, or where it awaits no number that may come.
-pub(crate) fn open_inbox(alloc: Global, disk: MemDisk, flow: Flow) -> Option<Inbox<Log>>
+/// The inbox of a flow, of so many bytes at most, on a disk; none where there is none, or where it awaits no number that may come.
+pub(crate) fn open_inbox(alloc: Global, disk: MemDisk, flow: Flow, bytes: u64) -> Option<Inbox<Log>>
     ensures flow { IfSome result (λ box. inboxes.flow_of box ≡ flow) }
     ensures limit { IfSome result (λ box. (inboxes.limits_of box).entries ≡ 2 ^ 24) }
     ensures numbered { IfSome result (λ box. inboxes.next_of box + 1 < 2 ^ 64) }
 {
-    let limits = LIMITS;
+    let entries = LIMITS.entries;
+    let limits = Limits { entries, bytes };
     let journal = SegJournal::open(alloc, disk, limits).ok()?;
     let inbox = Inbox::open(alloc, journal, limits, flow).ok()?;
     (inbox.next() <= MOST + 1).then_some(inbox)

@@ -1,7 +1,7 @@
 //! Sessions of two ends over their turns: two connections against each other over pipes in memory, with gates, journals and inboxes
 //! as a session has them. Senders submit between the turns, links give and take a part or a byte at a time, and connections are cut
 //! where it is drawn; the last one is not. The journals are opened again and judged by plain lists. Before them stand rows of whole turns,
-//! by `turns.txt`, and a long session over a link with losses; behind them each end hears what an honest peer sends in a connection with
+//! by `turns.txt`, a long session over a link with losses, and sessions of which one end is stopped at each call of a disk; behind them each end hears what an honest peer sends in a connection with
 //! one byte changed, by `tapes.txt`. What the program has to print stands in `stdout`, worked out by hand.
 
 mod judge;
@@ -11,6 +11,7 @@ mod narrow;
 mod rows;
 mod runs;
 mod session;
+mod stops;
 mod tapes;
 mod written;
 
@@ -23,6 +24,7 @@ use std::alloc::{AllocError, Global};
 use std::rt::Files;
 use std::sync::Wait;
 use std::{fs, io};
+use stops::push_stopped;
 use tapes::{push_heard, read_tape};
 
 /// All flows.
@@ -138,11 +140,22 @@ fn print_losses<R: Print + AllocGlobal + Wait>(rt: &R, role: Role) -> io::Result
     rt.println(line)
 }
 
+/// Prints what comes of an end of this role, to which so many messages come, wherever it is stopped.
+fn print_stopped<R: Print + AllocGlobal + Wait>(rt: &R, role: Role, count: u8) -> io::Result<()> {
+    let mut line = String::new(rt.alloc());
+    push_stopped(rt.alloc(), &mut line, role, count, rt)?;
+    rt.println(line)
+}
+
 /// Prints what the section shows.
 pub fn print<R: Files + Print + AllocGlobal + Wait>(rt: &R) -> io::Result<()> {
     print_rows(rt)?;
     print_losses(rt, Role::Initiator)?;
     print_losses(rt, Role::Acceptor)?;
+    for role in [Role::Acceptor, Role::Initiator] {
+        print_stopped(rt, role, 3)?;
+        print_stopped(rt, role, 15)?;
+    }
     print_sessions(rt)?;
     let lines = fs::read_to_string(rt, "tapes.txt")?;
     print_tapes(rt, Role::Acceptor, "accept", lines.as_str())?;

@@ -36,6 +36,7 @@ fn feed_line(alloc: Global, kind: &str, words: &str) -> Result<String, AllocErro
         "accepted" => feed::accepted_line(alloc, words),
         "refused" => feed::refused_line(alloc, words),
         "tail" => feed::tail_line(alloc, words),
+        "cut" => feed::cut_line(alloc, words),
         _ => format!(in alloc; "{kind}: {words}"),
     }
 }

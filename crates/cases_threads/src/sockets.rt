@@ -4,6 +4,7 @@
 mod clocks;
 mod dialers;
 mod links;
+mod wakes;
 
 use std::io;
 use std::net::{Net, TcpListener, TcpStream};
@@ -17,6 +18,7 @@ pub fn print<R: Print + Net<Listener = TcpListener, Stream = TcpStream> + Clock 
     rt.println(links::full_socket(rt)?)?;
     rt.println(links::broken(rt)?)?;
     rt.println(links::waits(rt)?)?;
+    rt.println(wakes::wakes(rt)?)?;
     rt.println(dialers::no_addresses(rt)?)?;
     rt.println(dialers::in_use(rt)?)?;
     rt.println(dialers::refused(rt)?)?;

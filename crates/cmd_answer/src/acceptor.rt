@@ -50,7 +50,7 @@ pub struct Acceptor {
 }
 
 /// What one step over the input did.
-#[derive(Clone, Copy, Debug)]
+#[derive(Clone, Copy)]
 pub enum Step {
     /// Frames were answered, and the connection goes on.
     Answered,

@@ -33,6 +33,7 @@ use Rattle.jr_kept.specs.Inbox as inboxes
 use Rattle.jr_boxes.proofs.Kept.{length-places}
 use Rattle.gate_turn.specs.Views.{Limits}
 use Rattle.conn_steps.specs.Settling.{IsPast, HaveRoom}
+use Rattle.conn_steps.proofs.Either.{either_box}
 use Rattle.conn_door.specs.declared.answer.ServeFault.{ServeFault}
 use Rattle.conn_serve.specs.Connections.{all_of, adds_of, refused_of_all, wanted_of_all}
 use Rattle.conn_serve.specs.Moments.{life_at, beside}
@@ -117,7 +118,7 @@ module _ {S K D N C J : Type 0} {H : Ghosts J} (outbox : Outbox J H) (sees : See
     list = i.inbox ++ adds_of (all_of l.served.life.ended l.served.life.given_up)
 
     held : inboxes.HoldsBox since list (refused_of_all (option_to_list l.served.life.given_up))
-    held = l.served.life.refuses.holds i.inbox i.holds
+    held = either_box since list (refused_of_all (option_to_list l.served.life.given_up)) (l.served.life.refuses.holds i.inbox i.holds)
 
     -- a journal takes as many bytes as the records that its inbox holds
     sized : (b : Inbox J H) (rs late : List InboxRecord) → inboxes.HoldsBox b rs late → journal_size (records_of_inbox rs) ≡ inboxes.size_of b

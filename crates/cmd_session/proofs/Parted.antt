@@ -34,9 +34,9 @@ use Rattle.conn_serve.proofs.Living.{nothing_served}
 use Rattle.conn_serve.proofs.Opening.{blamed_none}
 use Rattle.life_laws.specs.PlanLives.{clocked, LivesOnceClosed}
 use Rattle.life_laws.proofs.Passes.{answer_blames, blamed_at}
-use Rattle.business_laws.specs.Answered.{answering}
-use Rattle.business_laws.specs.Served.{AreParted}
-use Rattle.business_laws.proofs.Boxes.{business_boxes}
+use Rattle.life_laws.specs.Answered.{answering}
+use Rattle.life_laws.specs.AnsweredLives.{AreParted}
+use Rattle.life_laws.proofs.BusinessBoxes.{business_boxes}
 use Rattle.cmd_session.specs.Answers.{plan_of}
 use Rattle.cmd_session.specs.declared.answering.Answerer.{Answerer}
 use Rattle.cmd_session.specs.declared.answering.Answerer.TheVariants as answerers

@@ -5,7 +5,7 @@ use Rattle.order_desk.specs.Schema.{IsVersion}
 use Rattle.order_desk.specs.Plans.{desk_plan}
 use Rattle.order_book_gate.specs.Plan.{book_plan}
 use Rattle.life_laws.specs.Plans.{Senders}
-use Rattle.business_laws.specs.Answered.{answering}
+use Rattle.life_laws.specs.Answered.{answering}
 use Rattle.cmd_session.specs.declared.answering.Answerer.{Answerer}
 use Rattle.cmd_session.specs.declared.answering.Answerer.TheVariants.{Desks, Book}
 

@@ -22,7 +22,7 @@ ghost use Rattle.gate_business.specs.Business.{lock_of, HasThese};
 ghost use Rattle.conn_door.specs.declared.answer.ServeFault.TheVariants as faults;
 ghost use Rattle.conn_serve.specs.Moments.{beside};
 ghost use Rattle.life_laws.specs.PlanLives.{clocked, LivesOnceClosed};
-ghost use Rattle.business_laws.specs.Answered.{answering};
+ghost use Rattle.life_laws.specs.Answered.{answering};
 ghost use Rattle.cmd_session.specs.Answers.{desks_of, plan_of, MayAnswer, AreOf};
 ghost use Rattle.cmd_session.specs.Outsides.{hears};
 ghost use Rattle.cmd_session.specs.Lived.{over_boxes, IsOfLife, BeganNone, HasLived};

@@ -10,7 +10,7 @@ ghost use Rattle.jr_kept.specs.Inbox as inboxes;
 ghost use Rattle.cmd_base.specs.Causes.{NoneFellInSession};
 ghost use Rattle.plan_values.specs.Plans.{payloads_of};
 ghost use Rattle.life_laws.specs.Plans.{submitting};
-ghost use Rattle.business_laws.specs.Answered.{answering};
+ghost use Rattle.life_laws.specs.Answered.{answering};
 ghost use Rattle.cmd_session.specs.Answers.{desks_of, plan_of, MayAnswer};
 ghost use Rattle.cmd_session.specs.Inputs.{ArePlanned};
 ghost use Rattle.cmd_session.specs.Lived.{OpensOutbox, OpensInbox, GoOn, LeftBoth, IsOfLife, BeganNone, HasLived, over_boxes};

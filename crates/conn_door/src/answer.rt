@@ -8,7 +8,7 @@ use jr_boxes::{CloseFault, SubmitFault};
 use thiserror::Error;
 
 /// How the connections of a life ended that did not fail.
-#[derive(Clone, Copy, Debug, PartialEq, Eq)]
+#[derive(Clone, Copy)]
 pub enum LifeEnd {
     /// Both finishes were exchanged on the last connection.
     Finished,
@@ -17,7 +17,7 @@ pub enum LifeEnd {
 }
 
 /// Why a life did not end with both finishes exchanged.
-#[derive(Clone, Copy, Debug, PartialEq, Eq, Error)]
+#[derive(Clone, Copy, Debug, Error)]
 pub enum ServeFault {
     /// OUT failed: it has taken a front of the lines.
     #[error("the output failed")]

@@ -9,14 +9,14 @@ ghost use Rattle.gate_plans.specs.declared.sender.Sender.{Sender};
 ghost use Rattle.conn_door.specs.Senders.{refusal_of, Finishes, IsRefusal, FinishedFirst, SubmittedAll};
 
 use crate::answer::{ServeFault, refused_finish, refused_submit};
-use crate::signals::Signals;
+use crate::entrance::Entrance;
 use gate_plans::{Sender, resume_turned, run_senders};
 use gate_senders::{Gate, Kept};
 use gate_turn::Pass;
+use gw_links::Wake;
 use jr_boxes::SubmitFault;
 use jr_dated::Journal;
 use std::sync::Wait;
-use std::sync::atomic::Ordering;
 use std::thread::Threads;
 
 /// What the refusal that a sender met, if it met one, is to the life.
@@ -42,7 +42,7 @@ fn first_refusal<O: Journal>(senders: &[Sender<O>]) -> Option<ServeFault>
 }
 
 /// Adds the Finish by a pass. Answers the refusal that was met, if one was other than that it stands already.
-fn finish_by<O: Journal, R: Wait>(
+pub fn finish_by<O: Journal, R: Wait>(
     gate: &Gate<O>,
     pass: &mut Pass<Kept<O>>,
     rt: &R,
@@ -87,10 +87,10 @@ fn any_turned<O: Journal>(senders: &[Sender<O>]) -> bool
 }
 
 /// Submits all plans, through the door that the connections keep.
-fn submit_plans<O: Journal + Send, R: Threads + Wait + Sync>(
+fn submit_plans<O: Journal + Send, W: Wake + Sync, R: Threads + Wait + Sync>(
     gate: &Gate<O>,
     senders: &mut [Sender<O>],
-    signals: &Signals,
+    entrance: &Entrance<W>,
     rt: &R,
 ) -> Result<(), SubmitFault>
     requires ready { All (λ s. IsReady gate.now s) senders.old }
@@ -98,41 +98,42 @@ fn submit_plans<O: Journal + Send, R: Threads + Wait + Sync>(
     ensures lowest { IsLowest senders.new result }
     ensures ready { All (λ s. IsReady gate.now s) senders.new }
 {
-    run_senders(gate, senders, signals, rt)
+    run_senders(gate, senders, entrance, rt)
 }
 
 /// Submits all plans, and adds the Finish where all are submitted and there are senders. Answers the refusal that was met, if one
 /// was other than that the outbox is closed.
-fn submit_and_finish<O: Journal + Send, R: Threads + Wait + Sync>(
+fn submit_and_finish<O: Journal + Send, W: Wake + Sync, R: Threads + Wait + Sync>(
     gate: &Gate<O>,
     senders: &mut [Sender<O>],
-    signals: &Signals,
+    entrance: &Entrance<W>,
     rt: &R,
 ) -> Option<ServeFault>
     requires ready { All (λ s. IsReady gate.now s) senders.old }
     ensures submitted { SubmittedAll gate.now senders.old senders.new result }
 {
-    match submit_plans(gate, senders, signals, rt) {
+    match submit_plans(gate, senders, entrance, rt) {
         Ok(()) if !senders.is_empty() && !any_turned(senders) => finish(gate, senders, rt),
         _ => first_refusal(senders),
     }
 }
 
-/// Submits the plans and adds the Finish behind them, and tells the connections to stop where a refusal was met.
-pub fn submit_all<O: Journal + Send, R: Threads + Wait + Sync>(
+/// Submits the plans and adds the Finish behind them, and tells the connections to stop where a refusal was met. Then it wakes them.
+pub fn submit_all<O: Journal + Send, W: Wake + Sync, R: Threads + Wait + Sync>(
     gate: &Gate<O>,
     senders: &mut [Sender<O>],
-    signals: &Signals,
+    entrance: &Entrance<W>,
     rt: &R,
 ) -> Option<ServeFault>
     requires ready { All (λ s. IsReady gate.now s) senders.old }
     ensures ready { All (λ s. IsReady gate.now s) senders.new }
     ensures submitted { SubmittedAll gate.now senders.old senders.new result }
 {
-    let refused = submit_and_finish(gate, senders, signals, rt);
+    let refused = submit_and_finish(gate, senders, entrance, rt);
     if refused.is_some() {
-        signals.stop.store(true, Ordering::SeqCst);
+        entrance.stop();
     }
+    entrance.wake();
     refused
 }
 

@@ -59,7 +59,7 @@ impl Progress {
 #[derive(Drop)]
 pub struct Signals {
     /// Set where a sender or the Finish was refused: the connections are to stop.
-    pub(crate) stop: AtomicBool,
+    stop: AtomicBool,
     /// Whether all messages are let in at once.
     open: bool,
     progress: Mutex<Progress>,

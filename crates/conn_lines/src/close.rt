@@ -3,7 +3,7 @@
 use fixp_replies::Ending;
 
 /// How a connection came to its end.
-#[derive(Clone, Copy, Debug, PartialEq, Eq)]
+#[derive(Clone, Copy)]
 pub enum Close {
     /// The session ended it, in this way.
     Ended(Ending),

@@ -1,5 +1,5 @@
 -- The work of a turn, put together from its steps.
-use Rattle.std.proofs.Common.{◌≡◌, ◌≤◌, ℕ, true, false, List, [], ◌∷◌, ◌++◌, length, Option, Some, None, refl, sym, ap, subst, ◌∙◌, arith, append-nil}
+use Rattle.std.proofs.Common.{◌≡◌, ◌≤◌, ℕ, true, false, inl, List, [], ◌∷◌, ◌++◌, length, Option, Some, None, refl, sym, ap, subst, ◌∙◌, arith, append-nil}
 use Rattle.std.specs.Prelude.{IfSome}
 use Rattle.session_model.specs.Inbox.{InboxRecord}
 use Rattle.session_model.specs.Journal.{History}
@@ -13,12 +13,12 @@ use Rattle.gate_turn.proofs.Histories.{begins_self, begins_on}
 use Rattle.conn_turns.specs.declared.news.NewsItem.{NewsItem}
 use Rattle.conn_turns.specs.declared.answer.TurnFault.{TurnFault}
 use Rattle.conn_turns.specs.declared.answer.TurnFault.TheVariants as faults
-use Rattle.conn_turns.specs.Lines.{Line, lines_after}
+use Rattle.conn_turns.specs.Lines.{Line, AreTaken, lines_after}
 use Rattle.conn_turns.specs.Frames.{IsDone, added, told, unframed_at, is_link_over}
 use Rattle.conn_turns.specs.Turns.{bad_calls, end_calls, again_calls, live_calls, finish_calls, served_of, served_now, live_of, live_beside, finish_of, calls_of_frames}
-use Rattle.conn_turns.specs.Refusals.{stood, refused}
+use Rattle.conn_turns.specs.Refusals.{stood}
 use Rattle.conn_turns.proofs.Taking.{run_append, frames_make_calls}
-use Rattle.conn_steps.specs.Settling.{Gains}
+use Rattle.conn_steps.specs.Settling.{Gains, Refuses}
 use Rattle.conn_steps.specs.Agreeing.{Agrees}
 use Rattle.conn_steps.specs.Taking.{TookFrames, CutFrames, OfInbox, refused_by}
 use Rattle.conn_steps.proofs.Rooms.{refuses_none, gains_at, refuses_at}
@@ -53,6 +53,16 @@ seen_same m n p sent finish h = record {
   entries = omega (arith, sent, h.entries);
   finish = subst (λ (o : Option ℕ). IfSome o (λ k. (p.seen.finished ≡ true) × (length p.seen.made ≡ k))) (sym finish) h.finish;
 }
+
+-- where nothing was tried a stop leaves nothing of it
+refused_nothing : (fault : TurnFault) → refused_by fault [] ≡ []
+refused_nothing faults.Link = refl
+refused_nothing faults.Inbox = refl
+refused_nothing faults.Outbox = refl
+refused_nothing (faults.Changed at) = refl
+refused_nothing faults.Broken = refl
+refused_nothing (faults.Full entries bytes) = refl
+refused_nothing faults.Memory = refl
 
 module _ {J : Type 0} {G : Ghosts J} where
   pub served_frames : (tells : Type 0) (now count : ℕ) (h seen : History) (old mid closed new : Line) (box after : Inbox J G) (news later : List NewsItem) → TookFrames now count (taking_end old box news) (taking_end mid after later)
@@ -132,9 +142,9 @@ module _ {J : Type 0} {G : Ghosts J} where
     taken = c.taken;
     refusal = c.refusal;
     is = c.is;
-    line = c.line;
-    refuses = refuses_at box raised after (added now old c.frames ++ stood now (lines_after now old c.frames) c.refusal)
-        (refused_by fault (refused now (lines_after now old c.frames) c.refusal)) same c.refuses;
+    tried = c.tried;
+    is_tried = c.is_tried;
+    refuses = refuses_at box raised after (added now old c.frames ++ stood now (lines_after now old c.frames) c.refusal) (refused_by fault c.tried) same c.refuses;
     past = c.past;
     recorded = c.recorded;
     news_are = c.news_are;
@@ -159,6 +169,8 @@ module _ {J : Type 0} {G : Ghosts J} where
     taken = c.taken;
     refusal = Some c.refusal;
     is = c.is;
+    tried = c.tried;
+    is_tried = c.is_tried;
     refuses = c.refuses;
     past = c.past;
     recorded = c.recorded;
@@ -175,7 +187,18 @@ module _ {J : Type 0} {G : Ghosts J} where
     taken = t.taken;
     refusal = None;
     is = tt;
-    refuses = refuses_none box after (added now old t.frames ++ []) (subst (λ (rs : List InboxRecord). Gains box after rs) (sym (append-nil (added now old t.frames))) t.gains);
+    tried = [];
+    is_tried = record {
+      later = [];
+      few = omega (arith, t.many, few);
+      taken = subst (AreTaken now old) (sym (append-nil t.frames)) t.taken;
+      next = tt;
+      untried = [];
+      adds = ap (added now old) (append-nil t.frames) ∙ (sym (append-nil (added now old t.frames)) ∙ sym (append-nil (added now old t.frames ++ [])));
+      first = ([], refl);
+      alike = inl refl;
+    };
+    refuses = subst (Refuses box after (added now old t.frames ++ [])) (sym (refused_nothing fault)) (refuses_none box after (added now old t.frames ++ []) (subst (λ (rs : List InboxRecord). Gains box after rs) (sym (append-nil (added now old t.frames))) t.gains));
     past = λ entries bytes e. absurd (never_full entries bytes e);
     recorded = tt;
     of_inbox = tt;

@@ -1,5 +1,5 @@
 -- A connection in the code, as a line; its beginning, and its end by a cut (this project's profile).
-use Rattle.std.specs.Prelude.{◌≡◌, ℕ, ◌+◌, ◌^◌, ◌<◌, ◌≤◌, true, false, [], ◌∷◌, length, Option, Some, None, IfSome, Result, Ok}
+use Rattle.std.specs.Prelude.{◌≡◌, ℕ, ◌+◌, ◌^◌, ◌<◌, ◌≤◌, true, false, List, [], ◌∷◌, length, Option, Some, None, IfSome, Result, Ok}
 use Rattle.fixp_replies.specs.declared.act.Ending.{Ending}
 use Rattle.fixp_machine.specs.Machine.{State, front_of, begin, link_end, taken, run}
 use Rattle.session_model.specs.Journal.{BeginsHistory}
@@ -10,11 +10,16 @@ use Rattle.conn_turns.specs.declared.answer.TurnEnd.{TurnEnd}
 use Rattle.conn_turns.specs.declared.answer.TurnEnd.TheVariants as ends
 use Rattle.conn_turns.specs.declared.answer.TurnFault.{TurnFault}
 use Rattle.conn_turns.specs.Lines.{Line}
+use Rattle.conn_steps.specs.Gathered.{payloads_in}
 use Rattle.conn_loop.specs.declared.conn.Conn.{Conn}
 
 -- what one end sees of the connection
 abbrev pub line_of : Conn → Line
 line_of c = record { machine = c.end; held = c.framer.held; place = c.place; over = c.over }
+
+-- the payloads that its turn has gathered
+abbrev pub gathered_by : Conn → List (List ℕ)
+gathered_by c = payloads_in c.gathered
 
 -- a connection that has not begun
 abbrev pub new_line : State → Line

@@ -17,7 +17,7 @@ use Rattle.conn_turns.specs.declared.answer.TurnFault.TheVariants as faults
 use Rattle.conn_turns.specs.Lines.{Line, TakenFrame, AreTaken, lines_after}
 use Rattle.conn_turns.specs.Frames.{added, told}
 use Rattle.conn_turns.specs.Turns.{Work, Refusal, works, IsFaithful, first_calls, sending_calls, is_end}
-use Rattle.conn_turns.specs.Refusals.{IsRefused, IsOfRecord, stood, told_before, refused}
+use Rattle.conn_turns.specs.Refusals.{IsRefused, IsTried, IsOfRecord, stood_of, told_of, wanted_of}
 use Rattle.conn_turns.specs.Exact.{Served, Received, line_ticked, most_held}
 use Rattle.conn_steps.specs.Ends.{TakingEnd}
 use Rattle.conn_steps.specs.Settling.{IsPast, Gains, Refuses}
@@ -27,24 +27,6 @@ use Rattle.conn_steps.specs.Agreeing.{Agrees}
 use Rattle.conn_loop.specs.Conn.{HasSeen, answer_of}
 use Rattle.conn_loop.specs.Live.{EndAt}
 use Rattle.conn_loop.specs.Moving.{ReceivedOnce, SentOnce, IsLossOf}
-
--- the records that stood before what was refused, if something was, and what was told of them
-abbrev pub stood_of : ℕ → Line → Option Refusal → List InboxRecord
-stood_of now l None = []
-stood_of now l (Some r) = stood now l r
-
-abbrev pub told_of : ℕ → Line → Option Refusal → List NewsItem
-told_of now l None = []
-told_of now l (Some r) = told_before now l r
-
--- all records that were refused; and what a stop may leave of them
-abbrev pub wanted_of : ℕ → Line → Option Refusal → List InboxRecord
-wanted_of now l None = []
-wanted_of now l (Some r) = refused now l r
-
-abbrev pub refused_of : TurnFault → ℕ → Line → Option Refusal → List InboxRecord
-refused_of fault now l None = []
-refused_of fault now l (Some r) = refused_by fault (refused now l r)
 
 -- the line with these bytes received behind those held, and whether its link has given its end
 abbrev pub received_on : Line → List ℕ → (over : Bool) → Line
@@ -65,18 +47,19 @@ module _ {J : Type 0} {G : Ghosts J} where
     pub gains : Gains old.box new.box (added now old.line work.frames)
     pub news_are : new.news ≡ old.news ++ told now old.line work.frames
 
-  -- A turn was cut short behind frames: by what was refused of the one behind them, its act or a held message, or by the outbox. The inbox
-  -- gained what is theirs and what stood before the refusal, and a stop may leave of what was refused what its fault may. At Full that is a
-  -- record which the journal has no room for; it is one anyhow, unless memory ran out; and where something was refused the fault is not the
-  -- link's nor the outbox's
+  -- A turn was cut short behind frames whose records are all stable: by the first record that is not, of the act of the next frame or of a held
+  -- message behind that act, or by the outbox. The inbox gained what is theirs and what stood before that record, and was told of; behind these a
+  -- stop may leave all that a failed call of its disk tried with it, or nothing. At Full it is a record which the journal has no room for; it is
+  -- one anyhow, unless memory ran out; and where something was refused the fault is not the link's nor the outbox's
   pub record CutShort (now : ℕ) (l : Line) (box box' : Inbox J G) (news news' : List NewsItem) (fault : TurnFault) : Type 0 where
     pub frames : List TakenFrame
     pub few : length frames ≤ 16
     pub taken : AreTaken now l frames
     pub refusal : Option Refusal
     pub is : IfSome refusal (IsRefused now (lines_after now l frames))
-    pub refuses : Refuses box box' (added now l frames ++ stood_of now (lines_after now l frames) refusal)
-        (refused_of fault now (lines_after now l frames) refusal)
+    pub tried : List InboxRecord
+    pub is_tried : IsTried now l frames refusal tried
+    pub refuses : Refuses box box' (added now l frames ++ stood_of now (lines_after now l frames) refusal) (refused_by fault tried)
     pub past : (entries bytes : ℕ) → fault ≡ faults.Full entries bytes
         → IsPast (limits_of box').bytes bytes (wanted_of now (lines_after now l frames) refusal)
     pub recorded : IfSome refusal (λ r. (fault ≡ faults.Memory → ⊥) → IsOfRecord now (lines_after now l frames) r)

@@ -2,6 +2,7 @@
 
 ghost use Rattle.std.specs.Prelude.{◌≡◌, ◌+◌, ◌^◌, ◌<◌, ◌≤◌, [], length, max, true, false, Some, None, IsSome, IfOk};
 
+use conn_steps::Gathered;
 use fixp_end::{End, Ending};
 use gw_links::Clock;
 use sofh_frame::{Framer, ROOM};
@@ -18,6 +19,8 @@ pub struct Conn {
     pub(crate) place: u64,
     /// Whether the link has given its end.
     pub(crate) over: bool,
+    /// What a turn gathers of its frames, until the inbox has it; each turn begins with nothing gathered.
+    pub(crate) gathered: Gathered,
 }
 
 impl Conn {
@@ -26,7 +29,7 @@ impl Conn {
     /// A connection that has not begun, of a new end.
     ///
     /// # Errors
-    /// Want of memory for the bytes that are read.
+    /// Want of memory for the bytes that are read, and for the messages that a turn gathers.
     pub fn new(alloc: Global, end: End) -> Result<Conn, AllocError>
         ensures { IfOk result (λ conn. line_of conn ≡ new_line end) }
     {
@@ -36,6 +39,7 @@ impl Conn {
             framer: Framer::new(alloc)?,
             place: 0,
             over: false,
+            gathered: Gathered::new(alloc)?,
         })
     }
 

@@ -37,7 +37,7 @@ use Rattle.conn_turns.specs.Refusals.{IsRefused}
 use Rattle.conn_turns.specs.Turns.{Turn, Refusal, of_act, of_held, only_sends, works, link_lost, cut_short, not_begun}
 use Rattle.conn_turns.specs.Exact.{line_ticked}
 use Rattle.conn_turns.proofs.Taking.{run_append}
-use Rattle.conn_loop.specs.Turned.{told_of}
+use Rattle.conn_turns.specs.Refusals.{told_of}
 use Rattle.turn_laws.specs.Turns.{line_received, IsTurn, tells_in}
 use Rattle.turn_laws.proofs.Draining.{awaited_in, fewer, helds_ready}
 

@@ -9,7 +9,8 @@ use Rattle.conn_turns.specs.declared.answer.TurnFault.{TurnFault}
 use Rattle.conn_turns.specs.Lines.{Line, TakenFrame, lines_after}
 use Rattle.conn_turns.specs.Frames.{told}
 use Rattle.conn_turns.specs.Turns.{Turn, Refusal, cut_short}
-use Rattle.conn_loop.specs.Turned.{refused_of, wanted_of, told_of}
+use Rattle.conn_turns.specs.Refusals.{IsTried, wanted_of, told_of}
+use Rattle.conn_steps.specs.Taking.{refused_by}
 use Rattle.turn_laws.specs.Turns.{line_received, IsTurn, IsCutShort, adds_in, adds_cut, tells_in}
 use Rattle.turn_laws.specs.Legs.{AreTurns, first_line}
 use Rattle.turn_laws.specs.Made.{TurnAt}
@@ -47,7 +48,9 @@ pub record PlainCutAt (last : Line) (t : Turn) (news : List NewsItem) (adds refu
   pub cut : IsCutShort now received frames refusal last
   pub news_are : news ≡ told now (line_received last now received cut.got) frames ++ told_of now (lines_after now (line_received last now received cut.got) frames) refusal
   pub adds_are : adds ≡ adds_cut now (line_received last now received cut.got) frames refusal
-  pub refused_are : refused ≡ refused_of fault now (lines_after now (line_received last now received cut.got) frames) refusal
+  pub tried : List InboxRecord
+  pub is_tried : IsTried now (line_received last now received cut.got) frames refusal tried
+  pub refused_are : refused ≡ refused_by fault tried
   pub wanted_are : wanted ≡ wanted_of now (lines_after now (line_received last now received cut.got) frames) refusal
 
 abbrev pub PlainCut : Line → Option Turn → List NewsItem → (adds refused wanted : List InboxRecord) → Type 0
@@ -84,6 +87,8 @@ plain_cut eager old new (Some t) news adds refused wanted k = record {
   cut = k.made.cut;
   news_are = k.news_are;
   adds_are = k.adds_are;
+  tried = k.tried;
+  is_tried = k.is_tried;
   refused_are = k.refused_are;
   wanted_are = k.wanted_are;
 }

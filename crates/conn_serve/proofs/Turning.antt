@@ -28,7 +28,8 @@ use Rattle.conn_steps.specs.Settling.{Gains, Refuses}
 use Rattle.conn_steps.specs.Agreeing.{Agrees}
 use Rattle.conn_steps.proofs.Rooms.{gains_none, gains_on, refuses_on, refuses_none}
 use Rattle.conn_loop.specs.Conn.{line_begun}
-use Rattle.conn_loop.specs.Turned.{NotBegun, told_of}
+use Rattle.conn_loop.specs.Turned.{NotBegun}
+use Rattle.conn_turns.specs.Refusals.{told_of}
 use Rattle.turn_laws.specs.Turns.{line_received, IsTurn, adds_in, tells_in}
 use Rattle.turn_laws.specs.Legs.{given_in, sent_in, IsTimelyTurn}
 use Rattle.turn_laws.specs.Made.{TurnAt, MadeTurn}
@@ -167,6 +168,8 @@ cut_dropped eager a b l (Some t) news adds refused wanted k = record {
   made = record { cut = k.made.cut; more = k.made.more; found = k.made.found; moved = k.made.moved; moment = k.made.moment; clock = k.made.clock };
   news_are = k.news_are;
   adds_are = k.adds_are;
+  tried = k.tried;
+  is_tried = k.is_tried;
   refused_are = k.refused_are;
   wanted_are = k.wanted_are;
 }
@@ -443,7 +446,7 @@ module _ {J : Type 0} {G : Ghosts J} {tells : Type 0} where
     cut_added = _;
     refused = _;
     wanted = _;
-    is_cut = record { now = k.now; received = k.received; frames = k.frames; refusal = k.refusal; fault = turn_fault; is = refl; made = k.made; news_are = k.news_are; adds_are = refl; refused_are = refl; wanted_are = refl };
+    is_cut = record { now = k.now; received = k.received; frames = k.frames; refusal = k.refusal; fault = turn_fault; is = refl; made = k.made; news_are = k.news_are; adds_are = refl; tried = k.tried; is_tried = k.is_tried; refused_are = refl; wanted_are = refl };
     timely = (k.timely, tt);
     faithful = λ t. tt;
     moved = moved_once old.told new.told old.carried new.carried (cut_short k.now k.received k.frames k.refusal) k.made.moved;

@@ -18,7 +18,8 @@ use Rattle.conn_turns.specs.declared.answer.TurnFault.{TurnFault}
 use Rattle.conn_turns.specs.Lines.{Line, TakenFrame, lines_after}
 use Rattle.conn_turns.specs.Frames.{told}
 use Rattle.conn_turns.specs.Turns.{Turn, Refusal, IsFaithful, cut_short}
-use Rattle.conn_loop.specs.Turned.{refused_of, wanted_of, told_of}
+use Rattle.conn_turns.specs.Refusals.{IsTried, wanted_of, told_of}
+use Rattle.conn_steps.specs.Taking.{refused_by}
 use Rattle.turn_laws.specs.Turns.{line_received, adds_in, adds_cut, tells_in}
 use Rattle.turn_laws.specs.Made.{TurnAt, MadeTurn, MadeCut}
 use Rattle.turn_laws.specs.Legs.{TurnedLeg, first_line, given_on, sent_on}
@@ -32,8 +33,8 @@ pub record LinkSeen : Type 0 where
   pub faults_before : ℕ
   pub faults_behind : ℕ
 
--- A connection: its link; its turns; what they told, in order; the records that the inbox gained; those whose append failed, of a frame or of a
--- held message, which a stop may leave; what was refused would have added, if something was; how it came to its end, None where it was
+-- A connection: its link; its turns; what they told, in order; the records that the inbox gained; those that a failed call of its
+-- disk tried, which a stop may leave, all or none; the record that was refused, if one was; how it came to its end, None where it was
 -- given up; and what its link tells that it had carried
 pub record Connection : Type 0 where
   pub link : LinkSeen
@@ -65,8 +66,8 @@ WereTurns eager old new (t ∷ later) news adds =
     × (more : List NewsItem) × (rest : List InboxRecord) × (news ≡ tells_in old.line t ++ more) × (adds ≡ adds_in old.line t ++ rest)
     × WereTurns eager mid new later more rest
 
--- a turn was cut short by a fault: what it told, the records that the inbox gained, those that a stop may leave, and what was refused would
--- have added
+-- a turn was cut short by a fault: what it told, the records that the inbox gained, those that a stop may leave all together, which a failed
+-- call of its disk tried, and the record that was refused
 pub record WasCutAt (eager : Bool) (old new : TurnAt) (t : Turn) (news : List NewsItem) (adds refused wanted : List InboxRecord) : Type 0 where
   pub now : ℕ
   pub received : List ℕ
@@ -78,7 +79,9 @@ pub record WasCutAt (eager : Bool) (old new : TurnAt) (t : Turn) (news : List Ne
   pub news_are : news
       ≡ told now (line_received old.line now received made.cut.got) frames ++ told_of now (lines_after now (line_received old.line now received made.cut.got) frames) refusal
   pub adds_are : adds ≡ adds_cut now (line_received old.line now received made.cut.got) frames refusal
-  pub refused_are : refused ≡ refused_of fault now (lines_after now (line_received old.line now received made.cut.got) frames) refusal
+  pub tried : List InboxRecord
+  pub is_tried : IsTried now (line_received old.line now received made.cut.got) frames refusal tried
+  pub refused_are : refused ≡ refused_by fault tried
   pub wanted_are : wanted ≡ wanted_of now (lines_after now (line_received old.line now received made.cut.got) frames) refusal
 
 -- no turn was cut short: the link moved nothing more, and the clock did not fall

@@ -13,5 +13,5 @@ mod serving;
 pub use answering::Answering;
 pub use conn_door::{LifeEnd, ServeFault, Signals};
 pub use laws::were_are_turns;
-pub use life::serve_connections;
-pub use serving::{serve, serve_answering};
+pub use life::{serve_connections, serve_then_shut};
+pub use serving::{opened, serve, serve_answering};

@@ -225,7 +225,7 @@ pub fn serve_connections<
 }
 
 /// Serves the connections, as `serve_connections` does, of an end that has no business, and lets no sender's message in behind them.
-pub(crate) fn serve_then_shut<
+pub fn serve_then_shut<
     N: Dialer,
     K: Sink,
     O: Journal + Send,

@@ -22,7 +22,7 @@ ghost use Rattle.conn_serve.specs.Moments.{serving_at};
 
 use crate::answering::{Answering, resume_business};
 use crate::life::{serve_connections, serve_then_shut};
-use conn_door::{LifeEnd, ServeFault, Signals, answer_of, submit_all, submit_behind};
+use conn_door::{Entrance, LifeEnd, ServeFault, Signals, answer_of, submit_all, submit_behind};
 use conn_loop::Conn;
 use fixp_end::{End, EndConfig, EndState};
 use gate_business::Business;
@@ -52,7 +52,7 @@ fn opened_state<O: Journal, I: Journal>(gate: &Gate<O>, inbox: &Inbox<I>) -> End
 }
 
 /// A connection that has not begun, of a new end.
-fn opened<O: Journal, I: Journal>(
+pub fn opened<O: Journal, I: Journal>(
     alloc: Global,
     gate: &Gate<O>,
     inbox: &Inbox<I>,
@@ -70,7 +70,7 @@ fn opened<O: Journal, I: Journal>(
     Conn::new(alloc, end)
 }
 
-/// Serves the connections, with the senders beside them.
+/// Serves the connections, with the senders beside them, who wake them.
 fn serve_beside<
     N: Dialer,
     K: Sink,
@@ -106,11 +106,12 @@ fn serve_beside<
     ensures never_falls { (faults_of inbox.old ≤ faults_of inbox.new) × (K.faults out.old ≤ K.faults out.new) × (N.faults dialer.old ≤ N.faults dialer.new) }
     ensures told { C.told clock.new ≡ C.told clock.old }
 {
+    let entrance = Entrance::new(signals, dialer.waker());
     let (refused, connections) = join_mut(
         rt,
         &mut || -> Option<ServeFault>
             requires { All (λ s. IsReady gate.now s) senders.now }
-        { submit_all(gate, senders, signals, rt) },
+        { submit_all(gate, senders, &entrance, rt) },
         &mut || -> Result<LifeEnd, ServeFault>
             requires { IsPassAt gate.now pass.now × IsFree pass.now × MayBegin (line_of conn.now).machine (known pass.now) inbox.now × (N.lent dialer.now ≡ false) }
         {

@@ -1,35 +1,30 @@
 -- Held messages that are applied one after another: which are ready, and what the machine, the inbox and the news are behind some.
-use Rattle.std.proofs.Common.{◌≡◌, ℕ, suc, ◌+◌, ◌<◌, List, [], ◌∷◌, ◌++◌, length, take, drop, get_or, Option, Some, None, refl, sym, ap, subst, ◌∙◌, arith, add-one, length-drop, append_assoc, append-nil}
-use Rattle.std.specs.Prelude.{is_some, replicate}
+use Rattle.std.proofs.Common.{◌≡◌, ℕ, suc, ◌+◌, ◌<◌, ◌≤◌, ⊎_elim, List, [], ◌∷◌, ◌++◌, length, take, drop, get_or, Option, Some, None, Result, Ok, Err, refl, sym, ap, subst, ◌∙◌, arith, add-one, add-zero, length-drop, length-append, append_assoc, append-nil}
+use Rattle.std.specs.Prelude.{is_some, replicate, OnOk}
 use Rattle.std.proofs.Math.Seq.{take-suc, drop-cons}
-use Rattle.std.proofs.lemmas.List.{map-append}
+use Rattle.std.specs.List.{AllByRecursion}
+use Rattle.std.proofs.Math.Seq.{take-length}
+use Rattle.std.proofs.lemmas.List.{map-append, length-map}
 use Rattle.std.proofs.lemmas.Grind.{replicate_next}
-use Rattle.session_model.specs.Inbox.{InboxRecord, Numbered}
+use Rattle.session_model.specs.Inbox.{Numbered, payloads_of}
 use Rattle.flow_window.specs.Window.{front}
 use Rattle.flow_window.specs.Gathering.{ready}
 use Rattle.flow_window.proofs.Taken.{front_by_front}
 use Rattle.fixp_shake.specs.declared.config.EndConfig.{EndConfig}
-use Rattle.fixp_replies.specs.declared.act.Act.TheVariants as acts
 use Rattle.fixp_replies.specs.declared.facts.EndState.{EndState}
 use Rattle.fixp_machine.specs.Machine.{State, Call, held_done, run, front_of, held_applied}
-use Rattle.fixp_machine.specs.Fitting.{recorded_after}
 use Rattle.fixp_machine.proofs.Windowing.{front_there}
+use Rattle.fixp_msgs.specs.Payload.{IsApplication}
 use Rattle.jr_dated.specs.declared.journal.Journal.{Ghosts}
-use Rattle.jr_dated.specs.declared.limits.Limits.{Limits}
-use Rattle.jr_record.specs.declared.faults.AppendFault.{AppendFault}
 use Rattle.jr_kept.specs.declared.inbox.Inbox.{Inbox}
-use Rattle.conn_turns.specs.declared.news.NewsItem.{NewsItem}
-use Rattle.conn_turns.specs.declared.news.NewsItem.TheVariants as items
+use Rattle.jr_kept.specs.Inbox.{next_of as next_in}
 use Rattle.conn_turns.specs.declared.answer.TurnFault.{TurnFault}
 use Rattle.conn_turns.specs.Lines.{ready_in}
-use Rattle.conn_turns.specs.Frames.{applies, delivers}
+use Rattle.conn_turns.specs.Gathering.{numbered_from}
 use Rattle.conn_turns.proofs.Taking.{run_append}
-use Rattle.conn_steps.specs.Settling.{SameKind, Gains, Refused, recorded_in}
-use Rattle.conn_steps.specs.Agreeing.{IsInTurn, Agrees, KeepsOwn, unheld}
-use Rattle.conn_steps.specs.Taking.{AppliedHeld, RefusedLater, fault_of}
-use Rattle.conn_steps.specs.Ends.{AnsweringEnd, answering_end}
-use Rattle.conn_steps.proofs.Answering.{past_as, refuses_as}
-use Rattle.conn_steps.proofs.Rooms.{gains_none, gains_on}
+use Rattle.conn_steps.specs.Agreeing.{IsInTurn, AgreesBut, KeepsOwn, unheld}
+use Rattle.conn_steps.specs.Taking.{AppliedHeld}
+use Rattle.conn_steps.proofs.Numbers.{numbered-append, ready-in, within}
 
 -- the element behind the first ones
 record IsNextOf (n : ℕ) (xs : List Numbered) (x : Numbered) (ys : List Numbered) : Type 0 where
@@ -104,81 +99,97 @@ keeps_held m n next config most recorded = record {
   finish = ap (λ (r : EndState). r.finish) recorded;
 }
 
+-- as many held messages were gathered as were ready first, and the others are ready still
+pub record Draining (old now : State) (gathered gathered' : List (List ℕ)) : Type 0 where
+  pub count : ℕ
+  pub helds : AppliedHeld count old now gathered gathered'
+  pub left : ready_in now ≡ drop count (ready_in old)
+  pub recorded : now.facts.recorded ≡ record old.facts.recorded { inbox_next = old.facts.recorded.inbox_next + count }
+  pub numbers : 0 < count → now.facts.recorded.inbox_next ≤ old.most + 1
+
+pub draining_none : (m : State) (gathered : List (List ℕ)) → Draining m m gathered gathered
+draining_none m gathered = record {
+  count = 0;
+  helds = record { few = omega arith; machine = refl; gathers = sym (append-nil gathered) };
+  left = refl;
+  recorded = ap (λ (j : ℕ). record m.facts.recorded { inbox_next = j }) (sym (add-zero m.facts.recorded.inbox_next));
+  numbers = λ none. absurd (omega (arith, none));
+}
+
+-- one more was
+pub draining_more : (old mid new : State) (first : Numbered) (gathered sooner later : List (List ℕ)) → Draining old mid gathered sooner → front_of mid ≡ Some first → new ≡ held_applied mid (front_of mid)
+    → later ≡ sooner ++ first.payload ∷ [] → new.facts.recorded ≡ record mid.facts.recorded { inbox_next = mid.facts.recorded.inbox_next + 1 } → mid.facts.recorded.inbox_next ≤ old.most
+    → Draining old new gathered later
+draining_more old mid new first gathered sooner later d awaits applied more recorded most =
+    let n : ℕ = d.count in
+    let ready : List Numbered = ready_in old in
+    let rest : drop n ready ≡ first ∷ ready_in new = sym d.left ∙ (ready_held mid first awaits ∙ ap (λ (s : State). first ∷ ready_in s) (sym applied)) in
+    let k : IsNextOf n ready first (ready_in new) = next_of n ready first (ready_in new) rest in
+    record {
+      count = n + 1;
+      helds = record {
+        few = omega (arith, k.within);
+        machine = applied ∙ (ap (λ (s : State). held_applied s (front_of s)) d.helds.machine
+            ∙ (sym (run_append old (replicate n held_done) (held_done ∷ [])) ∙ ap (λ (cs : List Call). run old cs) (sym (replicate_next n held_done))));
+        gathers = more ∙ (ap (λ (ps : List (List ℕ)). ps ++ first.payload ∷ []) d.helds.gathers
+            ∙ (append_assoc gathered (payloads_of (take n ready)) (first.payload ∷ [])
+            ∙ ap (λ (ps : List (List ℕ)). gathered ++ ps) (sym (map-append (λ (m : Numbered). m.payload) (take n ready) (first ∷ [])) ∙ ap payloads_of (sym k.taken))));
+      };
+      left = sym k.left;
+      recorded = recorded ∙ (ap (λ (r : EndState). record r { inbox_next = r.inbox_next + 1 }) d.recorded
+          ∙ ap (λ (j : ℕ). record old.facts.recorded { inbox_next = j }) (omega arith));
+      numbers = λ _. omega (arith, ap (λ (r : EndState). r.inbox_next) recorded, most);
+    }
+
+-- all were
+pub all_drained : (old now : State) (gathered gathered' : List (List ℕ)) → (d : Draining old now gathered gathered') → front_of now ≡ None → d.count ≡ length (ready_in old)
+all_drained old now gathered gathered' d none =
+    let ready : List Numbered = ready_in old in
+    let empty : drop d.count ready ≡ [] = sym d.left ∙ ready_none now none in
+    omega (arith, d.helds.few, length-drop d.count ready, ap (λ (ms : List Numbered). length ms) empty)
+
+-- one is ready where one is awaited
+pub some_ready : (old now : State) (first : Numbered) (gathered gathered' : List (List ℕ)) → Draining old now gathered gathered' → front_of now ≡ Some first → 0 < length (ready_in old)
+some_ready old now first gathered gathered' d awaits =
+    let rest : drop d.count (ready_in old) ≡ first ∷ ready_in (held_applied now (front_of now)) = sym d.left ∙ ready_held now first awaits in
+    omega (arith, length-drop d.count (ready_in old), ap (λ (ms : List Numbered). length ms) rest)
+
 module _ {J : Type 0} {G : Ghosts J} where
-  -- as many held messages were applied as were ready first, and the others are ready still
-  pub record Draining (old now : AnsweringEnd J G) : Type 0 where
-    pub count : ℕ
-    pub helds : AppliedHeld count old now
-    pub left : ready_in now.machine ≡ drop count (ready_in old.machine)
+  -- what waits once all that is ready is gathered
+  pub waits_behind : (m n : State) (box : Inbox J G) (gathered gathered' : List (List ℕ)) → AgreesBut gathered m box → AppliedHeld (length (ready_in m)) m n gathered gathered'
+      → numbered_from (next_in box) gathered' ≡ numbered_from (next_in box) gathered ++ ready_in m
+  waits_behind m n box gathered gathered' a h =
+      ap (λ (ps : List (List ℕ)). numbered_from (next_in box) ps) (h.gathers ∙ ap (λ (ms : List Numbered). gathered ++ payloads_of ms) (take-length (ready_in m)))
+      ∙ (numbered-append (next_in box) gathered (payloads_of (ready_in m))
+      ∙ ap (λ (ms : List Numbered). numbered_from (next_in box) gathered ++ ms) (ap (λ (k : ℕ). numbered_from k (payloads_of (ready_in m))) a.next ∙ sym (ready-in m)))
 
-  pub draining_none : (m : State) (box : Inbox J G) (news : List NewsItem) → Draining (answering_end m box news) (answering_end m box news)
-  draining_none m box news = record {
-    count = 0;
-    helds = record { few = omega arith; machine = refl; gains = gains_none box box refl; news_are = sym (append-nil news) };
-    left = refl;
-  }
-
-  -- one more was applied
-  pub draining_more : (old : AnsweringEnd J G) (mid new : State) (first : Numbered) (between after : Inbox J G) (sooner later : List NewsItem)
-      → Draining old (answering_end mid between sooner) → front_of mid ≡ Some first → new ≡ held_applied mid (front_of mid)
-      → Gains between after (InboxRecord.apply first ∷ []) → later ≡ sooner ++ items.Delivered first.number first.payload ∷ []
-      → Draining old (answering_end new after later)
-  draining_more old mid new first between after sooner later d awaits applied gains told =
-      let n : ℕ = d.count in
-      let ready : List Numbered = ready_in old.machine in
-      let rest : drop n ready ≡ first ∷ ready_in new = sym d.left ∙ (ready_held mid first awaits ∙ ap (λ (s : State). first ∷ ready_in s) (sym applied)) in
-      let k : IsNextOf n ready first (ready_in new) = next_of n ready first (ready_in new) rest in
-      let more : applies (take n ready) ++ InboxRecord.apply first ∷ [] ≡ applies (take (n + 1) ready)
-      = sym (map-append InboxRecord.apply (take n ready) (first ∷ [])) ∙ ap applies (sym k.taken) in
-      let news : delivers (take n ready) ++ items.Delivered first.number first.payload ∷ [] ≡ delivers (take (n + 1) ready)
-      = sym (map-append (λ (m : Numbered). items.Delivered m.number m.payload) (take n ready) (first ∷ [])) ∙ ap delivers (sym k.taken) in
+  -- the inbox agrees then but for these too
+  pub agrees_behind : (m n : State) (box : Inbox J G) (gathered gathered' : List (List ℕ)) → AgreesBut gathered m box → AppliedHeld (length (ready_in m)) m n gathered gathered' → KeepsOwn m n
+      → n.facts.recorded ≡ record m.facts.recorded { inbox_next = m.facts.recorded.inbox_next + length (ready_in m) } → AllByRecursion IsApplication gathered'
+      → (0 < length (ready_in m) → n.facts.recorded.inbox_next ≤ m.most + 1) → AgreesBut gathered' n box
+  agrees_behind m n box gathered gathered' a h own recorded applications numbers =
+      let many : length gathered' ≡ length gathered + length (ready_in m) =
+      ap (λ (ps : List (List ℕ)). length ps) (h.gathers ∙ ap (λ (ms : List Numbered). gathered ++ payloads_of ms) (take-length (ready_in m)))
+      ∙ (length-append gathered (payloads_of (ready_in m)) ∙ ap (λ (k : ℕ). length gathered + k) (length-map (ready_in m) (λ (x : Numbered). x.payload))) in
+      let next : next_in box + length gathered' ≡ n.facts.recorded.inbox_next = omega (arith, many, a.next, ap (λ (r : EndState). r.inbox_next) recorded) in
       record {
-        count = n + 1;
-        helds = record {
-          few = omega (arith, k.within);
-          machine = applied ∙ (ap (λ (s : State). held_applied s (front_of s)) d.helds.machine
-              ∙ (sym (run_append old.machine (replicate n held_done) (held_done ∷ [])) ∙ ap (λ (cs : List Call). run old.machine cs) (sym (replicate_next n held_done))));
-          gains = subst (λ (rs : List InboxRecord). Gains old.box after rs) more
-              (gains_on old.box between after (applies (take n ready)) (InboxRecord.apply first ∷ []) d.helds.gains gains);
-          news_are = told ∙ (ap (λ (ns : List NewsItem). ns ++ items.Delivered first.number first.payload ∷ []) d.helds.news_are
-              ∙ (append_assoc old.news (delivers (take n ready)) (items.Delivered first.number first.payload ∷ []) ∙ ap (λ (ns : List NewsItem). old.news ++ ns) news));
+        flow = a.flow ∙ sym (ap (λ (x : EndConfig). x.peer_flow) own.config);
+        most = omega (arith, a.most, own.most);
+        next = next;
+        negotiated = a.negotiated ∙ sym (ap (λ (r : EndState). r.negotiated) recorded);
+        peer_last = a.peer_last ∙ sym (ap (λ (r : EndState). r.peer_last) recorded);
+        may_stand = record {
+          applications = applications;
+          numbers = λ some. ⊎_elim (λ ready. omega (arith, numbers ready, next, a.most)) (λ none. (let few = a.may_stand.numbers (omega (arith, many, none, some)) in omega (arith, few, many, none)))
+              (within 0 (length (ready_in m)));
         };
-        left = sym k.left;
       }
 
-  -- all were applied
-  pub all_drained : (old now : AnsweringEnd J G) → Draining old now → front_of now.machine ≡ None → AppliedHeld (length (ready_in old.machine)) old now
-  all_drained old now d none =
-      let ready : List Numbered = ready_in old.machine in
-      let empty : drop d.count ready ≡ [] = sym d.left ∙ ready_none now.machine none in
-      let many : d.count ≡ length ready = omega (arith, d.helds.few, length-drop d.count ready, ap (λ (ms : List Numbered). length ms) empty) in
-      subst (λ (n : ℕ). AppliedHeld n old now) many d.helds
-
-  -- the next one was refused
-  pub refused_later : (old : AnsweringEnd J G) (m : State) (first : Numbered) (between after : Inbox J G) (sooner later : List NewsItem) (count : ℕ) (fault : AppendFault) (answer : TurnFault)
-      → Draining old (answering_end m between sooner) → front_of m ≡ Some first → answer ≡ fault_of count fault
-      → Refused between after sooner later (InboxRecord.apply first ∷ []) fault → RefusedLater old (answering_end m after later) answer
-  refused_later old m first between after sooner later count fault answer d awaits is r = record {
-    count = d.count;
-    last = answering_end m between sooner;
-    helds = d.helds;
-    refused = record {
-      message = first;
-      awaited = awaits;
-      machine = refl;
-      refuses = refuses_as between after count fault answer (InboxRecord.apply first ∷ []) (applies (first ∷ [])) is refl r.refuses;
-      past = past_as after count fault answer (InboxRecord.apply first ∷ []) (applies (first ∷ [])) is refl r.past;
-      news_are = r.news_are;
-    };
-  }
-
-  -- a held message was applied of an inbox that agrees with the machine
-  pub agrees_held : (m n : State) (box after : Inbox J G) (k : ℕ) → k ≡ m.facts.recorded.inbox_next → Agrees m box → SameKind box after → recorded_in after ≡ recorded_after (acts.Apply k) (recorded_in box)
-      → n.config ≡ m.config → n.most ≡ m.most → n.facts.recorded ≡ record m.facts.recorded { inbox_next = m.facts.recorded.inbox_next + 1 } → Agrees n after
-  agrees_held m n box after k here a kind recorded config most facts = record {
-    flow = kind.flow ∙ (a.flow ∙ sym (ap (λ (x : EndConfig). x.peer_flow) config));
-    most = omega (arith, most, a.most, ap (λ (l : Limits). l.entries) kind.limits);
-    next = ap (λ (r : EndState). r.inbox_next) recorded ∙ (ap (λ (n : ℕ). n + 1) here ∙ sym (ap (λ (r : EndState). r.inbox_next) facts));
-    negotiated = ap (λ (r : EndState). r.negotiated) recorded ∙ (a.negotiated ∙ sym (ap (λ (r : EndState). r.negotiated) facts));
-    peer_last = ap (λ (r : EndState). r.peer_last) recorded ∙ (a.peer_last ∙ sym (ap (λ (r : EndState). r.peer_last) facts));
-  }
+  pub agrees_on : (result : Result (Unit {0}) TurnFault) (m n : State) (box : Inbox J G) (gathered gathered' : List (List ℕ)) → AgreesBut gathered m box
+      → OnOk result (AppliedHeld (length (ready_in m)) m n gathered gathered') → KeepsOwn m n
+      → OnOk result (n.facts.recorded ≡ record m.facts.recorded { inbox_next = m.facts.recorded.inbox_next + length (ready_in m) })
+      → (AllByRecursion IsApplication gathered → OnOk result (AllByRecursion IsApplication gathered'))
+      → (0 < length (ready_in m) → OnOk result (n.facts.recorded.inbox_next ≤ m.most + 1)) → OnOk result (AgreesBut gathered' n box)
+  agrees_on (Ok done) m n box gathered gathered' a h own recorded applications numbers =
+      agrees_behind m n box gathered gathered' a h own recorded (applications a.may_stand.applications) numbers
+  agrees_on (Err fault) m n box gathered gathered' a h own recorded applications numbers = tt

@@ -1,5 +1,11 @@
 pub mod Answering
+pub mod Batches
+pub mod Cutting
+pub mod Either
+pub mod Fitting
 pub mod Following
 pub mod Holding
 pub mod Inboxes
+pub mod Numbers
 pub mod Rooms
+pub mod Unstable

@@ -6,10 +6,11 @@ use Rattle.jr_dated.specs.declared.limits.Limits.{Limits}
 use Rattle.jr_dated.specs.Images.{record_size}
 use Rattle.jr_boxes.specs.Inboxes.{record_of}
 use Rattle.jr_kept.specs.declared.inbox.Inbox.{Inbox}
-use Rattle.jr_kept.specs.Inbox.{HoldsBox, SameButMoment, limits_of, size_of}
+use Rattle.jr_kept.specs.Inbox.{HoldsBox, HoldsEitherBox, SameButMoment, limits_of, size_of}
 use Rattle.conn_steps.specs.Settling.{bytes_of, HaveRoom, Gains, Refuses}
+use Rattle.conn_steps.proofs.Either.{few_either}
 
-bytes_append : (rs more : List InboxRecord) → bytes_of (rs ++ more) ≡ bytes_of rs + bytes_of more
+pub bytes_append : (rs more : List InboxRecord) → bytes_of (rs ++ more) ≡ bytes_of rs + bytes_of more
 bytes_append [] more = omega arith
 bytes_append (r ∷ rs) more = omega (arith, bytes_append rs more)
 
@@ -62,10 +63,10 @@ module _ {J : Type 0} {G : Ghosts J} where
   -- a call was refused behind what was gained
   pub refuses_on : (a b c : Inbox J G) (rs more refused : List InboxRecord) → Gains a b rs → Refuses b c more refused → Refuses a c (rs ++ more) refused
   refuses_on a b c rs more refused first later = record {
-    holds = λ i h. subst (λ (all : List InboxRecord). HoldsBox c all refused) (append_assoc i rs more) (later.holds (i ++ rs) (first.holds i h));
+    holds = λ i h. subst (λ (all : List InboxRecord). HoldsEitherBox c all refused) (append_assoc i rs more) (later.holds (i ++ rs) (first.holds i h));
     room = subst (HaveRoom (limits_of a).bytes (size_of a)) (sym (append_assoc rs more refused)) (room_on a b rs (more ++ refused) first later.room);
   }
 
   -- or none was
   pub refuses_none : (a b : Inbox J G) (rs : List InboxRecord) → Gains a b rs → Refuses a b rs []
-  refuses_none a b rs first = record { holds = first.holds; room = subst (HaveRoom (limits_of a).bytes (size_of a)) (sym (append-nil rs)) first.room }
+  refuses_none a b rs first = record { holds = λ i h. few_either b (i ++ rs) [] (omega arith) (first.holds i h); room = subst (HaveRoom (limits_of a).bytes (size_of a)) (sym (append-nil rs)) first.room }

@@ -1,9 +1,10 @@
 -- What holds between the machine, the inbox and the outbox's pass at a turn's start and at its end (this project's profile).
-use Rattle.std.specs.Prelude.{◌≡◌, ℕ, ◌+◌, ◌*◌, ◌≤◌, true, [], length, None}
+use Rattle.std.specs.Prelude.{◌≡◌, ℕ, ◌+◌, ◌*◌, ◌≤◌, true, List, [], length, None}
 use Rattle.jr_dated.specs.declared.journal.Journal.{Ghosts}
 use Rattle.jr_kept.specs.declared.inbox.Inbox.{Inbox}
 use Rattle.jr_kept.specs.Inbox.{next_of, is_negotiated, peer_last_of, flow_of, limits_of}
 use Rattle.fixp_machine.specs.Machine.{State, front_of}
+use Rattle.conn_steps.specs.Settling.{MayStand}
 
 -- The machine between its calls, so many frames before a turn's frames end: no act is still to be done, no held message is to be applied
 -- first, no moment lies ahead, there is room for the frames, and what is unsent and untold is little
@@ -36,3 +37,12 @@ module _ {J : Type 0} {G : Ghosts J} where
     pub next : next_of box ≡ m.facts.recorded.inbox_next
     pub negotiated : is_negotiated box ≡ m.facts.recorded.negotiated
     pub peer_last : peer_last_of box ≡ m.facts.recorded.peer_last
+
+  -- so it is but for messages that are gathered: the machine takes these for applied, and the inbox does not yet have them
+  pub record AgreesBut (gathered : List (List ℕ)) (m : State) (box : Inbox J G) : Type 0 where
+    pub flow : flow_of box ≡ m.config.peer_flow
+    pub most : m.most ≤ (limits_of box).entries
+    pub next : next_of box + length gathered ≡ m.facts.recorded.inbox_next
+    pub negotiated : is_negotiated box ≡ m.facts.recorded.negotiated
+    pub peer_last : peer_last_of box ≡ m.facts.recorded.peer_last
+    pub may_stand : MayStand box gathered

@@ -1,3 +1,4 @@
+pub mod Gathered
 pub mod Ends
 pub mod Settling
 pub mod Agreeing

@@ -1,89 +1,62 @@
-//! What the act of a frame makes of the inbox and the news.
+//! What the act of a frame makes of the inbox, the news, and what is gathered.
 
-ghost use Rattle.std.specs.Prelude.{◌≡◌, ◌+◌, ◌≤◌, ℕ, true, [], ◌∷◌, ◌++◌, Ok, Err, IfOk, IfErr, OnOk, OnErr};
-ghost use Rattle.gw_outside.specs.Faults.{HasRisen};
-ghost use Rattle.session_model.specs.Inbox.{apply};
-ghost use Rattle.sofh_frame.specs.Framing.{encoding_of};
-ghost use Rattle.fixp_msgs.specs.Payload.{IsApplication};
-ghost use Rattle.jr_record.specs.declared.faults.AppendFault.TheVariants as append;
-ghost use Rattle.fixp_replies.specs.declared.act.Act.TheVariants as acts;
-ghost use Rattle.fixp_replies.specs.Acts.{is_record};
-ghost use Rattle.jr_kept.specs.Inbox.{next_of, limits_of, faults_of, is_broken, size_of, count_of};
+ghost use Rattle.std.specs.Prelude.{◌≡◌, ◌≤◌, false, [], ◌∷◌, ◌++◌, length, IfErr, OnOk, OnErr};
+ghost use Rattle.jr_kept.specs.Inbox.{faults_of};
+ghost use Rattle.fixp_machine.specs.Fitting.{recorded_after};
 ghost use Rattle.conn_turns.specs.News.{items_of};
+ghost use Rattle.conn_turns.specs.Gathering.{lets_wait};
 ghost use Rattle.conn_turns.specs.declared.news.NewsItem.TheVariants as news_items;
-ghost use Rattle.conn_steps.specs.Settling.{payload_at, records_at, told_at, Takes, SameKind, Settled, Refused};
+ghost use Rattle.conn_steps.specs.Gathered.{payloads_in};
+ghost use Rattle.conn_steps.specs.Ends.{intake, waiting_in};
+ghost use Rattle.conn_steps.specs.Settling.{message_at, recorded_with, Takes, TakesOther, MayStand, IsFaulty, SameKind, Settled, Refused, AllStand, SomeStand};
+ghost use Rattle.conn_steps.specs.Taking.{DoneAct, Undone};
 
+use crate::gathered::Gathered;
 use conn_turns::{News, NewsItem};
 use fixp_replies::Act;
-use gw_outside::Bytes;
 use jr_dated::Journal;
 use jr_kept::Inbox;
 use jr_record::AppendFault;
 use sbe_prim::Order;
-use std::alloc::{AllocError, Global};
+use std::alloc::AllocError;
 
-/// The number of a byte order's encoding type.
-fn encoding_of(order: Order) -> u16
-    ensures { result ≡ encoding_of order }
-{
-    match order {
-        Order::Little => 0xEB50,
-        Order::Big => 0x5BE0,
-    }
-}
-
-/// The payload of an application message: its frame from the encoding type on.
-fn payload_of(alloc: Global, order: Order, message: &[u8]) -> Result<Bytes, AllocError>
-    ensures { IfOk result (λ payload. payload ≡ payload_at order message.now) }
-{
-    let mut payload = Vec::with_capacity(alloc, 2 + message.len())?;
-    payload.extend_from_slice(&encoding_of(order).to_be_bytes())?;
-    payload.extend_from_slice(message)?;
-    Ok(Bytes::from(payload))
-}
-
-/// Applies a message, and tells it.
-fn deliver<J: Journal>(
-    inbox: &mut Inbox<J>,
-    news: &mut News,
-    number: u64,
-    payload: Bytes,
-) -> Result<(), AppendFault>
-    requires next { number ≡ next_of inbox.old }
-    requires most { number ≤ (limits_of inbox.old).entries }
-    requires payload { IsApplication payload }
-    ensures ok { OnOk result (Settled inbox.old inbox.new (items_of news.old) (items_of news.new) (acts.Apply number) (apply (record { number = number; payload = payload }) ∷ []) (news_items.Delivered number payload ∷ [])) }
-    ensures refused { IfErr result (Refused inbox.old inbox.new (items_of news.old) (items_of news.new) (apply (record { number = number; payload = payload }) ∷ [])) }
-    ensures kind { SameKind inbox.old inbox.new }
-    ensures never_falls { faults_of inbox.old ≤ faults_of inbox.new }
-{
-    news.reserve()?;
-    let payload = inbox.apply(number, payload)?;
-    news.push(NewsItem::Delivered { number, payload });
-    Ok(())
-}
-
-/// Applies a held message, and tells it.
+/// Makes all that is gathered stable by one call of the inbox, and tells it; where nothing is gathered no call is made. At `Full` the
+/// first ones are stable and told, up to the one for which the inbox has no room.
 ///
 /// # Errors
 /// As those of the inbox's call, and want of memory.
-pub fn deliver_held<J: Journal>(
-    alloc: Global,
+pub(crate) fn apply_gathered<J: Journal>(
+    gathered: &mut Gathered,
     inbox: &mut Inbox<J>,
     news: &mut News,
-    number: u64,
-    payload: &[u8],
 ) -> Result<(), AppendFault>
-    requires next { number ≡ next_of inbox.old }
-    requires most { number ≤ (limits_of inbox.old).entries }
-    requires payload { IsApplication payload.now }
-    ensures ok { OnOk result (Settled inbox.old inbox.new (items_of news.old) (items_of news.new) (acts.Apply number) (apply (record { number = number; payload = payload.now }) ∷ []) (news_items.Delivered number payload.now ∷ [])) }
-    ensures refused { IfErr result (Refused inbox.old inbox.new (items_of news.old) (items_of news.new) (apply (record { number = number; payload = payload.now }) ∷ [])) }
+    requires may_stand { MayStand inbox.old (payloads_in gathered.old) }
+    ensures ok { OnOk result (AllStand inbox.old inbox.new (items_of news.old) (items_of news.new) (waiting_in (intake inbox.old (items_of news.old) (payloads_in gathered.old)))) }
+    ensures none { OnOk result (payloads_in gathered.new ≡ []) }
+    ensures refused { IfErr result (SomeStand inbox.old inbox.new (items_of news.old) (items_of news.new) (waiting_in (intake inbox.old (items_of news.old) (payloads_in gathered.old)))) }
     ensures kind { SameKind inbox.old inbox.new }
     ensures never_falls { faults_of inbox.old ≤ faults_of inbox.new }
 {
-    let payload = Bytes::from_slice(alloc, payload)?;
-    deliver(inbox, news, number, payload)
+    if gathered.is_empty() {
+        return Ok(());
+    }
+    if news.reserve(gathered.payloads().len()).is_err() {
+        return Err(AppendFault::Memory);
+    }
+    let first = inbox.next();
+    match inbox.apply_all(first, gathered.payloads()) {
+        Ok(()) => {
+            gathered.tell(news, first, inbox.next());
+            Ok(())
+        }
+        Err(AppendFault::Full { bytes }) => {
+            gathered.tell(news, first, inbox.next());
+            Err(AppendFault::Full { bytes })
+        }
+        Err(AppendFault::Broken) => Err(AppendFault::Broken),
+        Err(AppendFault::Memory) => Err(AppendFault::Memory),
+        Err(AppendFault::Fault) => Err(AppendFault::Fault),
+    }
 }
 
 /// Tells what the peer did not apply.
@@ -91,7 +64,7 @@ fn hand_on(news: &mut News, from: u64, count: u32) -> Result<(), AllocError>
     ensures ok { OnOk result (items_of news.new ≡ items_of news.old ++ news_items.NotApplied from count ∷ []) }
     ensures err { OnErr result (items_of news.new ≡ items_of news.old) }
 {
-    news.reserve()?;
+    news.reserve(1)?;
     news.push(NewsItem::NotApplied {
         from,
         count: u64::from(count),
@@ -99,31 +72,95 @@ fn hand_on(news: &mut News, from: u64, count: u32) -> Result<(), AllocError>
     Ok(())
 }
 
-/// Makes the record of an act stable, and tells what is to be told.
+/// Makes the record of an act stable that applies no message, and tells what is to be told.
 ///
 /// # Errors
 /// As those of the inbox's calls, and want of memory.
-pub fn settle<J: Journal>(
-    alloc: Global,
+fn settle_other<J: Journal>(
+    inbox: &mut Inbox<J>,
+    news: &mut News,
+    act: Act,
+) -> Result<(), AppendFault>
+    requires takes { TakesOther inbox.old 0 act }
+    ensures ok { OnOk result (Settled inbox.old inbox.new (items_of news.old) (items_of news.new) act) }
+    ensures refused { IfErr result (Refused inbox.old inbox.new (items_of news.old) (items_of news.new) act) }
+    ensures kind { SameKind inbox.old inbox.new }
+    ensures never_falls { faults_of inbox.old ≤ faults_of inbox.new }
+{
+    match act {
+        Act::Skip { from, count } => inbox.skip(from, count),
+        Act::Negotiated => inbox.negotiated(),
+        Act::PeerFinished { last } => inbox.peer_finished(last),
+        Act::Told { from, count } => {
+            if let Err(_) = hand_on(news, from, count) {
+                return Err(AppendFault::Memory);
+            }
+            Ok(())
+        }
+        Act::Nothing | Act::Apply { .. } | Act::Ended => Ok(()),
+    }
+}
+
+/// Makes what is gathered stable and tells it, and then the same of the record of an act that applies no message.
+///
+/// # Errors
+/// As those of the inbox's calls, and want of memory.
+fn settle_behind<J: Journal>(
+    gathered: &mut Gathered,
+    inbox: &mut Inbox<J>,
+    news: &mut News,
+    act: Act,
+) -> Result<(), AppendFault>
+    requires other { lets_wait act ≡ false }
+    requires takes { TakesOther inbox.old (length (payloads_in gathered.old)) act }
+    requires may_stand { MayStand inbox.old (payloads_in gathered.old) }
+    ensures ok { OnOk result (DoneAct (intake inbox.old (items_of news.old) (payloads_in gathered.old)) (intake inbox.new (items_of news.new) (payloads_in gathered.new)) act []) }
+    ensures recorded { OnOk result (recorded_with inbox.new 0 ≡ recorded_after act (recorded_with inbox.old (length (payloads_in gathered.old)))) }
+    ensures none { OnOk result (payloads_in gathered.new ≡ []) }
+    ensures refused { IfErr result (Undone (intake inbox.old (items_of news.old) (payloads_in gathered.old)) (intake inbox.new (items_of news.new) (payloads_in gathered.new)) act []) }
+    ensures faulty { IfErr result (IsFaulty inbox.old inbox.new) }
+    ensures kind { SameKind inbox.old inbox.new }
+    ensures never_falls { faults_of inbox.old ≤ faults_of inbox.new }
+{
+    if let Err(fault) = apply_gathered(gathered, inbox, news) {
+        return Err(fault);
+    }
+    settle_other(inbox, news, act)
+}
+
+/// Does an act: gathers the message that it applies; or makes its record stable, and tells what is to be told, behind all that is
+/// gathered.
+///
+/// # Errors
+/// As those of the inbox's calls, and want of memory.
+pub(crate) fn settle<J: Journal>(
+    gathered: &mut Gathered,
     inbox: &mut Inbox<J>,
     news: &mut News,
     act: Act,
     order: Order,
     message: &[u8],
 ) -> Result<(), AppendFault>
-    requires takes { Takes inbox.old act order message.now }
-    ensures ok { OnOk result (Settled inbox.old inbox.new (items_of news.old) (items_of news.new) act (records_at act order message.now) (told_at act order message.now)) }
-    ensures refused { IfErr result (Refused inbox.old inbox.new (items_of news.old) (items_of news.new) (records_at act order message.now)) }
-    ensures recorded { IfErr result (λ fault. (fault ≡ append.Memory → ⊥) → is_record act ≡ true) }
+    requires takes { Takes inbox.old (length (payloads_in gathered.old)) act order message.now }
+    requires may_stand { MayStand inbox.old (payloads_in gathered.old) }
+    ensures ok { OnOk result (DoneAct (intake inbox.old (items_of news.old) (payloads_in gathered.old)) (intake inbox.new (items_of news.new) (payloads_in gathered.new)) act (message_at act order message.now)) }
+    ensures recorded { OnOk result (recorded_with inbox.new (length (payloads_in gathered.new)) ≡ recorded_after act (recorded_with inbox.old (length (payloads_in gathered.old)))) }
+    ensures may_stand { OnOk result (MayStand inbox.new (payloads_in gathered.new)) }
+    ensures refused { IfErr result (Undone (intake inbox.old (items_of news.old) (payloads_in gathered.old)) (intake inbox.new (items_of news.new) (payloads_in gathered.new)) act (message_at act order message.now)) }
+    ensures faulty { IfErr result (IsFaulty inbox.old inbox.new) }
     ensures kind { SameKind inbox.old inbox.new }
     ensures never_falls { faults_of inbox.old ≤ faults_of inbox.new }
 {
     match act {
-        Act::Apply { number } => deliver(inbox, news, number, payload_of(alloc, order, message)?),
-        Act::Skip { from, count } => inbox.skip(from, count),
-        Act::Negotiated => inbox.negotiated(),
-        Act::PeerFinished { last } => inbox.peer_finished(last),
-        Act::Told { from, count } => Ok(hand_on(news, from, count)?),
         Act::Nothing | Act::Ended => Ok(()),
+        Act::Apply { .. } => {
+            if let Err(_) = gathered.gather(order, message) {
+                return Err(AppendFault::Memory);
+            }
+            Ok(())
+        }
+        Act::Skip { .. } | Act::Negotiated | Act::PeerFinished { .. } | Act::Told { .. } => {
+            settle_behind(gathered, inbox, news, act)
+        }
     }
 }

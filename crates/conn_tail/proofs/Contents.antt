@@ -1,7 +1,7 @@
 -- A piece of a content, and the content cut at a line.
-use Rattle.std.proofs.Common.{◌≡◌, ℕ, ◌+◌, ◌-◌, ◌<◌, ◌≤◌, min, List, [], ◌∷◌, ◌++◌, length, get_or, take, drop, refl, ap, sym, subst, ◌∙◌, arith}
+use Rattle.std.proofs.Common.{◌≡◌, ℕ, zero, suc, ◌+◌, ◌-◌, ◌<◌, ◌≤◌, min, List, [], ◌∷◌, ◌++◌, length, get_or, take, drop, refl, ap, sym, subst, ◌∙◌, arith}
 use Rattle.std.specs.List.{slice_range}
-use Rattle.std.proofs.lemmas.List.{get_or-take, get_or-drop, take_more, length-take}
+use Rattle.std.proofs.lemmas.List.{get_or-take, get_or-drop, take_more, length-take, length-drop}
 use Rattle.std.proofs.Math.Seq.{take-add}
 use Rattle.gw_outside.specs.Disk.{ReadsAt}
 use Rattle.gw_lines.specs.Lines.{IsFeedless}
@@ -25,22 +25,30 @@ reaches content piece at n place r size is within =
     numbers : (n all at place : ℕ) → n ≡ min 65536 (all - at) → at ≡ (place + 1) - 65536 → place < all → place < at + n
     numbers n all at place count is within = omega arith
 
--- a read of a piece that the content has whole
-pub reads_all : (content piece : List ℕ) (start end n : ℕ) → ReadsAt content start piece n → length piece ≡ end - start → start ≤ end → end ≤ length content → n ≡ length piece
-reads_all content piece start end n r size order within =
-    r.count ∙ numbers (length piece) (length content) start end size order within
+-- what stands in both at the same distance is the same part of both
+same_part : (xs ys : List ℕ) (a b n : ℕ) → a + n ≤ length xs → b + n ≤ length ys → ((k : ℕ) → k < n → get_or xs (a + k) 0 ≡ get_or ys (b + k) 0) → take n (drop a xs) ≡ take n (drop b ys)
+same_part xs ys a b zero most_xs most_ys same = refl
+same_part xs ys a b (suc n) most_xs most_ys same =
+    let more : suc n ≡ n + 1 = omega arith in
+    let fits_xs : n < length (drop a xs) = omega (arith, most_xs, length-drop a xs) in
+    let fits_ys : n < length (drop b ys) = omega (arith, most_ys, length-drop b ys) in
+    let last : get_or (drop a xs) n 0 ≡ get_or (drop b ys) n 0 = get_or-drop a xs n 0 ∙ same n (omega arith) ∙ sym (get_or-drop b ys n 0) in
+    ap (λ (m : ℕ). take m (drop a xs)) more ∙ take_more (drop a xs) n 0 fits_xs
+    ∙ ap (λ (bs : List ℕ). bs ++ get_or (drop a xs) n 0 ∷ []) (same_part xs ys a b n (omega (arith, most_xs)) (omega (arith, most_ys)) (λ k l. same k (omega (arith, l))))
+    ∙ ap (λ (c : ℕ). take n (drop b ys) ++ c ∷ []) last ∙ sym (take_more (drop b ys) n 0 fits_ys) ∙ ap (λ (m : ℕ). take m (drop b ys)) (sym more)
+
+-- a line that stands in the piece
+pub line_stands : (content piece : List ℕ) (at size start end : ℕ) → StandsAt content piece at size → at ≤ start → start ≤ end → end < at + size → end ≤ length content → size ≤ length piece
+    → slice_range piece (start - at) (end - at) ≡ slice_range content start end
+line_stands content piece at size start end s before order behind within most =
+    let long : end - at - (start - at) ≡ end - start = omega (arith, before, order) in
+    ap (λ (n : ℕ). take n (drop (start - at) piece)) long
+    ∙ same_part piece content (start - at) start (end - start) (omega (arith, before, order, behind, most)) (omega (arith, order, within)) each
   where
-    numbers : (piece all start end : ℕ) → piece ≡ end - start → start ≤ end → end ≤ all → min piece (all - start) ≡ piece
-    numbers piece all start end size order within = omega arith
-
-taken_all : (xs : List ℕ) → take (length xs) xs ≡ xs
-taken_all [] = refl
-taken_all (x ∷ xs) = ap (λ (ys : List ℕ). x ∷ ys) (taken_all xs)
-
-pub line_read : (content piece : List ℕ) (start end n : ℕ) → ReadsAt content start piece n → length piece ≡ end - start → length piece ≤ n → n ≤ length piece → piece ≡ slice_range content start end
-line_read content piece start end n r size least most =
-    let all : n ≡ length piece = omega arith in
-    sym (taken_all piece) ∙ ap (λ (m : ℕ). take m piece) (sym all) ∙ r.front ∙ ap (λ (m : ℕ). take m (drop start content)) (all ∙ size)
+    each : (k : ℕ) → k < end - start → get_or piece (start - at + k) 0 ≡ get_or content (start + k) 0
+    each k l =
+        let there : at + (start - at + k) ≡ start + k = omega (arith, before) in
+        s.each (start - at + k) (omega (arith, before, order, behind, l)) ∙ ap (λ (i : ℕ). get_or content i 0) there
 
 -- a content up to a line's end is the content up to its start, the line, and its line feed
 pub at_line : (content : List ℕ) (start end : ℕ) → start ≤ end → end < length content → get_or content end 0 ≡ 10 → take (end + 1) content ≡ take start content ++ slice_range content start end ++ 10 ∷ []

@@ -1,14 +1,14 @@
 -- What is known of a content, where the file tells it.
-use Rattle.std.proofs.Common.{◌≡◌, ℕ, ◌+◌, ◌-◌, ◌<◌, ◌≤◌, ◌⊎◌, min, inl, inr, List, length, drop, get_or, refl, ap, sym, subst, ◌∙◌, arith}
+use Rattle.std.proofs.Common.{◌≡◌, ℕ, ◌+◌, ◌-◌, ◌<◌, ◌≤◌, ◌⊎◌, min, inl, inr, List, length, length-append, drop, get_or, refl, ap, sym, subst, ◌∙◌, arith}
 use Rattle.std.specs.Prelude.{Option, Some, None, IfSome, IfNone}
 use Rattle.std.specs.Option.{ForSome}
 use Rattle.std.proofs.lemmas.Bool.{cases_lt}
 use Rattle.std.specs.List.{slice_range}
 use Rattle.std.proofs.lemmas.List.{length-take, length-drop}
-use Rattle.gw_outside.specs.Disk.{ReadsAt, LeavesSame}
-use Rattle.conn_tail.specs.Tails.{TellsNothing}
+use Rattle.gw_outside.specs.Disk.{ReadsAt}
+use Rattle.conn_tail.specs.Tails.{IsDeliver, TellsNothing, HasTail}
 use Rattle.conn_tail.specs.Places.{StandsAt, IsLine}
-use Rattle.conn_tail.proofs.Contents.{stands, nothing_stands, reaches, reads_all, line_read}
+use Rattle.conn_tail.proofs.Contents.{stands, nothing_stands, reaches, line_stands}
 
 -- a read that is not short
 read_told : (told : Option (List ℕ)) (content piece : List ℕ) (at n : ℕ) → told ≡ Some content → IfSome told (λ all. ReadsAt all at piece n) → ReadsAt content at piece n
@@ -27,16 +27,10 @@ never_short (Some content) piece at n place r within size is few =
     let enough = reaches content piece at n place r size is (within content refl) in
     absurd (omega (arith, enough, few))
 
-pub never_less : (told : Option (List ℕ)) (piece : List ℕ) (start end n : ℕ) → IfSome told (λ content. ReadsAt content start piece n) → ForSome told (λ content. end ≤ length content)
-    → length piece ≡ end - start → start ≤ end → n < length piece → told ≡ None
-never_less None piece start end n r within size order few = refl
-never_less (Some content) piece start end n r within size order few =
-    let all = reads_all content piece start end n r size order (within content refl) in
-    absurd (omega (arith, all, few))
-
-pub line_told : (told : Option (List ℕ)) (piece : List ℕ) (start end n : ℕ) → IfSome told (λ content. ReadsAt content start piece n) → length piece ≡ end - start → length piece ≤ n → n ≤ length piece
-    → ForSome told (λ content. piece ≡ slice_range content start end)
-line_told told piece start end n r size least most content e = line_read content piece start end n (read_told told content piece start n e r) size least most
+pub line_told : (told : Option (List ℕ)) (piece : List ℕ) (at size start end : ℕ) → ForSome told (λ content. StandsAt content piece at size) → at ≤ start → start ≤ end → end < at + size
+    → ForSome told (λ content. end < length content) → size ≤ length piece → ForSome told (λ content. slice_range piece (start - at) (end - at) ≡ slice_range content start end)
+line_told told piece at size start end s before order behind within most content e =
+    line_stands content piece at size start end (s content e) before order behind (let l = within content e in omega (arith, l)) most
 
 -- a byte of the piece is one of the content
 pub byte_told : (told : Option (List ℕ)) (piece : List ℕ) (at size place byte : ℕ) → ForSome told (λ content. StandsAt content piece at size) → at ≤ place → place < at + size
@@ -93,6 +87,12 @@ long_range content start end order within long =
     numbers : (start end all rest size : ℕ) → rest ≡ all - start → size ≡ min (end - start) rest → start ≤ end → end ≤ all → 32801 < end - start → 32801 < size
     numbers start end all rest size e f order within long = omega arith
 
--- two steps that leave the same
-pub same_left : (a b c : List ℕ → Type 0) → LeavesSame a b → LeavesSame b c → LeavesSame a c
-same_left a b c p q content = (λ n. (p content).0 ((q content).0 n), λ o. (q content).1 ((p content).1 o))
+-- the whole lines of a content are no longer than it
+pub within_tail : (content : List ℕ) (whole : ℕ) (last : Option ℕ) → HasTail content whole last → whole ≤ length content
+within_tail content whole last t = omega (arith, t.size, ap length t.bytes, length-append t.text t.rest)
+
+-- and so tells one of an applied message
+pub found_told : (o : Option ℕ) (told : Option (List ℕ)) (line lent : List ℕ) (start end : ℕ) → IfSome o (IsDeliver lent) → lent ≡ line → ForSome told (λ content. line ≡ slice_range content start end)
+    → IfSome o (λ number. ForSome told (λ content. IsDeliver (slice_range content start end) number))
+found_told None told line lent start end found same there = tt
+found_told (Some n) told line lent start end found same there = λ content e. subst (λ (bs : List ℕ). IsDeliver bs n) (same ∙ there content e) found

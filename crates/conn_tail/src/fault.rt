@@ -1,7 +1,7 @@
 //! Why the end of a file was not read.
 
 ghost use Rattle.std.specs.Prelude.{◌≡◌};
-ghost use Rattle.conn_tail.specs.declared.fault.TailFault.TheVariants.{Disk, Memory};
+ghost use Rattle.conn_tail.specs.declared.fault.TailFault.TheVariants.{Device, Memory};
 
 use gw_outside::Failed;
 use std::alloc::AllocError;
@@ -12,7 +12,7 @@ use thiserror::Error;
 pub enum TailFault {
     /// The device failed.
     #[error("the device failed")]
-    Disk,
+    Device,
     /// The file ended before its length.
     #[error("the file is shorter than its length was")]
     Short,
@@ -21,10 +21,10 @@ pub enum TailFault {
 }
 
 impl From<Failed> for TailFault {
-    ghost from_gives = { λ _ e. e ≡ Disk };
+    ghost from_gives = { λ _ e. e ≡ Device };
 
     fn from(_e: Failed) -> TailFault {
-        TailFault::Disk
+        TailFault::Device
     }
 }
 

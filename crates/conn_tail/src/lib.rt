@@ -1,5 +1,5 @@
-//! The end of a file of lines about a session: where its whole lines end, and of which applied message the last of them tells. Relies on
-//! `gw_outside` for the file, and on `conn_lines` for its lines.
+//! The end of a file of lines about a session: where its whole lines end, of which applied message the last of them tells, and the cut behind
+//! them. Relies on `gw_appended` for the file, and on `conn_lines` for its lines.
 #![tactic(auto)]
 
 mod fault;
@@ -8,4 +8,4 @@ mod piece;
 mod tail;
 
 pub use fault::TailFault;
-pub use tail::{Tail, read_tail};
+pub use tail::{Tail, cut_tail, read_tail};

@@ -1,5 +1,5 @@
 -- What a turn tells beside its answer: what was delivered, and what the peer did not apply (this project's profile).
-use Rattle.std.specs.Prelude.{◌<◌, ℕ, List, [], ◌∷◌, vec_len, vec_capacity}
+use Rattle.std.specs.Prelude.{◌+◌, ◌≤◌, ℕ, List, [], ◌∷◌, vec_len, vec_capacity}
 use Rattle.fixp_replies.specs.declared.act.Act.{Act}
 use Rattle.fixp_replies.specs.declared.act.Act.TheVariants as acts
 use Rattle.fixp_replies.specs.Incoming.{Incoming}
@@ -12,9 +12,9 @@ use Rattle.conn_turns.specs.declared.news.NewsItem.TheVariants as items
 abbrev pub items_of : News → List NewsItem
 items_of news = news.items.items
 
--- there is room for one more
-abbrev pub HasRoom : News → Type 0
-HasRoom news = vec_len news.items < vec_capacity news.items
+-- there is room for so many more
+abbrev pub HasRoom : News → ℕ → Type 0
+HasRoom news count = vec_len news.items + count ≤ vec_capacity news.items
 
 -- what an act tells once it is done: a message that is applied is delivered, and a NotApplied that was read is handed on
 abbrev pub told_by : Act → Incoming → List NewsItem

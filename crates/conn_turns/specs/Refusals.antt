@@ -1,14 +1,15 @@
 -- What an inbox refused as a turn took frames, and what stood in it before (this project's profile).
-use Rattle.std.specs.Prelude.{◌≡◌, ⊤, ℕ, true, List, [], ◌∷◌, ◌++◌, take, Some}
+use Rattle.std.specs.Prelude.{◌≡◌, ⊤, ◌⊎◌, ℕ, ◌+◌, ◌≤◌, true, List, [], ◌∷◌, ◌++◌, length, take, Option, Some, None, IfSome}
+use mathlib.Core.List.{IsPrefix}
 use Rattle.session_model.specs.Inbox.{InboxRecord, Numbered}
 use Rattle.fixp_replies.specs.Acts.{is_record}
 use Rattle.fixp_machine.specs.Machine.{run, front_of}
 use Rattle.fixp_machine.specs.Accepting.{records_of}
 use Rattle.conn_turns.specs.declared.news.NewsItem.{NewsItem}
 use Rattle.conn_turns.specs.News.{told_by}
-use Rattle.conn_turns.specs.Lines.{Line, TakenFrame, IsNext, reply_at, ready_behind, frame_calls}
-use Rattle.conn_turns.specs.Frames.{applies, delivers}
-use Rattle.conn_turns.specs.Turns.{Refusal, of_act, of_held, refused_calls}
+use Rattle.conn_turns.specs.Lines.{Line, TakenFrame, IsNext, AreTaken, lines_after, reply_at, ready_behind, frame_calls}
+use Rattle.conn_turns.specs.Frames.{applies, delivers, added}
+use Rattle.conn_turns.specs.Turns.{Refusal, of_act, of_held}
 
 -- a held message may be refused behind a frame: that is the next one, its act was told to be done where it is a record, and behind the
 -- held messages that were applied the inbox awaits this one
@@ -42,6 +43,35 @@ abbrev pub IsOfRecord : ℕ → Line → Refusal → Type 0
 IsOfRecord now l (of_act t) = is_record (reply_at now l t).act ≡ true
 IsOfRecord now l (of_held t m) = ⊤
 
--- the line as it is left: the machine was told of what came before
-abbrev pub line_refused : ℕ → Line → Refusal → Line
-line_refused now l r = record l { machine = run l.machine (refused_calls now r) }
+-- the same, where something was refused; the record that was refused; and what was told of those that stood before it
+abbrev pub stood_of : ℕ → Line → Option Refusal → List InboxRecord
+stood_of now l None = []
+stood_of now l (Some r) = stood now l r
+
+abbrev pub wanted_of : ℕ → Line → Option Refusal → List InboxRecord
+wanted_of now l None = []
+wanted_of now l (Some r) = refused now l r
+
+abbrev pub told_of : ℕ → Line → Option Refusal → List NewsItem
+told_of now l None = []
+told_of now l (Some r) = told_before now l r
+
+-- what was refused is of the first of these frames, as that was taken; of a held message it is so but for how many of those were applied
+abbrev pub IsOfFirst : Refusal → List TakenFrame → Type 0
+IsOfFirst (of_act t) [] = ⊥
+IsOfFirst (of_act t) (x ∷ later) = x ≡ t
+IsOfFirst (of_held t m) [] = ⊥
+IsOfFirst (of_held t m) (x ∷ later) = t ≡ record x { helds = t.helds }
+
+-- What a failed call of the inbox's disk tried to make stable, behind what these frames added and what stood before what was refused, with which it
+-- begins. Further frames had been taken, that of the refusal first, 16 in all at most: they add what was tried, and then what was not. What was
+-- tried at once are messages that the end applies, or it is that one record
+pub record IsTried (now : ℕ) (l : Line) (frames : List TakenFrame) (r : Option Refusal) (tried : List InboxRecord) : Type 0 where
+  pub later : List TakenFrame
+  pub few : length frames + length later ≤ 16
+  pub taken : AreTaken now l (frames ++ later)
+  pub next : IfSome r (λ x. IsOfFirst x later)
+  pub untried : List InboxRecord
+  pub adds : added now l (frames ++ later) ≡ (added now l frames ++ stood_of now (lines_after now l frames) r) ++ (tried ++ untried)
+  pub first : IsPrefix (wanted_of now (lines_after now l frames) r) (tried ++ untried)
+  pub alike : (tried ≡ wanted_of now (lines_after now l frames) r) ⊎ ((ms : List Numbered) × (tried ≡ applies ms))

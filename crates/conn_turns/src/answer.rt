@@ -4,7 +4,7 @@ use fixp_replies::Ending;
 use thiserror::Error;
 
 /// How a turn ended that did not fail.
-#[derive(Clone, Copy, Debug, PartialEq, Eq)]
+#[derive(Clone, Copy)]
 pub enum TurnEnd {
     /// The connection goes on.
     Go,
@@ -13,7 +13,7 @@ pub enum TurnEnd {
 }
 
 /// Why a turn failed. After `Link` the next connection may begin; after any other the connection is given up for good.
-#[derive(Clone, Copy, Debug, PartialEq, Eq, Error)]
+#[derive(Clone, Copy, Debug, Error)]
 pub enum TurnFault {
     /// The link failed before both finishes were exchanged.
     #[error("the link failed")]

@@ -1,6 +1,6 @@
 //! What a turn tells beside its answer.
 
-ghost use Rattle.std.specs.Prelude.{◌≡◌, [], ◌∷◌, ◌++◌, IfOk, OnOk, OnErr};
+ghost use Rattle.std.specs.Prelude.{◌≡◌, ℕ, ◌+◌, [], ◌∷◌, ◌++◌, IfOk, OnOk, OnErr};
 
 use gw_outside::{Bytes, Payloads};
 use lists::List;
@@ -8,7 +8,7 @@ use std::alloc::{AllocError, Global};
 use std::mem;
 
 /// One piece of news.
-#[derive(Debug, Drop)]
+#[derive(Drop)]
 pub enum NewsItem {
     /// The peer's message of this number was applied: it stands in the inbox.
     Delivered { number: u64, payload: Bytes },
@@ -17,7 +17,7 @@ pub enum NewsItem {
 }
 
 /// What a turn delivered and was told, in order.
-#[derive(Debug, Drop)]
+#[derive(Drop)]
 pub struct News {
     items: Vec<NewsItem>,
 }
@@ -48,21 +48,22 @@ impl News {
         self.items.clear();
     }
 
-    /// Makes room for one more item.
+    /// Makes room for so many more items.
     ///
     /// # Errors
     /// Want of memory.
-    pub fn reserve(&mut self) -> Result<(), AllocError>
+    pub fn reserve(&mut self, count: usize) -> Result<(), AllocError>
         ensures same { items_of self.new ≡ items_of self.old }
-        ensures room { OnOk result (HasRoom self.new) }
+        ensures room { OnOk result (HasRoom self.new count) }
     {
-        self.items.reserve(1)
+        self.items.reserve(count)
     }
 
-    /// Adds an item at the end, for which there is room.
+    /// Adds an item at the end, for which there is room; there is room for one less then.
     pub fn push(&mut self, item: NewsItem)
-        requires { HasRoom self.old }
-        ensures { items_of self.new ≡ items_of self.old ++ item ∷ [] }
+        requires { HasRoom self.old 1 }
+        ensures items { items_of self.new ≡ items_of self.old ++ item ∷ [] }
+        ensures room { (count : ℕ) → HasRoom self.old (count + 1) → HasRoom self.new count }
     {
         match self.items.push(item) {
             Ok(()) => {}

@@ -6,6 +6,7 @@ pub mod Going
 pub mod Continuing
 pub mod Lived
 pub mod Living
+pub mod Tailing
 pub mod Sampled
 pub mod Spelled
 pub mod LegalReplied

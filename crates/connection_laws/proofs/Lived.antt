@@ -33,7 +33,7 @@ use Rattle.connection_laws.proofs.Continuing.{calls_go_on}
 use Rattle.connection_laws.proofs.Going.{begins_behind, grown_held, waiting_grows, calls_keep, connection_begins}
 
 -- the events of the first frames are the first events
-first_written : (whole output : List Piece) → IsPrefix whole output → IsPrefix (events_written whole) (events_written output)
+pub first_written : (whole output : List Piece) → IsPrefix whole output → IsPrefix (events_written whole) (events_written output)
 first_written whole output p = (events_written p.0, sym (flat_map-append _ whole p.0) ∙ ap (λ ps. events_written ps) p.1)
 
 first_told : (whole output : List Piece) → IsPrefix whole output → IsPrefix (ranges_told whole) (ranges_told output)
@@ -47,7 +47,7 @@ none_first : (first second : List (List ℕ)) → first ++ second ≡ [] → fir
 none_first [] second e = refl
 none_first (p ∷ first) second e = absurd cc
 
-first_handshakes : (first second : List Event) → IsPrefix first second → HandshakeFirst second → HandshakeFirst first
+pub first_handshakes : (first second : List Event) → IsPrefix first second → HandshakeFirst second → HandshakeFirst first
 first_handshakes first second p s = ((handshake_splits first p.0).0 (subst HandshakeFirst (sym p.1) s)).0
 
 first_messages : (first second : List Event) → IsPrefix first second → IsPrefix (messages first) (messages second)
@@ -66,7 +66,7 @@ first_rising own h before f written first o p u =
 first_none : (own : Flow) (h : List Entry) (before : ℕ) (f : Facts) (written first : List Event) → OwnFlow own h before f written → IsPrefix first written → is_absent own ≡ true → messages first ≡ []
 first_none own h before f written first o p t = let q = first_messages first written p in none_first (messages first) q.0 (q.1 ∙ o.absent t)
 
-writes_one : (own : Flow) (opened h : List Entry) (before : ℕ) (f : Facts) (written first : List Event) → OwnFlow own h before f written → IsPrefix first written → (own ≡ flows.Unsequenced → length opened ≤ before)
+pub writes_one : (own : Flow) (opened h : List Entry) (before : ℕ) (f : Facts) (written first : List Event) → OwnFlow own h before f written → IsPrefix first written → (own ≡ flows.Unsequenced → length opened ≤ before)
     → Writes (model_flow own) opened h (first ∷ [])
 writes_one flows.Recoverable opened h before f written first o p low = (first_true flows.Recoverable h before f written first o p refl, tt)
 writes_one flows.Idempotent opened h before f written first o p low = (first_true flows.Idempotent h before f written first o p refl, tt)
@@ -77,17 +77,17 @@ writes_one flows.Unsequenced opened h before f written first o p low =
 writes_one flows.None opened h before f written first o p low = append-nil (messages first) ∙ first_none flows.None h before f written first o p refl
 
 -- the ranges reported are the first of those skipped
-reports_first : (h : List Entry) (c : Course) (whole : List Piece) (drained : Bool) → Stands h c → WasTaken c whole drained → ReportsSkips (connection_of c whole drained)
+pub reports_first : (h : List Entry) (c : Course) (whole : List Piece) (drained : Bool) → Stands h c → WasTaken c whole drained → ReportsSkips (connection_of c whole drained)
 reports_first h c whole drained st t = record {
   in_order = subst (λ rs. IsPrefix (ranges_told whole) rs) st.tells (first_told whole c.output t.first);
   all = λ d. ap (λ ps. ranges_told ps) (t.all d) ∙ st.tells;
 }
 
 -- growth over one connection
-one_grown : (flow : model.Flow) (es : List Event) (before after : List InboxRecord) → Grown flow None es before after → GrownThrough flow (es ∷ []) before after
+pub one_grown : (flow : model.Flow) (es : List Event) (before after : List InboxRecord) → Grown flow None es before after → GrownThrough flow (es ∷ []) before after
 one_grown flow es before after g = (after, g, refl)
 
-grown_to : (flow : model.Flow) (es front : List Event) (k n : ℕ) (before after : List InboxRecord) → take k es ≡ front → n ≤ k → Grown flow None front before after
+pub grown_to : (flow : model.Flow) (es front : List Event) (k n : ℕ) (before after : List InboxRecord) → take k es ≡ front → n ≤ k → Grown flow None front before after
     → (j : ℕ) × GrownThrough flow (first_events j (es ∷ [])) before after × (n ≤ j)
 grown_to flow es front k n before after e low g = (k, one_grown flow (take k es) before after (subst (λ fs. Grown flow None fs before after) (sym e) g), low)
 

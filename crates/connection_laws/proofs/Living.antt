@@ -11,15 +11,16 @@ use Rattle.session_model.proofs.Images.{image_of_none}
 use Rattle.session_model.proofs.Kept.{serving_goes_on}
 use Rattle.session_model.proofs.Lists.{prefix_self}
 use Rattle.fixp_shake.specs.declared.config.EndConfig.{EndConfig}
-use Rattle.fixp_machine.specs.Machine.{State}
+use Rattle.fixp_machine.specs.Machine.{State, Call}
 use Rattle.fixp_machine.specs.Accepting.{model_flow}
 use Rattle.connection_laws.specs.Writing.{events_written}
-use Rattle.connection_laws.specs.Courses.{Course, inbox_of, beginning, Continues}
+use Rattle.connection_laws.specs.Courses.{Course, inbox_of, beginning, course_after, Continues}
 use Rattle.connection_laws.specs.Standing.{Stands}
-use Rattle.connection_laws.specs.Connections.{served_by, refused_by, refused_held, sent_part}
-use Rattle.connection_laws.specs.Living.{Leg, course_of, MayRun, AllMayRun, state_behind, inbox_behind, life_on, Opens, LifeServes, LifeRefused, LifeRefusedHeld}
+use Rattle.connection_laws.specs.Connections.{served_by, refused_by, refused_held, refused_tail, sent_part}
+use Rattle.connection_laws.specs.Living.{Leg, course_of, MayRun, AllMayRun, state_behind, inbox_behind, life_on, Opens, LifeServes, LifeRefused, LifeRefusedHeld, LifeRefusedTail}
 use Rattle.connection_laws.proofs.Continuing.{calls_go_on}
 use Rattle.connection_laws.proofs.Going.{calls_keep, connection_begins}
+use Rattle.connection_laws.proofs.Tailing.{tail_kept}
 use Rattle.connection_laws.proofs.Lived.{connection_kept, refused_kept, refused_held_kept, writing_goes_on, part_is_written}
 
 -- one connection that ran
@@ -182,6 +183,28 @@ life_refused_held opened h s inbox legs last m o all may front =
     (refused_held_kept opened h d m last.whole last.drained r.stands front (λ u. subst (λ n. length opened ≤ n) (sym r.sent_before) (b.opens.before (ap (λ cfg. cfg.own_flow) (sym r.config) ∙ u))) may.taken))
     (part_is_written own opened h d.state.facts.recorded.sent (written_of (first.connections ++ (refused_held d m last.whole last.drained).connections))
     (subst (λ es. Writes own opened (sent_part own d.state.facts.recorded.sent h) es) (sym (map-append (λ (c : Connection). c.written) first.connections (refused_held d m last.whole last.drained).connections))
+    (subst (λ (cfg : EndConfig). Writes (model_flow cfg.own_flow) opened (sent_part (model_flow cfg.own_flow) d.state.facts.recorded.sent h) (written_of first.connections ++ events_written last.whole ∷ [])) b.config
+    (writes_behind opened h t box last (written_of first.connections) b.opens may
+    (subst (λ (cfg : EndConfig). Writes (model_flow cfg.own_flow) opened (sent_part (model_flow cfg.own_flow) t.facts.recorded.sent h) (written_of first.connections)) (sym b.config)
+    (all_write opened h s inbox legs [] o all (nothing_written own opened (sent_part own s.facts.recorded.sent h))))))))
+
+pub life_refused_tail : LifeRefusedTail
+life_refused_tail opened h s inbox legs last calls tried o all may adds =
+    let b = behind opened h s inbox legs o all in
+    let t : State = state_behind s inbox legs in
+    let box : List InboxRecord = inbox_behind s inbox legs in
+    let r = ran opened h t box last b.opens may in
+    let d : Course = course_of t box last in
+    let e : Course = course_after d calls in
+    let own : model.Flow = model_flow s.config.own_flow in
+    let same : d.state.config ≡ s.config = r.config ∙ b.config in
+    let first : Served = life_on s inbox legs in
+    serving_goes_on own (model_flow s.config.peer_flow) opened h first (refused_tail d e tried last.whole last.drained) (none_refused s inbox legs)
+    (r.start ∙ sym (closing_on s inbox legs)) (life_serves opened h s inbox legs o all)
+    (subst (λ (cfg : EndConfig). KeepsConnections (model_flow cfg.own_flow) (model_flow cfg.peer_flow) opened h (refused_tail d e tried last.whole last.drained)) same
+    (tail_kept opened h d calls tried last.whole last.drained r.stands adds (λ u. subst (λ n. length opened ≤ n) (sym r.sent_before) (b.opens.before (ap (λ cfg. cfg.own_flow) (sym r.config) ∙ u))) may.taken))
+    (part_is_written own opened h d.state.facts.recorded.sent (written_of (first.connections ++ (refused_tail d e tried last.whole last.drained).connections))
+    (subst (λ es. Writes own opened (sent_part own d.state.facts.recorded.sent h) es) (sym (map-append (λ (c : Connection). c.written) first.connections (refused_tail d e tried last.whole last.drained).connections))
     (subst (λ (cfg : EndConfig). Writes (model_flow cfg.own_flow) opened (sent_part (model_flow cfg.own_flow) d.state.facts.recorded.sent h) (written_of first.connections ++ events_written last.whole ∷ [])) b.config
     (writes_behind opened h t box last (written_of first.connections) b.opens may
     (subst (λ (cfg : EndConfig). Writes (model_flow cfg.own_flow) opened (sent_part (model_flow cfg.own_flow) t.facts.recorded.sent h) (written_of first.connections)) (sym b.config)

@@ -53,6 +53,23 @@ refused_by c w whole drained = record {
 abbrev pub refused_held : Course → Numbered → List Piece → Bool → Served
 refused_held c m whole drained = record (served_by c whole drained) { refused_inbox = InboxRecord.apply m ∷ [] }
 
+-- Behind a connection these calls may come, each where it comes, and what they add are these records, and no more
+pub record AddsBehind (h : List Entry) (c : Course) (calls : List Call) (records : List InboxRecord) : Type 0 where
+  pub may : AllMayStand h c calls
+  pub added : (course_after c calls).added ≡ c.added ++ records
+  pub none : records ≡ [] → calls ≡ []
+
+-- A life that served it, until the call of the disk failed that was to make these records stable, all together: the end had heard the
+-- frames of them, as far as `behind`. Those heard before are processed for sure
+abbrev pub refused_tail : (c behind : Course) → (tried : List InboxRecord) → List Piece → Bool → Served
+refused_tail c behind tried whole drained = record {
+  opening_inbox = c.start;
+  closing_inbox = inbox_of c;
+  refused_inbox = tried;
+  processed = length c.accepted;
+  connections = record (connection_of c whole drained) { accepted = behind.accepted } ∷ [];
+}
+
 -- the life opened on no more entries than were sent when the connection began, which counts on a flow without numbers
 abbrev pub OpenedBefore : Course → List Entry → Type 0
 OpenedBefore c opened = c.state.config.own_flow ≡ flows.Unsequenced → length opened ≤ c.sent_before
@@ -72,6 +89,13 @@ abbrev pub RefusedHeldKept : Type 0
 RefusedHeldKept = (opened h : List Entry) (c : Course) (m : Numbered) (whole : List Piece) (drained : Bool)
     → Stands h c → front_of c.state ≡ Some m → OpenedBefore c opened → WasTaken c whole drained
     → KeepsConnections (model_flow c.state.config.own_flow) (model_flow c.state.config.peer_flow) opened h (refused_held c m whole drained)
+
+-- a connection that stands is one that a life may have served until such a call failed, whatever calls were to come
+abbrev pub TailKept : Type 0
+TailKept = (opened h : List Entry) (c : Course) (calls : List Call) (tried : List InboxRecord) (whole : List Piece) (drained : Bool)
+    → Stands h c → AddsBehind h c calls tried → OpenedBefore c opened → WasTaken c whole drained
+    → KeepsConnections (model_flow c.state.config.own_flow) (model_flow c.state.config.peer_flow) opened h
+    (refused_tail c (course_after c calls) tried whole drained)
 
 -- So whatever calls come on a connection from its beginning on, where each may come, it is one that a life may have served
 abbrev pub ConnectionServes : Type 0

@@ -9,7 +9,7 @@ use Rattle.fixp_machine.specs.Accepting.{model_flow}
 use Rattle.connection_laws.specs.Writing.{Piece}
 use Rattle.connection_laws.specs.Courses.{Waiting, Course, inbox_of, beginning, course_after}
 use Rattle.connection_laws.specs.Standing.{AllMayStand}
-use Rattle.connection_laws.specs.Connections.{WasTaken, served_by, refused_by, refused_held}
+use Rattle.connection_laws.specs.Connections.{WasTaken, AddsBehind, served_by, refused_by, refused_held, refused_tail}
 
 -- one connection of a life: the moment of its beginning, the calls that came on it, the frames that the link took whole, and
 -- whether all of its output was taken and it had not ended
@@ -75,3 +75,13 @@ LifeRefusedHeld = (opened h : List Entry) (s : State) (inbox : List InboxRecord)
     → front_of (course_of (state_behind s inbox legs) (inbox_behind s inbox legs) last).state ≡ Some m
     → KeepsConnections (model_flow s.config.own_flow) (model_flow s.config.peer_flow) opened h
     (served_on (life_on s inbox legs) (refused_held (course_of (state_behind s inbox legs) (inbox_behind s inbox legs) last) m last.whole last.drained))
+
+-- and so where on a last one the call failed that was to make records stable which further calls add
+abbrev pub LifeRefusedTail : Type 0
+LifeRefusedTail = (opened h : List Entry) (s : State) (inbox : List InboxRecord) (legs : List Leg) (last : Leg) (calls : List Call) (tried : List InboxRecord)
+    → Opens opened h s inbox → AllMayRun h s inbox legs → MayRun h (state_behind s inbox legs) (inbox_behind s inbox legs) last
+    → AddsBehind h (course_of (state_behind s inbox legs) (inbox_behind s inbox legs) last) calls tried
+    → KeepsConnections (model_flow s.config.own_flow) (model_flow s.config.peer_flow) opened h
+    (served_on (life_on s inbox legs)
+    (refused_tail (course_of (state_behind s inbox legs) (inbox_behind s inbox legs) last)
+    (course_after (course_of (state_behind s inbox legs) (inbox_behind s inbox legs) last) calls) tried last.whole last.drained))

@@ -1,7 +1,7 @@
 //! Connections that stand, in the words of the session model.
 
-ghost use Rattle.connection_laws.specs.Connections.{ConnectionKept, RefusedKept, RefusedHeldKept, ConnectionServes, WritingGoesOn, PartIsWritten};
-ghost use Rattle.connection_laws.specs.Living.{LifeServes, LifeRefused, LifeRefusedHeld};
+ghost use Rattle.connection_laws.specs.Connections.{ConnectionKept, RefusedKept, RefusedHeldKept, TailKept, ConnectionServes, WritingGoesOn, PartIsWritten};
+ghost use Rattle.connection_laws.specs.Living.{LifeServes, LifeRefused, LifeRefusedHeld, LifeRefusedTail};
 
 /// A connection that stands is one that a life may have served, whatever of its frames the link took.
 pub fn connection_kept()
@@ -17,6 +17,12 @@ pub fn refused_kept()
 /// So is one at which the append of the record of a held message failed: all frames were processed.
 pub fn refused_held_kept()
     ensures law { RefusedHeldKept }
+{}
+
+/// So is one at which a call of the disk failed that was to make several records stable: what the end had heard of them is accepted,
+/// and what it had heard before is processed for sure.
+pub fn tail_kept()
+    ensures law { TailKept }
 {}
 
 /// Whatever calls come on a connection from its beginning on, where each may come, a life may have served it.
@@ -47,4 +53,9 @@ pub fn life_refused()
 /// And so does one on whose last connection the append of the record of a held message failed.
 pub fn life_refused_held()
     ensures law { LifeRefusedHeld }
+{}
+
+/// And so does one on whose last connection a call of the disk failed that was to make several records stable.
+pub fn life_refused_tail()
+    ensures law { LifeRefusedTail }
 {}

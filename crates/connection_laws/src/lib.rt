@@ -11,8 +11,8 @@ mod standing;
 mod writing;
 
 pub use connections::{
-    connection_kept, connection_serves, life_refused, life_refused_held, life_serves,
-    part_is_written, refused_held_kept, refused_kept, writing_goes_on,
+    connection_kept, connection_serves, life_refused, life_refused_held, life_refused_tail,
+    life_serves, part_is_written, refused_held_kept, refused_kept, tail_kept, writing_goes_on,
 };
 pub use replying::{frame_hears, frame_writes, pieces_are_frames};
 pub use samples::course_sample;

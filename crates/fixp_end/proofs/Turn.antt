@@ -71,7 +71,7 @@ written_behind first second start mid more a b =
     ∙ (append_assoc start (bytes_of first) (bytes_of second)
     ∙ ap (λ (bytes : List ℕ). start ++ bytes) (sym (flat_map-append frame_bytes first second))))
 
-sent_twice : (before : ℕ) (a b : List ℕ) (now : ℕ) → sent_at (sent_at before a now) b now ≡ sent_at before (a ++ b) now
+pub sent_twice : (before : ℕ) (a b : List ℕ) (now : ℕ) → sent_at (sent_at before a now) b now ≡ sent_at before (a ++ b) now
 sent_twice before [] b now = refl
 sent_twice before (_ ∷ a) [] now = refl
 sent_twice before (_ ∷ a) (_ ∷ b) now = refl

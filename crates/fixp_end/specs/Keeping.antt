@@ -1,7 +1,6 @@
 -- What an end keeps to between its calls.
-use Rattle.std.specs.Prelude.{◌≡◌, ⊤, ℕ, ◌+◌, ◌≤◌, true, List, [], Option, Some, None, IfSome, IsSome, is_some}
+use Rattle.std.specs.Prelude.{◌≡◌, ⊤, ℕ, ◌+◌, ◌≤◌, true, if◌then◌else◌, List, [], Option, Some, None, IfSome, IsSome, is_some}
 use Rattle.std.specs.List.{AllByRecursion}
-use Rattle.std.specs.Option.{option_map}
 use Rattle.session_model.specs.Inbox.{Numbered}
 use Rattle.fixp_msgs.specs.Payload.{IsApplication}
 use Rattle.flow_window.specs.Window.{Holding, front}
@@ -20,7 +19,7 @@ announcing (Some outcome) = 1
 
 -- the outcome that is pending: a reply, and the facts from it on
 abbrev pub pending_in : Inside → Option Outcome
-pending_in e = option_map (λ reply. outcome_of e.config reply e.next) e.pending
+pending_in e = if e.pending then Some (outcome_of e.config e.reply e.next) else None
 
 -- what is held, where there is a window
 abbrev pub held_in : Option Holding → List Numbered

@@ -46,8 +46,11 @@ pub struct End {
     facts: Facts,
     ending: Option<Ending>,
     output: Output,
-    pending: Option<Reply>,
-    /// The facts from the pending reply on.
+    /// The last reply to a frame is pending.
+    pending: bool,
+    /// The last reply to a frame. It stays in its place, since it is large.
+    reply: Reply,
+    /// The facts from this reply on.
     next: Facts,
     room: u8,
     start: u64,
@@ -59,15 +62,13 @@ pub struct End {
 }
 
 impl Model for End {
-    ghost use Rattle.std.specs.Prelude.{◌≤◌, IfSome};
-    ghost use Rattle.std.specs.Option.{option_map};
-    ghost use Rattle.fixp_replies.specs.Outgoing.{outcome_of};
+    ghost use Rattle.std.specs.Prelude.{◌≡◌, ◌≤◌, true};
     ghost use Rattle.fixp_machine.specs.Machine.{State};
     ghost use Rattle.fixp_replies.specs.Outgoing.{reply_limit, written_limit};
 
     ghost Value = { State };
 
-    ghost use Rattle.fixp_end.specs.Keeping.{Keeps, held_in};
+    ghost use Rattle.fixp_end.specs.Keeping.{Keeps, held_in, pending_in};
 
     ghost view = { λ e. record {
       config = e.config;
@@ -77,7 +78,7 @@ impl Model for End {
       facts = e.facts;
       ending = e.ending;
       unsent = e.output;
-      pending = option_map (λ reply. outcome_of e.config reply e.next) e.pending;
+      pending = pending_in e;
       room = e.room;
       start = e.start;
       last_sent = e.last_sent;
@@ -86,7 +87,7 @@ impl Model for End {
       held = held_in e.window;
     } };
 
-    ghost invariant = { λ e. Keeps e × IfSome e.pending (λ reply. written_limit e.config reply.written ≤ reply_limit e.config) };
+    ghost invariant = { λ e. Keeps e × (e.pending ≡ true → written_limit e.config e.reply.written ≤ reply_limit e.config) };
 }
 
 impl End {
@@ -141,7 +142,8 @@ impl End {
             facts,
             ending: None,
             output,
-            pending: None,
+            pending: false,
+            reply: Reply::ignores(&next),
             next,
             room: 0,
             start: 0,
@@ -173,7 +175,7 @@ impl End {
         self.moment = now;
         self.ending = None;
         self.output.clear();
-        self.pending = None;
+        self.pending = false;
         self.start = now;
         self.last_sent = now;
         self.last_received = now;
@@ -183,7 +185,7 @@ impl End {
             &self.config,
             &mut self.output,
             &mut self.last_sent,
-            opening,
+            &opening,
             now,
         );
     }
@@ -235,25 +237,24 @@ impl End {
             held: least(&self.window),
         };
         self.next = self.facts;
-        let reply = reply_to_frame(&around, &mut self.next, &classify(order, message));
+        self.reply = reply_to_frame(&around, &mut self.next, &classify(order, message));
         self.moment = now;
         self.last_received = now;
         self.room -= 1;
-        let act = reply.act;
+        self.pending = true;
+        let act = self.reply.act;
         if act.is_record() {
-            self.pending = Some(reply);
-        } else {
-            let next = self.next;
-            let holds = reply.holds;
-            self.apply_reply(reply, next);
-            hold_message(
-                &mut self.window,
-                holds,
-                order,
-                message,
-                self.facts.recorded.inbox_next,
-            );
+            return act;
         }
+        let holds = self.reply.holds;
+        self.did(now);
+        hold_message(
+            &mut self.window,
+            holds,
+            order,
+            message,
+            self.facts.recorded.inbox_next,
+        );
         act
     }
 
@@ -289,7 +290,8 @@ impl End {
         ensures small { length self.new.unsent ≤ length self.old.unsent + reply_limit self.old.config }
     {
         self.moment = now;
-        if let Some(reply) = &self.pending {
+        if self.pending {
+            let reply = &self.reply;
             take_act(
                 &mut self.applied,
                 &self.config,
@@ -316,7 +318,7 @@ impl End {
             self.facts = self.next;
             self.ending = reply.ending;
         }
-        self.pending = None;
+        self.pending = false;
     }
 
     /// The clock ticked: a heartbeat that is due is written, if no output is unsent, and then a connection ends whose handshake
@@ -416,7 +418,7 @@ impl End {
             &self.config,
             &mut self.output,
             &mut self.last_sent,
-            finish,
+            &finish,
             now,
         );
     }
@@ -431,7 +433,7 @@ impl End {
         if self.ending.is_none() {
             let ending = link_ending(&self.around(0, self.moment), &self.facts);
             self.ending = Some(ending);
-            self.pending = None;
+            self.pending = false;
             let_go(&mut self.window, self.facts.recorded.inbox_next);
         }
     }
@@ -625,7 +627,7 @@ impl End {
         );
         self.facts = next;
         self.ending = reply.ending;
-        self.pending = None;
+        self.pending = false;
     }
 
     /// Writes the heartbeat that is due at the last moment, if one is.
@@ -651,7 +653,7 @@ impl End {
             &self.config,
             &mut self.output,
             &mut self.last_sent,
-            due,
+            &due,
             moment,
         );
     }
@@ -698,7 +700,7 @@ impl End {
                 &self.config,
                 &mut self.output,
                 &mut self.last_sent,
-                Some(Outgoing::Sequence { next }),
+                &Some(Outgoing::Sequence { next }),
                 moment,
             );
         }

@@ -89,5 +89,5 @@ pub fn write_turn(
 {
     write_runs(around.config, output, last_sent, applied, around.moment);
     let closing = finish_turn(around, facts);
-    write_place(around.config, output, last_sent, closing, around.moment);
+    write_place(around.config, output, last_sent, &closing, around.moment);
 }

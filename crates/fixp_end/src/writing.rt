@@ -79,44 +79,21 @@ pub fn write_place(
     config: &EndConfig,
     output: &mut Output,
     last_sent: &mut u64,
-    place: Option<Outgoing>,
+    place: &Option<Outgoing>,
     now: u64,
 )
     requires credentials { length config.now.credentials ≤ 2048 }
-    requires writes { AllByRecursion (MayWrite config.now) (messages_of config.now (place ∷ [])) }
-    requires room { length output.old + place_limit config.now place ≤ 5242880 }
-    ensures bytes { output.new ≡ output.old ++ bytes_of (messages_of config.now (place ∷ [])) }
-    ensures sent { last_sent.new ≡ sent_at last_sent.old (bytes_of (messages_of config.now (place ∷ []))) now }
+    requires writes { AllByRecursion (MayWrite config.now) (messages_of config.now (place.now ∷ [])) }
+    requires room { length output.old + place_limit config.now place.now ≤ 5242880 }
+    ensures bytes { output.new ≡ output.old ++ bytes_of (messages_of config.now (place.now ∷ [])) }
+    ensures sent { last_sent.new ≡ sent_at last_sent.old (bytes_of (messages_of config.now (place.now ∷ []))) now }
     ensures within { last_sent.old ≤ now → last_sent.new ≤ now }
-    ensures short { length output.new ≤ length output.old + place_limit config.now place }
+    ensures short { length output.new ≤ length output.old + place_limit config.now place.now }
 {
     if let Some(message) = place {
-        write_message(config, output, message);
+        write_message(config, output, *message);
         *last_sent = now;
     }
-}
-
-/// Writes the messages of three places, in order, at the moment `now`, and keeps the moment of the last frame written.
-fn write_places(
-    config: &EndConfig,
-    output: &mut Output,
-    last_sent: &mut u64,
-    first: Option<Outgoing>,
-    second: Option<Outgoing>,
-    third: Option<Outgoing>,
-    now: u64,
-)
-    requires credentials { length config.now.credentials ≤ 2048 }
-    requires writes { AllByRecursion (MayWrite config.now) (messages_of config.now (first ∷ second ∷ third ∷ [])) }
-    requires room { length output.old + written_limit config.now (first ∷ second ∷ third ∷ []) ≤ 5242880 }
-    ensures bytes { output.new ≡ output.old ++ bytes_of (messages_of config.now (first ∷ second ∷ third ∷ [])) }
-    ensures sent { last_sent.new ≡ sent_at last_sent.old (bytes_of (messages_of config.now (first ∷ second ∷ third ∷ []))) now }
-    ensures within { last_sent.old ≤ now → last_sent.new ≤ now }
-    ensures short { length output.new ≤ length output.old + written_limit config.now (first ∷ second ∷ third ∷ []) }
-{
-    write_place(config, output, last_sent, first, now);
-    write_place(config, output, last_sent, second, now);
-    write_place(config, output, last_sent, third, now);
 }
 
 /// Writes the messages of a reply, in order, at the moment `now`, and keeps the moment of the last frame written.
@@ -135,6 +112,8 @@ pub fn write_reply(
     ensures within { last_sent.old ≤ now → last_sent.new ≤ now }
     ensures short { length output.new ≤ length output.old + written_limit config.now written.now }
 {
-    let [first, second, third] = *written;
-    write_places(config, output, last_sent, first, second, third, now);
+    let [first, second, third] = written;
+    write_place(config, output, last_sent, first, now);
+    write_place(config, output, last_sent, second, now);
+    write_place(config, output, last_sent, third, now);
 }

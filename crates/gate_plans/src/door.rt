@@ -21,6 +21,9 @@ pub trait Door {
         false
     }
 
+    /// Called where a piece was accepted: its messages are stable.
+    fn accepted(&self) {}
+
     /// Called behind a submit that was refused.
     fn refused<R: Wait>(&self, fault: SubmitFault, rt: &R);
 }

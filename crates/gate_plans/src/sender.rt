@@ -96,8 +96,8 @@ impl<J: Journal> Sender<J> {
         }
     }
 
-    /// Submits so many messages of the plan in one piece, from the next one on, and says whether all were accepted. Where not, the door
-    /// is told.
+    /// Submits so many messages of the plan in one piece, from the next one on, and says whether all were accepted. The door is told
+    /// of either.
     fn submit_piece<D: Door, R: Wait>(
         &mut self,
         count: u64,
@@ -120,7 +120,10 @@ impl<J: Journal> Sender<J> {
         self.done += submission.count;
         self.refused = submission.refused;
         match submission.refused {
-            None => true,
+            None => {
+                door.accepted();
+                true
+            }
             Some(fault) => {
                 door.refused(fault, rt);
                 false

@@ -12,7 +12,7 @@ ghost use Rattle.gw_link_fakes.specs.Tapes.{IsUnused, carried_of};
 use crate::tally::Tally;
 use crate::tape::MemTape;
 use gw_fakes::Calls;
-use gw_links::{Dialer, Next};
+use gw_links::{Dialer, Next, NoWaker};
 use gw_outside::Failed;
 use std::alloc::Global;
 use std::collections::VecDeque;
@@ -79,6 +79,8 @@ impl MemDialer {
 impl Dialer for MemDialer {
     type Link = MemTape;
 
+    type Waker = NoWaker;
+
     ghost told = { λ d. Some (told_of_dialer d) };
 
     ghost lent = { λ d. d.is_lent };
@@ -110,6 +112,10 @@ impl Dialer for MemDialer {
         self.left -= 1;
         self.is_lent = true;
         Ok(Next::Link(link))
+    }
+
+    fn waker(&self) -> NoWaker {
+        NoWaker
     }
 
     fn back(&mut self, link: MemTape)

@@ -21,10 +21,28 @@ pub enum Next<L> {
     Stopped,
 }
 
+/// What ends a wait of the link that a dialer has lent, from another thread. No clause speaks of it: how long a link waits is free.
+pub trait Wake {
+    /// The wait that is under way, or else the next one, ends at once. It does not block, and a wake that fails is none: the wait then
+    /// ends as it would have without it.
+    fn wake(&self);
+}
+
+/// What wakes nothing: of links that do not wait.
+#[derive(Clone, Copy, Debug, Drop)]
+pub struct NoWaker;
+
+impl Wake for NoWaker {
+    fn wake(&self) {}
+}
+
 /// Connections, of which at most one is lent at a time.
 pub trait Dialer {
     /// What carries the bytes of a connection.
     type Link: Link;
+
+    /// What wakes its links.
+    type Waker: Wake + Sync + Drop;
 
     /// How many connections are left, and what each link that came back had carried, or `None` where it does not tell them.
     ghost told: { Self → Option DialerTold };
@@ -50,6 +68,9 @@ pub trait Dialer {
         ensures lent { IfOk result (λ next. lent self.new ≡ is_some (link_in next)) }
         ensures lent_none { OnErr result (lent self.new ≡ false) }
         ensures cause { HasCause (faults self.old) (faults self.new) result };
+
+    /// What wakes the link that is lent while it waits, for another thread.
+    fn waker(&self) -> Self::Waker;
 
     /// Takes back the link that `next` gave last, at the end of its connection. It takes no memory and cannot fail.
     fn back(&mut self, link: Self::Link)

@@ -4,7 +4,7 @@
 #![tactic(auto)]
 
 pub use clock::Clock;
-pub use dialer::{Dialer, Next};
+pub use dialer::{Dialer, Next, NoWaker, Wake};
 pub use echoing::{Echoed, echo, echo_all};
 pub use link::{Got, Link};
 pub use send::send_front;

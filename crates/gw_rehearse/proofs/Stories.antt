@@ -12,17 +12,18 @@ use Rattle.jr_kept.specs.Inbox.{HoldsBox, next_of}
 use Rattle.gate_turn.specs.Places.{known}
 use Rattle.gate_turn.specs.Views.{Part}
 use Rattle.connection_laws.specs.Ranges.{IsInTime, IsInRange}
-use Rattle.conn_turns.specs.Lines.{Line, lines_after}
+use Rattle.conn_turns.specs.Lines.{Line}
 use Rattle.conn_turns.specs.Turns.{cut_short}
 use Rattle.conn_turns.specs.declared.answer.TurnFault.{TurnFault}
-use Rattle.conn_loop.specs.Turned.{refused_of}
+use Rattle.conn_steps.specs.Taking.{refused_by}
+use Rattle.conn_steps.proofs.Either.{either_box}
 use Rattle.conn_turns.specs.declared.news.NewsItem.{NewsItem}
 use Rattle.conn_loop.specs.Conn.{line_of, line_begun, line_cut, Looks}
 use Rattle.conn_loop.specs.Live.{live_end}
 use Rattle.turn_laws.specs.Standing.{Has}
 use Rattle.turn_laws.specs.Legs.{TurnedLeg, given_in, sent_in}
 use Rattle.turn_laws.specs.Turns.{line_received, adds_in, adds_cut}
-use Rattle.turn_laws.proofs.Refusing.{cut_waits}
+use Rattle.turn_laws.proofs.Tailing.{left_is}
 use Rattle.two_ends.specs.Driving.{Beginning, Awaits, begun_leg, with_turn, cut_leg, Between, During}
 use Rattle.two_ends.specs.Stories.{IsOver}
 use Rattle.two_ends.proofs.Going.{leg_begins, turn_goes_on, leg_ends, cut_ends, life_ends, life_fails}
@@ -115,7 +116,7 @@ module _ (b : Beginning) (past : List TurnedLeg) (leg : TurnedLeg) (e e' : Drive
       let w = made.1 in
       let later : TurnedLeg = cut_leg leg (cut_short w.now w.received w.frames w.refusal) in
       let gained : List InboxRecord = adds_cut w.now (line_received (line_of e.conn) w.now w.received w.made.cut.got) w.frames w.refusal in
-      let lost : List InboxRecord = refused_of fault w.now (lines_after w.now (line_received (line_of e.conn) w.now w.received w.made.cut.got) w.frames) w.refusal in
+      let lost : List InboxRecord = refused_by fault w.tried in
       record {
         later = later;
         given = w.received;
@@ -126,12 +127,12 @@ module _ (b : Beginning) (past : List TurnedLeg) (leg : TurnedLeg) (e e' : Drive
           opens = opens_same b e e' gate k.opens;
           inbox = k.inbox ++ gained;
           refused = lost;
-          holds = w.refuses.holds k.inbox (holds_whole b past leg e k (ap is_failed going));
+          holds = either_box e'.inbox (k.inbox ++ gained) lost (w.refuses.holds k.inbox (holds_whole b past leg e k (ap is_failed going)));
           whole = λ whole. absurd (unfailed e'.standing whole failed);
           during = λ going'. absurd (unfailed e'.standing (ap is_failed going') failed);
           between = λ over. absurd (unfailed e'.standing (ap is_failed over) failed);
-          failed = λ _ closing has. life_fails b past leg (now_of e k.inbox) w.now w.received w.frames w.refusal lost closing awaits (k.during going) w.made.cut w.timely
-              (λ h c stands. cut_waits h c (line_of e.conn) w.now w.received w.frames w.refusal fault lost stands w.made.cut refl)
+          failed = λ _ closing has. life_fails b past leg (now_of e k.inbox) w.now w.received w.frames w.refusal w.tried lost closing awaits (k.during going) w.made.cut w.timely w.is_tried
+              (left_is fault w.tried lost refl)
               (record { begins = prefix_trans (known e.pass).seen.made (known e'.pass).seen.made (entries closing) looks.seen.made has.begins; few = has.few });
         };
       }

@@ -20,7 +20,7 @@ const ROUNDS: u64 = 64;
 const ROUNDS_EACH: u64 = 16;
 
 /// Why a rehearsal did not come to its end.
-#[derive(Clone, Copy, Debug, PartialEq, Eq)]
+#[derive(Clone, Copy, Debug)]
 pub enum RehearseFault {
     /// Both finishes were not exchanged within the rounds behind the last step, with all messages sent, and those of a recoverable flow applied; the
     /// inboxes wait for these numbers.

@@ -13,7 +13,7 @@ use jr_kept::Outbox;
 use std::alloc::{AllocError, Global};
 
 /// What the journals of an end hold.
-#[derive(Debug, Drop)]
+#[derive(Drop)]
 pub struct EndSummary {
     /// How many entries of each sender stand in the outbox, from sender 1 on.
     pub entries: Counts,

@@ -6,6 +6,7 @@ use crate::account::Account;
 use crate::address::{AddressFault, parse_address};
 use crate::reason::SocketReason;
 use crate::socket::SocketLink;
+use crate::waiting::{SocketWaker, Waiting};
 use gw_links::{Dialer, Next};
 use gw_outside::Failed;
 use mio::net::{TcpListener, TcpStream};
@@ -80,6 +81,7 @@ pub struct AcceptDialer<'a, R> {
     address: Result<SocketAddrV4, AddressFault>,
     /// The socket, or why there is none; nothing before it is bound.
     listening: Option<Result<Listening, SocketReason>>,
+    waiting: Waiting,
     account: Account,
 }
 
@@ -107,6 +109,7 @@ fn reached<R: Net>(
     rt: &R,
     alloc: Global,
     listening: &mut Option<Result<Listening, SocketReason>>,
+    waiting: &mut Waiting,
     stop: &AtomicBool,
 ) -> Result<Option<SocketLink>, SocketReason> {
     let listening = match listening {
@@ -115,7 +118,7 @@ fn reached<R: Net>(
         None => return Ok(None),
     };
     match listening.accepted(stop)? {
-        Some(stream) => Ok(Some(SocketLink::new(rt, alloc, stream)?)),
+        Some(stream) => Ok(Some(SocketLink::new(rt, alloc, stream, waiting)?)),
         None => Ok(None),
     }
 }
@@ -132,6 +135,7 @@ impl<'a, R: Net<Listener = net::TcpListener, Stream = net::TcpStream> + Clock> A
             alloc,
             address: parse_address(address),
             listening: None,
+            waiting: Waiting::new(rt, alloc),
             account: Account::new(most),
         }
     }
@@ -161,6 +165,8 @@ impl<R: Net<Listener = net::TcpListener, Stream = net::TcpStream> + Clock> Diale
 
     type Link = SocketLink;
 
+    type Waker = SocketWaker;
+
     ghost told = { λ d. None };
 
     ghost lent = { λ d. d.account.is_lent };
@@ -172,7 +178,13 @@ impl<R: Net<Listener = net::TcpListener, Stream = net::TcpStream> + Clock> Diale
             return Ok(Next::NoneLeft);
         }
         let _ = self.listen();
-        match reached(self.rt, self.alloc, &mut self.listening, stop) {
+        match reached(
+            self.rt,
+            self.alloc,
+            &mut self.listening,
+            &mut self.waiting,
+            stop,
+        ) {
             Ok(Some(link)) => {
                 self.account.lend();
                 Ok(Next::Link(link))
@@ -182,7 +194,12 @@ impl<R: Net<Listener = net::TcpListener, Stream = net::TcpStream> + Clock> Diale
         }
     }
 
-    fn back(&mut self, _link: SocketLink) {
+    fn waker(&self) -> SocketWaker {
+        self.waiting.waker()
+    }
+
+    fn back(&mut self, link: SocketLink) {
+        self.waiting.back(link.into_poll());
         self.account.is_lent = false;
     }
 }

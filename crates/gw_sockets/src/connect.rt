@@ -6,6 +6,7 @@ use crate::account::Account;
 use crate::address::{AddressFault, parse_address};
 use crate::reason::SocketReason;
 use crate::socket::SocketLink;
+use crate::waiting::{SocketWaker, Waiting};
 use gw_links::{Dialer, Next};
 use gw_outside::Failed;
 use mio::net::TcpStream;
@@ -32,6 +33,7 @@ pub struct ConnectDialer<'a, R> {
     rt: &'a R,
     alloc: Global,
     address: Result<SocketAddrV4, AddressFault>,
+    waiting: Waiting,
     account: Account,
 }
 
@@ -120,6 +122,7 @@ impl<'a, R: Net + Clock> ConnectDialer<'a, R> {
             rt,
             alloc,
             address: parse_address(address),
+            waiting: Waiting::new(rt, alloc),
             account: Account::new(most),
         }
     }
@@ -135,9 +138,14 @@ impl<'a, R: Net + Clock> ConnectDialer<'a, R> {
     }
 
     /// The link of the next connection, or `None` where `stop` was set before it was made.
-    fn reach(&self, stop: &AtomicBool) -> Result<Option<SocketLink>, SocketReason> {
+    fn reach(&mut self, stop: &AtomicBool) -> Result<Option<SocketLink>, SocketReason>
+        ensures account { self.new.account ≡ self.old.account }
+    {
         match connected(self.rt, self.alloc, SocketAddr::V4(self.address?), stop)? {
-            Some(stream) => Ok(Some(SocketLink::new(self.rt, self.alloc, stream)?)),
+            Some(stream) => {
+                let link = SocketLink::new(self.rt, self.alloc, stream, &mut self.waiting)?;
+                Ok(Some(link))
+            }
             None => Ok(None),
         }
     }
@@ -147,6 +155,8 @@ impl<R: Net + Clock> Dialer for ConnectDialer<'_, R> {
     ghost use Rattle.std.specs.Prelude.{None};
 
     type Link = SocketLink;
+
+    type Waker = SocketWaker;
 
     ghost told = { λ d. None };
 
@@ -168,7 +178,12 @@ impl<R: Net + Clock> Dialer for ConnectDialer<'_, R> {
         }
     }
 
-    fn back(&mut self, _link: SocketLink) {
+    fn waker(&self) -> SocketWaker {
+        self.waiting.waker()
+    }
+
+    fn back(&mut self, link: SocketLink) {
+        self.waiting.back(link.into_poll());
         self.account.is_lent = false;
     }
 }

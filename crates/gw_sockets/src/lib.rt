@@ -1,5 +1,5 @@
-//! The live outside of the gateway on the machine: sockets as links, dialers that accept and that connect, and the machine's
-//! clock. They tell nothing of what they carry, count their faults, and keep why they failed. The edge that is trusted.
+//! The live outside of the gateway on the machine: sockets as links, dialers that accept and that connect, what wakes their links, and
+//! the machine's clock. They tell nothing of what they carry, count their faults, and keep why they failed. The edge that is trusted.
 #![tactic(auto)]
 
 pub use accept::AcceptDialer;
@@ -8,6 +8,7 @@ pub use clock::MachineClock;
 pub use connect::ConnectDialer;
 pub use reason::SocketReason;
 pub use socket::SocketLink;
+pub use waiting::SocketWaker;
 
 mod accept;
 mod account;
@@ -16,3 +17,4 @@ mod clock;
 mod connect;
 mod reason;
 mod socket;
+mod waiting;

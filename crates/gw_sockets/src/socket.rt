@@ -5,17 +5,21 @@ ghost use Rattle.gw_outside.specs.Faults.{HasRisen};
 ghost use Rattle.gw_links.specs.Links.{IsWithin};
 
 use crate::reason::SocketReason;
+use crate::waiting::Waiting;
 use gw_links::{Got, Link};
 use gw_outside::Failed;
 use mio::net::TcpStream;
-use mio::{Events, Interest, Poll, Token};
+use mio::{Events, Poll};
 use std::alloc::Global;
 use std::io::{self, ErrorKind, Read, Write};
 use std::net::{Net, SocketAddr};
 use std::time::Duration;
 
-/// How long a receive waits for bytes, in milliseconds.
+/// How long a receive waits for bytes or a wake, in milliseconds.
 const WAIT: u64 = 10;
+
+/// How many events a wait tells at most: of the socket, and of the waker.
+const EVENTS: usize = 2;
 
 /// One connection over a socket.
 #[derive(Drop)]
@@ -61,7 +65,7 @@ fn write_now(stream: &mut TcpStream, bytes: &[u8]) -> io::Result<usize>
 }
 
 impl SocketLink {
-    /// A link over a connected socket, which sends small segments at once.
+    /// A link over a connected socket, which sends small segments at once, and waits with what its dialer lends it.
     ///
     /// # Errors
     /// What the system says, and want of memory.
@@ -69,14 +73,13 @@ impl SocketLink {
         rt: &R,
         alloc: Global,
         mut stream: TcpStream,
+        waiting: &mut Waiting,
     ) -> io::Result<SocketLink>
         ensures fresh { IfOk result (λ link. link.faults ≡ 0) }
     {
         stream.set_nodelay(true)?;
-        let poll = Poll::new(rt)?;
-        let events = Events::with_capacity(alloc, 1)?;
-        poll.registry()
-            .register(&mut stream, Token(0), Interest::READABLE)?;
+        let events = Events::with_capacity(alloc, EVENTS)?;
+        let poll = waiting.lend(rt, &mut stream)?;
         Ok(SocketLink {
             peer: stream.peer_addr().ok(),
             stream,
@@ -86,6 +89,22 @@ impl SocketLink {
             reason: None,
             faults: 0,
         })
+    }
+
+    /// Ends the connection, and gives back what it waited with.
+    pub(crate) fn into_poll(self) -> Poll {
+        let SocketLink {
+            mut stream,
+            poll,
+            peer: _,
+            events: _,
+            has_sent: _,
+            reason: _,
+            faults: _,
+        } = self;
+        // The system itself forgets a socket that is closed.
+        let _ = poll.registry().deregister(&mut stream);
+        poll
     }
 
     /// Why the last call that failed did, if one has.
@@ -98,7 +117,7 @@ impl SocketLink {
         self.peer
     }
 
-    /// Receives, and waits where nothing is there and nothing was sent since the last wait.
+    /// Receives, and waits where nothing is there and nothing was sent since the last wait. Bytes end the wait, and so does a wake.
     fn receive(&mut self, into: &mut [u8]) -> io::Result<Got>
         ensures count { IfOk result (λ got. IsWithin got (length into.new)) }
         ensures faults { self.new.faults ≡ self.old.faults }

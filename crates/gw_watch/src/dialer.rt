@@ -152,6 +152,8 @@ where
 {
     type Link = WatchedLink<'e, N::Link, E>;
 
+    type Waker = N::Waker;
+
     ghost told = { λ d. N.told d.inner };
 
     ghost lent = { λ d. N.lent d.inner };
@@ -175,6 +177,10 @@ where
                 Err(failed)
             }
         }
+    }
+
+    fn waker(&self) -> N::Waker {
+        self.inner.waker()
     }
 
     fn back(&mut self, link: WatchedLink<'e, N::Link, E>) {

@@ -21,6 +21,7 @@ use Rattle.turn_laws.specs.Standing.{Has}
 use Rattle.turn_laws.specs.Legs.{TurnedLeg, calls_on, first_line, AreTurnsOf, course_on}
 use Rattle.turn_laws.specs.Lives.{AllAreTurns, state_after, inbox_after}
 use Rattle.turn_laws.proofs.Running.{all_seen, leg_stands}
+use Rattle.conn_steps.proofs.Either.{either_box}
 use Rattle.conn_door.specs.declared.answer.ServeFault.{ServeFault}
 use Rattle.conn_door.specs.declared.answer.LifeEnd.{LifeEnd}
 use Rattle.conn_serve.specs.Connections.{Connection, IsFaithfulLeg, turned, all_of, IsConnection, HasEnded, AllEnded, adds_of, refused_of_all}
@@ -162,5 +163,5 @@ module _ {J : Type 0} {G : Ghosts J} where
         turns = all.turns;
         machine = b.machine;
         adds = all.adds;
-        holds = subst (λ (rs : List InboxRecord). HoldsBox new.box rs (refused_of_all (option_to_list k.given_up))) (sym all.adds) (k.refuses.holds i holds);
+        holds = subst (λ (rs : List InboxRecord). HoldsBox new.box rs (refused_of_all (option_to_list k.given_up))) (sym all.adds) (either_box new.box (i ++ adds_of (all_of k.ended k.given_up)) (refused_of_all (option_to_list k.given_up)) (k.refuses.holds i holds));
       }

@@ -10,5 +10,9 @@ pub mod Seen
 pub mod Closing
 pub mod Senders
 pub mod Submitting
+pub mod Back
 pub mod Passes
 pub mod Boxes
+pub mod BusinessPlans
+pub mod BusinessPasses
+pub mod BusinessBoxes

@@ -1,10 +1,8 @@
--- The passes of a life once all are back: those of the senders, and that of the connection behind them.
-use Rattle.std.proofs.Common.{◌≡◌, ◌⊎◌, inl, inr, ⊎_elim, ℕ, zero, suc, ◌+◌, ◌<◌, true, false, true≢false, List, [], ◌∷◌, length, slice_get, slice_index_or, All, Option, Some, None, Result, Ok, Err, if◌then◌else◌, refl, sym, ap, subst, ◌∙◌, arith, add-one}
+-- What a life whose senders submitted plans shows once all passes are back.
+use Rattle.std.proofs.Common.{◌≡◌, ◌⊎◌, inl, inr, ⊎_elim, ℕ, suc, ◌+◌, ◌<◌, List, [], length, slice_get, slice_index_or, All, Option, Some, None, Result, Ok, Err, if◌then◌else◌, refl, sym, ap, subst, ◌∙◌, arith}
 use Rattle.std.specs.Prelude.{option_to_list, IfErr, IfSome}
 use Rattle.std.proofs.lemmas.Bool.{cases_Bool}
-use mathlib.Core.Logic.{dite}
-use native.Mathlib.Decide.{ℕ_discrete}
-use Rattle.session_model.specs.Journal.{History, entries_of, BeginsHistory}
+use Rattle.session_model.specs.Journal.{History, BeginsHistory}
 use Rattle.fixp_machine.specs.Machine.{State}
 use Rattle.gw_links.specs.Dialers.{DialerTold}
 use Rattle.jr_dated.specs.declared.journal.Journal.{Ghosts}
@@ -13,7 +11,6 @@ use Rattle.jr_kept.specs.Inbox.{limits_of}
 use Rattle.jr_boxes.specs.declared.faults.SubmitFault.{SubmitFault}
 use Rattle.jr_boxes.specs.declared.faults.SubmitFault.TheVariants as submit
 use Rattle.gate_turn.specs.Views.{Account, HasFailed, Part, new_part}
-use Rattle.gate_turn.specs.Rule.{In}
 use Rattle.gate_turn.specs.Places.{known}
 use Rattle.gate_turn.specs.Listed.{pass_at, known_if, known_at}
 use Rattle.gate_turn.specs.declared.pass.Pass.{Pass}
@@ -35,9 +32,11 @@ use Rattle.conn_serve.specs.Connections.{wanted_of_all}
 use Rattle.conn_door.specs.Senders.{refusal_of, MetRefusal, IsRefusal, Finishes, FinishedFirst, SubmittedAll, SomeMarked}
 use Rattle.conn_serve.specs.Served.{ServedOver}
 use Rattle.conn_serve.specs.Opening.{ServedThrough}
-use Rattle.life_laws.specs.Plans.{plan_in, MadeOf, IsAllMade, LosesMessages, LosesOwn, PlansMade}
+use Rattle.life_laws.specs.Plans.{plan_in, PlansMade}
 use Rattle.life_laws.specs.PlanLives.{Clocked, clocked, SomePass, SeesMark, SeesFailure, MetFull, BlamesInbox, FillsInbox, ServedAt}
-use Rattle.life_laws.proofs.Senders.{PartMade, AllFresh, EachMade, NoneEnded, PartLoses, SendersMade, senders_made, ran_part, ran_at, ran_next_at, ran_seen_at}
+use Rattle.life_laws.proofs.Back as back
+use Rattle.life_laws.proofs.Back.{at_place}
+use Rattle.life_laws.proofs.Senders.{PartMade, AllFresh, SendersMade, senders_made, ran_part, ran_at, ran_next_at, ran_seen_at}
 use Rattle.conn_serve.specs.Moments.{life_at, faults_at, serving_at, beside}
 
 -- an answer that is neither want of memory nor done is that of the connections, or a refusal
@@ -89,11 +88,6 @@ pub blamed_at : {A : Type 0} (P : ServeFault → Type 0) (r : Result A ServeFaul
 blamed_at P (Ok a) x h e = cc
 blamed_at P (Err y) x h e = let same : y ≡ x = cc in subst P same h
 
--- the element of a list at a place that it has
-pub at_place : {X : Type 0} (xs : List X) (i : ℕ) → i < length xs → X
-at_place [] i lt = absurd (omega (arith, lt))
-at_place (x ∷ xs) i lt = x
-
 -- what a pass knew that was made and took no turn, by its place in a list that it was taken out of
 pub part_at : {T : Type 0} (old at : Passes T) (pass : Pass T) (n : ℕ) (p : Part) → known_at old n ≡ p → pass_at at n ≡ pass_at old n → pass_at at n ≡ Some pass → known pass ≡ p
 part_at {T} old at pass n p is same there = ap (λ (o : Option (Pass T)). known_if o) (sym there ∙ same) ∙ is
@@ -101,121 +95,21 @@ part_at {T} old at pass n p is same there = ap (λ (o : Option (Pass T)). known_
 module _ {J : Type 0} {G : Ghosts J} (gate : Gate J G) (a : Account) (plans : List (List (List ℕ))) (seated counted after : List (Sender J G)) (old new : Passes (Kept J G)) (last : Pass (Kept J G)) (first now : Part)
     (fresh : AllFresh gate a plans seated) (count : CountedEach gate seated counted) (seats : Seated gate after (length plans + 1)) (theirs : HasTheirs old new after) (there : pass_at old (length plans + 1) ≡ Some last)
     (was : (m : ℕ) × (first ≡ new_part (length plans + 1) m a)) (looks : Looks first now) (now_is : known last ≡ now) (only : length plans ≡ 0 → first.made ≡ 1) where
-  module _ (m : SendersMade gate a plans after) where
-    -- the pass of a sender is in its place, and that of the connection behind them
-    sender_at : (i : ℕ) (d : Sender J G) → i < length after → known_at new (suc i) ≡ known (slice_index_or after i d).pass
-    sender_at i d lt = ap (λ (o : Option (Pass (Kept J G))). known_if o) (ap (λ (n : ℕ). pass_at new n) (sym (add-one i)) ∙ theirs.theirs i d lt)
+  -- what they are of those that are back
+  plans_made : SendersMade gate a plans after → PlansMade a plans (known_at new)
+  plans_made m = back.plans_made gate a plans after old new last first now seats theirs there was looks now_is only m
 
-    last_at : known_at new (length plans + 1) ≡ now
-    last_at = ap (λ (o : Option (Pass (Kept J G))). known_if o) (theirs.others (length plans + 1) (omega (arith, m.long)) ∙ there) ∙ now_is
+  last_at : SendersMade gate a plans after → known_at new (length plans + 1) ≡ now
+  last_at m = back.last_at gate a plans after old new last first now seats theirs there was looks now_is only m
 
-    in_after : (i : ℕ) → In (length plans) (suc i) → i < length after
-    in_after i h = omega (arith, h.up_to, m.long)
+  some_sender : SendersMade gate a plans after → (P : Part → Type 0) (i : ℕ) (d : Sender J G) → i < length after → P (known (slice_index_or after i d).pass) → SomePass (length plans + 1) P (known_at new)
+  some_sender m P i d lt p = back.some_sender gate a plans after old new last first now seats theirs there was looks now_is only m P i d lt p
 
-    part_of : (i : ℕ) → In (length plans) (suc i) → PartMade a (suc i) (plan_in plans (suc i) []) (known_at new (suc i))
-    part_of i h =
-        let lt : i < length after = in_after i h in
-        let d : Sender J G = at_place after i lt in
-        subst (λ (p : Part). PartMade a (suc i) (plan_in plans (suc i) []) p) (sym (sender_at i d lt)) (m.each i d lt)
+  marked_at : SendersMade gate a plans after → SomeMarked after → SomePass (length plans + 1) SeesMark (known_at new)
+  marked_at m k = back.marked_at gate a plans after old new last first now seats theirs there was looks now_is only m k
 
-    number_at : (n : ℕ) → In (length plans + 1) n → (known_at new n).number ≡ n
-    number_at zero h = absurd (omega (arith, h.from_one))
-    number_at (suc i) h = dite (ℕ_discrete (suc i) (length plans + 1))
-        (λ e.
-        subst (λ (n : ℕ). (known_at new n).number ≡ n) (sym e) (ap (λ (p : Part). p.number) last_at ∙ (looks.number ∙ ap (λ (p : Part). p.number) was.1)))
-        (λ ne. (part_of i (record { from_one = omega arith; up_to = omega (arith, h.up_to, ne) })).number)
-
-    each_at : (s : ℕ) → In (length plans) s → MadeOf (entries_of a.history.made s) s (plan_in plans s []) (known_at new s).mine
-    each_at zero h = absurd (omega (arith, h.from_one))
-    each_at (suc i) h = (part_of i h).of
-
-    last_mine : (known_at new (length plans + 1)).mine ≡ entries_of a.history.made (length plans + 1)
-    last_mine = ap (λ (p : Part). p.mine) last_at ∙ (looks.mine ∙ ap (λ (p : Part). p.mine) was.1)
-
-    last_unended : (known_at new (length plans + 1)).ended ≡ false
-    last_unended = ap (λ (p : Part). p.ended) last_at ∙ (looks.ended ∙ ap (λ (p : Part). p.ended) was.1)
-
-    unended_at : ((i : ℕ) (d : Sender J G) → i < length after → (known (slice_index_or after i d).pass).ended ≡ false) → (n : ℕ) → In (length plans + 1) n → (known_at new n).ended ≡ false
-    unended_at none zero h = absurd (omega (arith, h.from_one))
-    unended_at none (suc i) h = dite (ℕ_discrete (suc i) (length plans + 1))
-        (λ e. subst (λ (n : ℕ). (known_at new n).ended ≡ false) (sym e) last_unended)
-        (λ ne.
-        let lt : i < length after = omega (arith, h.up_to, ne, m.long) in
-        let d : Sender J G = at_place after i lt in
-        ap (λ (p : Part). p.ended) (sender_at i d lt) ∙ none i d lt)
-
-    all_at : ((i : ℕ) (d : Sender J G) → i < length after → IsAllMade (entries_of a.history.made (suc i)) (suc i) (plan_in plans (suc i) []) (known (slice_index_or after i d).pass).mine)
-        → (s : ℕ) → In (length plans) s → IsAllMade (entries_of a.history.made s) s (plan_in plans s []) (known_at new s).mine
-    all_at all zero h = absurd (omega (arith, h.from_one))
-    all_at all (suc i) h =
-        let lt : i < length after = in_after i h in
-        let d : Sender J G = at_place after i lt in
-        ap (λ (p : Part). p.mine) (sender_at i d lt) ∙ all i d lt
-
-    ended_at : NoneEnded gate a plans after ⊎ EachMade gate a plans after → (n : ℕ) → In (length plans + 1) n → (known_at new n).ended ≡ true → (s : ℕ) → In (length plans) s → IsAllMade (entries_of a.history.made s) s (plan_in plans s []) (known_at new s).mine
-    ended_at (inl none) n h e s k = absurd (true≢false (sym e ∙ unended_at none n h))
-    ended_at (inr all) n h e s k = all_at all s k
-
-    last_unlost : (known_at new (length plans + 1)).lost ≡ []
-    last_unlost = ap (λ (p : Part). p.lost) last_at ∙ (looks.lost ∙ ap (λ (p : Part). p.lost) was.1)
-
-    loses_own : (i : ℕ) (d : Sender J G) → i < length after → PartLoses gate a plans after i (known (slice_index_or after i d).pass) → LosesOwn a plans (known_at new) (suc i)
-    loses_own i d lt l = record {
-      sender = record { from_one = omega arith; up_to = omega (arith, lt, m.long) };
-      opened = l.opened;
-      unended = λ n h e. true≢false (sym e ∙ unended_at l.unended n h);
-      what = ⊎_elim
-          (λ x. inl (subst (λ (p : Part). LosesMessages (plan_in plans (suc i) []) p) (sym (sender_at i d lt)) x))
-          (λ x. inr (ap (λ (p : Part). p.lost) (sender_at i d lt) ∙ x.0, all_at x.1))
-          l.what;
-    }
-
-    lost_at : (n : ℕ) → In (length plans + 1) n → ((known_at new n).lost ≡ []) ⊎ LosesOwn a plans (known_at new) n
-    lost_at zero h = absurd (omega (arith, h.from_one))
-    lost_at (suc i) h = dite (ℕ_discrete (suc i) (length plans + 1))
-        (λ e. inl (subst (λ (n : ℕ). (known_at new n).lost ≡ []) (sym e) last_unlost))
-        (λ ne.
-        let lt : i < length after = omega (arith, h.up_to, ne, m.long) in
-        let d : Sender J G = at_place after i lt in
-        ⊎_elim (λ e. inl (ap (λ (p : Part). p.lost) (sender_at i d lt) ∙ e)) (λ l. inr (loses_own i d lt l)) (m.lost i d lt))
-
-    made_at : (known_at new 1).made ≡ length plans + 1
-    made_at = dite (ℕ_discrete (length plans) 0)
-        (λ e.
-        let one : 1 ≡ length plans + 1 = omega (arith, e) in
-        ap (λ (n : ℕ). (known_at new n).made) one ∙ (ap (λ (p : Part). p.made) last_at ∙ (looks.made ∙ (only e ∙ one))))
-        (λ ne.
-        let lt : 0 < length after = omega (arith, m.long, ne) in
-        let d : Sender J G = at_place after 0 lt in
-        ap (λ (p : Part). p.made) (sender_at 0 d lt) ∙ seats.first d lt)
-
-    pub plans_made : PlansMade a plans (known_at new)
-    plans_made = record { made = made_at; number = number_at; each = each_at; last = last_mine; unmarked = last_unended; ended = ended_at m.ended; lost = lost_at }
-
-    -- a sender whose pass is so
-    some_sender : (P : Part → Type 0) (i : ℕ) (d : Sender J G) → i < length after → P (known (slice_index_or after i d).pass) → SomePass (length plans + 1) P (known_at new)
-    some_sender P i d lt p = record {
-      number = suc i;
-      inside = record { from_one = omega arith; up_to = omega (arith, lt, m.long) };
-      is = subst P (sym (sender_at i d lt)) p;
-    }
-
-    pub marked_at : SomeMarked after → SomePass (length plans + 1) SeesMark (known_at new)
-    marked_at k = some_sender SeesMark k.there.0 k.sender k.there.1 (subst (λ (s : Sender J G). SeesMark (known s.pass)) (sym k.there.2) k.marked)
-
-    -- a failure that the connection's pass, or a sender's, shows
-    last_failed : HasFailed first.faults now.faults ⊎ HasFailed now.opening.faults now.faults → SomePass (length plans + 1) SeesFailure (known_at new)
-    last_failed f = record {
-      number = length plans + 1;
-      inside = record { from_one = omega arith; up_to = omega arith };
-      is = subst SeesFailure (sym last_at) (since_opening f);
-    }
-      where
-        since_opening : HasFailed first.faults now.faults ⊎ HasFailed now.opening.faults now.faults → SeesFailure now
-        since_opening (inl h) =
-            let same : now.opening.faults ≡ first.faults = ap (λ (b : Account). b.faults) (looks.opening ∙ ap (λ (p : Part). p.opening) was.1) ∙ sym (ap (λ (p : Part). p.faults) was.1) in
-            subst (λ (n : ℕ). HasFailed n now.faults) (sym same) h
-        since_opening (inr h) = h
+  last_failed : SendersMade gate a plans after → HasFailed first.faults now.faults ⊎ HasFailed now.opening.faults now.faults → SomePass (length plans + 1) SeesFailure (known_at new)
+  last_failed m f = back.last_failed gate a plans after old new last first now seats theirs there was looks now_is only m f
 
   -- what the refusal of a life shows
   module _ (refused : Option ServeFault) (s : SubmittedAll gate counted after refused) where

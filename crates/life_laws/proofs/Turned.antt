@@ -1,5 +1,5 @@
 -- A connection of a served life is a list of turns, and adds to the inbox what it is said to add.
-use Rattle.std.proofs.Common.{◌≡◌, ◌≤◌, List, [], ◌∷◌, ◌++◌, length, Option, Some, None, sym, ap, subst, ◌∙◌, append-nil, append_assoc}
+use Rattle.std.proofs.Common.{◌≡◌, ◌≤◌, List, [], ◌∷◌, ◌++◌, length, Option, Some, None, refl, sym, ap, subst, ◌∙◌, append-nil, append_assoc}
 use Rattle.std.specs.Prelude.{IfSome, option_to_list}
 use Rattle.std.specs.List.{AllByRecursion, flat_map}
 use Rattle.std.proofs.lemmas.Grind.{flat_map-append}
@@ -57,6 +57,7 @@ is_cut last (Some t) news adds refused wanted k = subst (λ (u : Turn). IsCut la
 -- a connection: its whole turns, where it stands behind them, and what it adds
 pub record IsTurnedOne (h : List Entry) (m : State) (i : List InboxRecord) (last : Line) (c : Connection) : Type 0 where
   pub turns : AreTurnsOf h m c.leg
+  pub line : turns.last ≡ last
   pub stands : StandsAt h (course_after (beginning m i c.leg.moment) (flat_map calls_of c.leg.turns)) last
   pub joined : course_on m i c.leg ≡ course_after (course_after (beginning m i c.leg.moment) (flat_map calls_of c.leg.turns)) (flat_map calls_of (option_to_list c.leg.cut))
   pub adds : inbox_of (course_on m i c.leg) ≡ i ++ c.adds
@@ -82,6 +83,7 @@ connection_turned h before after m i last c awaits enough has real faithful =
     let begun : (course_on m i t).start ≡ i = (calls_go_on h b (calls_on t) (leg_stands h m i t awaits enough turns)).start in
     record {
       turns = turns;
+      line = refl;
       stands = x.after;
       joined = joined;
       adds = ap (λ (rs : List InboxRecord). rs ++ (course_on m i t).added) begun ∙ ap (λ (rs : List InboxRecord). i ++ rs) adds;

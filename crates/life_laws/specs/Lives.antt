@@ -35,8 +35,8 @@ abbrev pub served_of : LoopLife → Served
 served_of l = (life_in (machine_life l)).served
 
 -- A life of the loop over these outboxes, which opened with the machine in the state m on the inbox i, and whose connections are
--- these: each is turns over the closing outbox; on the last one a frame waits, or a held message, where its append was refused and may have
--- left these records. It keeps on them what the session model asks of it
+-- these: each is turns over the closing outbox; where a call of the inbox's disk failed on the last one, what it tried may have been left, which are
+-- these records. It keeps on them what the session model asks of it
 pub record LifeOfLoop (opening closing refused : List OutboxRecord) (m : State) (i : List InboxRecord) (cs : List Connection) (left : List InboxRecord)
     : Type 0 where
   pub life : LoopLife

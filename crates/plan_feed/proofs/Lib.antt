@@ -1,3 +1,3 @@
 mod Judged
-mod Lines
+pub mod Lines
 mod Parts

@@ -58,3 +58,10 @@ givers_are_short senders line g few gives =
   where
     sized : (line word digits payload message : ℕ) → line ≡ word + suc digits → word ≤ 5 → digits ≡ 2 * payload → 2 + message ≡ payload → message ≤ 16384 → line ≤ 32778
     sized line word digits payload message all few twice parts most = omega arith
+
+-- a line gives one thing at most
+pub gives_once : (senders : ℕ) (line : List ℕ) (g h : Gift) → senders < 2 ^ 16 → Gives senders line g → Gives senders line h → g ≡ h
+gives_once senders line g h few a b =
+    let same = one_front line g.sender h.sender a.digits b.digits (small senders g.sender few a.most) (small senders h.sender few b.most) a.written b.written in
+    let payload : g.payload ≡ h.payload = decode_of-same a.digits g.payload h.payload a.spelled (ap decode_of same.1 ∙ b.spelled) in
+    ap (λ (s : ℕ). record { sender = s; payload = g.payload }) same.0 ∙ ap (λ (p : List ℕ). record { sender = h.sender; payload = p }) payload

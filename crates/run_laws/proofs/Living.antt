@@ -1,5 +1,5 @@
 -- A life over both journals: its connections as sides, and what the next life may find of it.
-use Rattle.std.proofs.Common.{◌≡◌, ◌≤◌, ◌+◌, ◌^◌, ◌⊎◌, inl, inr, Bool, true, false, if◌then◌else◌, List, [], ◌∷◌, ◌++◌, length, Option, Some, None, IfSome, Result, refl, sym, ap, subst, ◌∙◌, append-nil, arith, length-append, ℕ, true≢false}
+use Rattle.std.proofs.Common.{◌≡◌, ◌≤◌, ◌+◌, ◌^◌, ◌⊎◌, inl, inr, Bool, true, false, if◌then◌else◌, List, [], ◌∷◌, ◌++◌, length, Option, Some, None, IfSome, Result, refl, sym, ap, subst, ◌∙◌, append-nil, arith, ℕ, true≢false}
 use Rattle.std.specs.Prelude.{option_to_list}
 use Rattle.std.proofs.lemmas.Option.{same_Some}
 use Rattle.std.specs.List.{AllByRecursion, AllZip}
@@ -10,37 +10,31 @@ use Rattle.session_model.specs.Lives.{IsImage}
 use Rattle.session_model.proofs.Lists.{prefix_self, prefix_length, all_first, all_second, all_append}
 use Rattle.gate_turn.proofs.Histories.{begins_on}
 use Rattle.fixp_shake.specs.declared.config.EndConfig.{EndConfig}
-use Rattle.fixp_replies.specs.declared.act.Act.{Act}
-use Rattle.fixp_replies.specs.declared.act.Act.TheVariants as acts
-use Rattle.fixp_replies.specs.Incoming.{Incoming}
 use Rattle.fixp_machine.specs.Machine.{State, fresh}
 use Rattle.fixp_machine.proofs.Windowing.{windowed_empty}
-use Rattle.fixp_machine.specs.Accepting.{records_of}
-use Rattle.connection_laws.specs.Courses.{Course, inbox_of}
+use Rattle.connection_laws.specs.Courses.{inbox_of}
 use Rattle.connection_laws.specs.Ranges.{IsInRange, IsOutbox}
 use Rattle.conn_turns.specs.Lines.{Line}
 use Rattle.conn_turns.specs.Turns.{Turn}
 use Rattle.turn_laws.specs.Standing.{Has}
 use Rattle.turn_laws.specs.Legs.{TurnedLeg, AreTurns, first_line, course_on}
-use Rattle.turn_laws.specs.Lives.{state_after, inbox_after}
 use Rattle.jr_dated.specs.declared.journal.Journal.{Ghosts}
 use Rattle.jr_boxes.specs.Outboxes.{outbox_of}
 use Rattle.jr_kept.specs.Inbox.{HoldsBox, next_of}
 use Rattle.conn_door.specs.declared.answer.ServeFault.{ServeFault}
 use Rattle.conn_door.specs.declared.answer.LifeEnd.{LifeEnd}
-use Rattle.conn_serve.specs.Connections.{Connection, turned, IsFaithfulLeg, all_of, adds_of, refused_of_all}
+use Rattle.conn_serve.specs.Connections.{Connection, turned, IsFaithfulLeg, IsConnection, all_of, adds_of, refused_of_all}
 use Rattle.conn_serve.specs.Moments.{LifeAt}
 use Rattle.conn_serve.specs.Opening.{opened_state}
 use Rattle.conn_serve.specs.Served.{WasGivenUp, ServedLife}
 use Rattle.life_laws.proofs.Opened.{opened_in_range}
-use Rattle.life_laws.proofs.Behind.{AreBehind, life_behind, given_turned, last_faithful, served_is_turned}
-use Rattle.life_laws.proofs.Turned.{IsTurnedOne}
-use Rattle.life_laws.proofs.Waits.{WaitsOn, at_act, at_held, waits_or_none}
+use Rattle.life_laws.proofs.Behind.{last_faithful, served_is_turned}
+use Rattle.life_laws.proofs.Waits.{FailedTurn, failed_or_none}
 use Rattle.run_laws.proofs.Ordered.{begins_within, history_of-records}
 use Rattle.honest_turns.specs.Sides.{Side, MakesTurns}
 use Rattle.honest_turns.specs.Lives.{End, side_of, sides, end_after, EndInTime}
 use Rattle.run_laws.specs.Served.{ClosesInTime}
-use Rattle.run_laws.proofs.Serving.{turns_of, seen_all, seen_given, all_close, turned_append, ServedAs, served_as}
+use Rattle.run_laws.proofs.Serving.{turns_of, seen_all, seen_given, all_close, turned_append, MadeTo, makes_to, ServedAs, served_as}
 use Rattle.run_laws.specs.TimedRuns.{line_given, machine_left}
 use Rattle.run_laws.proofs.Closing.{IsLast}
 use Rattle.run_laws.proofs.Leaving.{LedTo, EndsIn}
@@ -52,30 +46,6 @@ pub begins_records : (a b : History) → IsPrefix (outbox_of a) (outbox_of b) �
 begins_records a b p =
     subst (λ (x : History). BeginsHistory x b) (history_of-records a)
     (subst (λ (x : History). BeginsHistory (history_of (outbox_of a)) x) (history_of-records b) (begins_within (outbox_of a) (outbox_of b) b p (prefix_self (outbox_of b))))
-
--- an act adds one record at most
-records_few : (a : Act) (i : Incoming) → length (records_of a i) ≤ 1
-records_few acts.Nothing i = omega arith
-records_few (acts.Apply n) i = omega arith
-records_few (acts.Skip from count) i = omega arith
-records_few acts.Negotiated i = omega arith
-records_few (acts.PeerFinished last) i = omega arith
-records_few (acts.Told from count) i = omega arith
-records_few acts.Ended i = omega arith
-
--- so does what waits to be added
-waits_few : (cut : Option Turn) (d : Course) (left : List InboxRecord) → WaitsOn cut d left → length left ≤ 1
-waits_few cut d left (at_act now received frames t is w) = subst (λ (rs : List InboxRecord). length rs ≤ 1) w.left_are (records_few _ w.waiting.incoming)
-waits_few cut d left (at_held now received frames t m is w) = subst (λ (rs : List InboxRecord). length rs ≤ 1) w.left_are (omega arith)
-
--- so a beginning of them is none or all of them
-none_or_all : (kept records : List InboxRecord) → IsPrefix kept records → length records ≤ 1 → (kept ≡ []) ⊎ (kept ≡ records)
-none_or_all [] records p few = inl refl
-none_or_all (k ∷ kept) records p few = inr (by_rest p.0 p.1)
-  where
-    by_rest : (rest : List InboxRecord) → (k ∷ kept) ++ rest ≡ records → k ∷ kept ≡ records
-    by_rest [] e = sym (append-nil (k ∷ kept)) ∙ e
-    by_rest (x ∷ rest) e = absurd (omega (arith, few, ap length e, length-append kept (x ∷ rest)))
 
 -- of the last of some connections this is so
 pub record Left (P : End → TurnedLeg → Type 0) (e : End) (ts : List TurnedLeg) : Type 0 where
@@ -246,9 +216,9 @@ module _ {J : Type 0} {G : Ghosts J} {tells : Type 0} (at behind : LifeAt J G) (
       by_given (Some c) g x e = left_by c.leg (c.leg ∷ []) (Some c) g x e (λ d is. let same : c ≡ d = same_Some c d is in (refl, ap (λ (y : Connection). y.leg.moment) same, ap (λ (y : Connection). y.leg.turns) same))
 
   -- where those of the connection that was given up were kept
-  with_last : (c : Connection) (given_is : k.given_up ≡ Some c) (waiting : List InboxRecord) → waiting ≡ (inbox ++ adds_of (all_of k.ended k.given_up)) ++ c.refused
-      → WaitsOn c.leg.cut (course_on (state_after m inbox (turned k.ended)) (inbox_after m inbox (turned k.ended)) c.leg) c.refused → Legs end k.ended k.given_up line (machine_left k.ended k.mid line) waiting
-  with_last c given_is waiting is w =
+  with_last : (c : Connection) (given_is : k.given_up ≡ Some c) (g : WasGivenUp k.behind behind.seen k.mid (Some c)) (faithful : IsFaithfulLeg c.leg) (kept rest waiting : List InboxRecord)
+      → FailedTurn g.0 c.leg.cut c.refused → kept ++ rest ≡ c.refused → waiting ≡ (inbox ++ adds_of (all_of k.ended k.given_up)) ++ kept → Legs end k.ended k.given_up line (machine_left k.ended k.mid line) waiting
+  with_last c given_is g faithful kept rest waiting w all is =
       record {
         given = x.leg ∷ [];
         links = subst (λ (ts : List TurnedLeg). AllZip SameLink ts (turned k.ended ++ x.leg ∷ [])) (sym same)
@@ -256,7 +226,7 @@ module _ {J : Type 0} {G : Ghosts J} {tells : Type 0} (at behind : LifeAt J G) (
         makes = subst (λ (ss : List Side). AllByRecursion MakesTurns ss) (sym (sides_append end (turned k.ended) (x.leg ∷ [])))
             (all_append MakesTurns (sides end (turned k.ended)) (side_of behind_ended x.leg ∷ []) ended_make (x.makes, tt));
         inbox = ap (λ (f : End). f.inbox) (after_append end (turned k.ended) (x.leg ∷ []))
-            ∙ (x.inbox ∙ (ap (λ (rs : List InboxRecord). rs ++ c.refused) before ∙ sym is));
+            ∙ (x.inbox ∙ (ap (λ (rs : List InboxRecord). rs ++ kept) before ∙ sym is));
         close = all_close end at.seen served.behind served.mid k.ended (x.leg ∷ []) served.on;
         left = λ y e. left_by x.leg (x.leg ∷ []) k.given_up k.gave_up y e
             (λ d is. let same : c ≡ d = same_Some c d (sym given_is ∙ is) in (refl, x.moment ∙ ap (λ (z : Connection). z.leg.moment) same, x.turns ∙ ap (λ (z : Connection). z.leg.turns) same));
@@ -282,12 +252,12 @@ module _ {J : Type 0} {G : Ghosts J} {tells : Type 0} (at behind : LifeAt J G) (
       last_makes : MakesTurns (side_of behind_ended c.leg)
       last_makes = (all_second MakesTurns (sides end (turned k.ended)) (side_of behind_ended c.leg ∷ []) makes).0
 
-      waits : WaitsOn c.leg.cut (course_on behind_ended.state behind_ended.inbox c.leg) c.refused
-      waits = subst (λ (s : State). WaitsOn c.leg.cut (course_on s behind_ended.inbox c.leg) c.refused) (sym (state_behind_all end (turned k.ended)))
-          (subst (λ (rs : List InboxRecord). WaitsOn c.leg.cut (course_on (state_after m inbox (turned k.ended)) rs c.leg) c.refused) (sym (inbox_behind_all end (turned k.ended))) w)
+      made : MadeTo behind_ended g.0 c
+      made = makes_to behind_ended k.behind behind.seen g.0 c last_makes.ready (subst (λ (h : History). BeginsHistory behind.seen h) (sym stays.alike.outbox) begins) last_makes.timely faithful
+          (subst (λ (s : State). IsConnection k.behind behind.seen s g.0 c) (sym there) g.1)
 
-      x : CountedOn (side_of behind_ended c.leg) c.refused
-      x = counted_on (side_of behind_ended c.leg) c.refused last_makes stays.stays.enough waits
+      x : CountedOn (side_of behind_ended c.leg) kept
+      x = counted_on (side_of behind_ended c.leg) c.refused kept rest made.makes stays.stays.enough (subst (λ (l : Line). FailedTurn l c.leg.cut c.refused) (sym made.line) w) all
 
       before : inbox_of (course_on behind_ended.state behind_ended.inbox c.leg) ≡ inbox ++ adds_of (all_of k.ended k.given_up)
       before = sym (ap (λ (f : End). f.inbox) (after_append end (turned k.ended) (c.leg ∷ []))) ∙ (ap (λ (ts : List TurnedLeg). (end_after end ts).inbox) (sym same) ∙ all_inbox)
@@ -315,21 +285,14 @@ module _ {J : Type 0} {G : Ghosts J} {tells : Type 0} (at behind : LifeAt J G) (
 
       by_given : (given_up : Option Connection) → k.given_up ≡ given_up → WasGivenUp k.behind behind.seen k.mid given_up → Legs end k.ended k.given_up line (machine_left k.ended k.mid line) waiting
       by_given None e g' = none_kept (no_more g.kept (subst (λ (o : Option Connection). IsPrefix g.kept (refused_of_all (option_to_list o))) e g.beginning))
-      by_given (Some c) e g' = by_waiting (waits_or_none closing.made k.behind behind.seen (state_after m inbox (turned k.ended)) k.mid (inbox_after m inbox (turned k.ended)) g'.0 c g'.1 turned_one)
+      by_given (Some c) e g' = by_failing (failed_or_none k.behind behind.seen k.mid g'.0 c g'.1)
         where
-          b : AreBehind closing.made m k.mid inbox k.ended
-          b = life_behind at behind m result closing.made inbox k told has opens.ready.awaits enough
-
-          turned_one : IsTurnedOne closing.made (state_after m inbox (turned k.ended)) (inbox_after m inbox (turned k.ended)) g'.0 c
-          turned_one = given_turned closing.made k.behind behind.seen m k.mid inbox k.ended c b has g' (last_faithful k.ended c (subst (λ (o : Option Connection). AllByRecursion IsFaithfulLeg (turned (all_of k.ended o))) e (k.faithful told)))
-
           beginning : IsPrefix g.kept c.refused
           beginning = subst (λ (rs : List InboxRecord). IsPrefix g.kept rs) (append-nil c.refused) (subst (λ (o : Option Connection). IsPrefix g.kept (refused_of_all (option_to_list o))) e g.beginning)
 
-          by_waiting : (c.refused ≡ []) ⊎ WaitsOn c.leg.cut (course_on (state_after m inbox (turned k.ended)) (inbox_after m inbox (turned k.ended)) c.leg) c.refused → Legs end k.ended k.given_up line (machine_left k.ended k.mid line) waiting
-          by_waiting (inl none) = none_kept (no_more g.kept (subst (λ (rs : List InboxRecord). IsPrefix g.kept rs) none beginning))
-          by_waiting (inr w) = by_kept (none_or_all g.kept c.refused beginning (waits_few c.leg.cut _ c.refused w))
-            where
-              by_kept : (g.kept ≡ []) ⊎ (g.kept ≡ c.refused) → Legs end k.ended k.given_up line (machine_left k.ended k.mid line) waiting
-              by_kept (inl none) = none_kept none
-              by_kept (inr all) = with_last c e waiting (g.holds ∙ ap (λ (rs : List InboxRecord). closing_inbox ++ rs) all) w
+          faithful : IsFaithfulLeg c.leg
+          faithful = last_faithful k.ended c (subst (λ (o : Option Connection). AllByRecursion IsFaithfulLeg (turned (all_of k.ended o))) e (k.faithful told))
+
+          by_failing : (c.refused ≡ []) ⊎ FailedTurn g'.0 c.leg.cut c.refused → Legs end k.ended k.given_up line (machine_left k.ended k.mid line) waiting
+          by_failing (inl none) = none_kept (no_more g.kept (subst (λ (rs : List InboxRecord). IsPrefix g.kept rs) none beginning))
+          by_failing (inr w) = with_last c e g' faithful g.kept beginning.0 waiting w beginning.1 g.holds

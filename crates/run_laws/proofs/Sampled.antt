@@ -54,6 +54,7 @@ use Rattle.conn_door.specs.declared.answer.LifeEnd.TheVariants as ends
 use Rattle.conn_serve.specs.Connections.{LinkSeen, IsOver, ByClock, Connection, all_of, MadeNoMore, IsConnection, AllEnded, IsFollowed, IsFaithfulLeg, adds_of, refused_of_all}
 use Rattle.conn_door.specs.Answers.{answer_of, IsOfSender, IsUnrefused}
 use Rattle.conn_steps.specs.Settling.{HaveRoom}
+use Rattle.conn_steps.proofs.Rooms.{gains_none, refuses_none}
 use Rattle.gw_outside.specs.Faults.{HasRisen}
 use Rattle.fixp_msgs.specs.declared.flow.Flow.TheVariants.{Recoverable}
 use Rattle.jr_boxes.specs.Inboxes.{records_of_inbox}
@@ -298,7 +299,7 @@ module _ {J : Type 0} {G : Ghosts J} (box : Inbox J G) (held : HoldsBox box [] [
     followed = tt;
     timely = tt;
     faithful = λ t. tt;
-    refuses = record { holds = λ i holds. subst (λ (rs : List InboxRecord). HoldsBox box rs []) (sym (append-nil i)) holds; room = tt };
+    refuses = refuses_none box box [] (gains_none box box refl);
     lines = record { earlier = []; late = []; are = refl; few = inl ([], omega arith, refl); told = record { between = Some []; first = refl; last = refl } };
     came = record { back = refl; left = refl };
     tells = λ told k d lt. absurd (omega (arith, lt));
@@ -338,7 +339,7 @@ module _ {J : Type 0} {G : Ghosts J} (box : Inbox J G) (held : HoldsBox box [] [
     followed = tt;
     timely = (timely, tt);
     faithful = λ t. (faithful, tt);
-    refuses = record { holds = λ i holds. subst (λ (rs : List InboxRecord). HoldsBox box rs []) (sym (append-nil i)) holds; room = tt };
+    refuses = refuses_none box box [] (gains_none box box refl);
     lines = record {
       earlier = [];
       late = connection_line 1 closes.LinkFault ++ [];

@@ -79,6 +79,16 @@ makes_turns e before between last c ready begins timely faithful k =
       timely = timely;
     }
 
+-- and its turns lead to that line
+pub record MadeTo (e : End) (last : Line) (c : Connection) : Type 0 where
+  pub makes : MakesTurns (side_of e c.leg)
+  pub line : makes.turns.last ≡ last
+
+pub makes_to : (e : End) (before between : History) (last : Line) (c : Connection) → IsReady e.outbox e.state e.inbox → BeginsHistory between e.outbox → IsTimely c.leg → IsFaithfulLeg c.leg
+    → IsConnection before between e.state last c → MadeTo e last c
+unfolding makes_turns
+makes_to e before between last c ready begins timely faithful k = record { makes = makes_turns e before between last c ready begins timely faithful k; line = refl }
+
 -- the connections of a life that ended, from where they begin
 pub record EndedOn (e : End) (before after : History) (new : State) (cs : List Connection) : Type 0 where
   ready : IsReady e.outbox e.state e.inbox

@@ -37,41 +37,48 @@ pub enum Found<'a> {
     Bytes(usize),
 }
 
-fn place_of_item(plan: &BlockPlan, name: &[u8]) -> Option<usize> {
-    plan.items
-        .as_slice()
-        .iter()
-        .position(|item| item.name.as_slice() == name)
+/// What a block has, by its plan, which is found by its name.
+trait IsNamed {
+    fn name(&self) -> &Bytes;
 }
 
-fn place_of_group(plan: &BlockPlan, name: &[u8]) -> Option<usize> {
-    plan.groups
-        .as_slice()
-        .iter()
-        .position(|group| group.name.as_slice() == name)
+impl IsNamed for ItemPlan {
+    fn name(&self) -> &Bytes {
+        &self.name
+    }
 }
 
-fn place_of_datum(plan: &BlockPlan, name: &[u8]) -> Option<usize> {
-    plan.vars
-        .as_slice()
-        .iter()
-        .position(|datum| datum.name.as_slice() == name)
+impl IsNamed for GroupPlan {
+    fn name(&self) -> &Bytes {
+        &self.name
+    }
+}
+
+impl IsNamed for DataPlan {
+    fn name(&self) -> &Bytes {
+        &self.name
+    }
+}
+
+/// The place of the plan that has this name.
+fn place_of<P: IsNamed>(plans: &[P], name: &[u8]) -> Option<usize> {
+    plans.iter().position(|plan| plan.name().as_slice() == name)
 }
 
 /// The element of a block with this name.
 fn element_of<'a>(plan: &'a BlockPlan, block: &'a Block, name: &[u8]) -> Option<Found<'a>> {
-    if let Some(at) = place_of_item(plan, name) {
+    if let Some(at) = place_of(plan.items.as_slice(), name) {
         let item_plan = plan.items.as_slice().get(at)?;
         let item = block.items.as_slice().get(at)?;
         return Some(Found::Item(item_plan, item));
     }
-    if let Some(at) = place_of_group(plan, name) {
+    if let Some(at) = place_of(plan.groups.as_slice(), name) {
         return Some(match block.groups.as_slice().get(at)? {
             Group::Absent => Found::Absent,
             Group::Entries(blocks) => Found::Entries(blocks.len()),
         });
     }
-    let at = place_of_datum(plan, name)?;
+    let at = place_of(plan.vars.as_slice(), name)?;
     Some(match block.vars.as_slice().get(at)? {
         Datum::Absent => Found::Absent,
         Datum::Present(bytes) => Found::Bytes(bytes.len()),
@@ -85,7 +92,7 @@ fn entry_of<'a>(
     name: &[u8],
     at: u64,
 ) -> Option<(&'a BlockPlan, &'a Block)> {
-    let place = place_of_group(plan, name)?;
+    let place = place_of(plan.groups.as_slice(), name)?;
     let group = plan.groups.as_slice().get(place)?;
     match block.groups.as_slice().get(place)? {
         Group::Absent => None,

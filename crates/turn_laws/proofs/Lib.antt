@@ -7,4 +7,5 @@ pub mod Running
 pub mod Sent
 pub mod Adding
 pub mod Repacking
-pub mod Refusing
+pub mod Tailing
+pub mod Within

@@ -115,6 +115,8 @@ module _ {J : Type 0} {G : Ghosts J} where
           clock = clock;
         };
         timely = record { bytes = r.bytes; time = time };
+        tried = cut.tried;
+        is_tried = cut.is_tried;
         refuses = cut.refuses;
         past = cut.past;
         recorded = cut.recorded;

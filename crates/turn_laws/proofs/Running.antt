@@ -23,11 +23,11 @@ use Rattle.connection_laws.specs.Connections.{WasTaken}
 use Rattle.connection_laws.specs.Living.{MayRun, AllMayRun}
 use Rattle.connection_laws.proofs.Going.{calls_keep, connection_begins}
 use Rattle.connection_laws.proofs.Continuing.{state_is_run}
-use Rattle.connection_laws.proofs.Living.{life_serves, life_refused, life_refused_held}
+use Rattle.connection_laws.proofs.Living.{life_serves, life_refused, life_refused_held, life_refused_tail}
 use Rattle.turn_laws.specs.Turns.{line_received, IsTurn, IsCut}
 use Rattle.turn_laws.specs.Standing.{StandsAt, Has}
 use Rattle.turn_laws.specs.Legs.{AreTurns, TurnedLeg, calls_on, first_line, AreTurnsOf, sent_on, whole_in, is_drained, course_on, leg_of, TurnsRun, RefusedWaits, HeldAwaits}
-use Rattle.turn_laws.specs.Lives.{AllAreTurns, legs_of, state_after, inbox_after, TurnsServe, TurnsRefused, TurnsRefusedHeld}
+use Rattle.turn_laws.specs.Lives.{AllAreTurns, legs_of, state_after, inbox_after, TurnsServe, TurnsRefused, TurnsRefusedHeld, TurnsRefusedTail}
 use Rattle.turn_laws.proofs.Going.{may_append, after_append}
 use Rattle.turn_laws.proofs.Working.{turn_may_stand, cut_may_stand}
 
@@ -210,3 +210,10 @@ turns_refused_held opened h s inbox legs last m o all k awaits =
     let box : List InboxRecord = inbox_after s inbox legs in
     let b : Behind h t box = behind h s inbox legs o.awaits o.enough all in
     life_refused_held opened h s inbox (legs_of s inbox legs) (leg_of t box last) m o (all_run h s inbox legs o.awaits o.enough all) (turns_run h t box last b.awaits b.enough k) awaits
+
+pub turns_refused_tail : TurnsRefusedTail
+turns_refused_tail opened h s inbox legs last calls tried o all k adds =
+    let t : State = state_after s inbox legs in
+    let box : List InboxRecord = inbox_after s inbox legs in
+    let b : Behind h t box = behind h s inbox legs o.awaits o.enough all in
+    life_refused_tail opened h s inbox (legs_of s inbox legs) (leg_of t box last) calls tried o (all_run h s inbox legs o.awaits o.enough all) (turns_run h t box last b.awaits b.enough k) adds

@@ -8,9 +8,11 @@ use Rattle.session_model.specs.Inbox.{InboxRecord, Numbered, next_number}
 use Rattle.fixp_replies.specs.Acts.{is_record}
 use Rattle.fixp_machine.specs.Machine.{State, Call, connected, taken, link_end, run, front_of}
 use Rattle.conn_turns.specs.Lines.{Line, TakenFrame, reply_at, lines_after}
-use Rattle.conn_turns.specs.Turns.{Turn, of_act, of_held, IsFaithful, only_sends, works, link_lost, cut_short, not_begun, calls_of}
+use Rattle.conn_turns.specs.Turns.{Turn, Refusal, of_act, of_held, IsFaithful, only_sends, works, link_lost, cut_short, not_begun, calls_of}
+use Rattle.conn_turns.specs.Refusals.{IsTried}
 use Rattle.connection_laws.specs.Writing.{Piece, bytes_of_piece, bytes_written}
 use Rattle.connection_laws.specs.Courses.{Course, beginning, course_after}
+use Rattle.connection_laws.specs.Connections.{AddsBehind}
 use Rattle.connection_laws.specs.Living.{Leg, MayRun}
 use Rattle.connection_laws.specs.Ranges.{IsInTime}
 use Rattle.turn_laws.specs.Turns.{line_received, IsTurn, IsCutShort, IsCut}
@@ -129,6 +131,19 @@ abbrev pub HeldAwaits : Type 0
 HeldAwaits = (h : List Entry) (old : Line) (c : Course) (now : ℕ) (received : List ℕ) (frames : List TakenFrame) (t : TakenFrame) (m : Numbered)
     → StandsAt h c old → (k : IsCutShort now received frames (Some (of_held t m)) old)
     → front_of (course_after c (calls_of (cut_short now received frames (Some (of_held t m))))).state ≡ Some m
+
+-- behind the calls of a turn that was cut short further calls may come that add these records; and they are those of one that had taken more
+-- frames, as far as that goes
+pub record FurtherCalls (h : List Entry) (c : Course) (t more : Turn) (records : List InboxRecord) : Type 0 where
+  pub calls : List Call
+  pub adds : AddsBehind h (course_after c (calls_of t)) calls records
+  pub within : IsPrefix (calls_of t ++ calls) (calls_of more)
+
+-- so it is with what a failed call of the disk tried, behind a turn that was cut short at it
+abbrev pub TriedAdds : Type 0
+TriedAdds = (h : List Entry) (old : Line) (c : Course) (now : ℕ) (received : List ℕ) (frames : List TakenFrame) (refusal : Option Refusal) (tried : List InboxRecord)
+    → StandsAt h c old → (k : IsCutShort now received frames refusal old) → (i : IsTried now (line_received old now received k.got) frames refusal tried)
+    → FurtherCalls h c (cut_short now received frames refusal) (cut_short now received (frames ++ i.later) None) tried
 
 -- the bytes that the link took in its turns are the first of those written on it, and those of the frames that it took whole are the
 -- first of these

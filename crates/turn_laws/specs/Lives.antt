@@ -3,10 +3,10 @@ use Rattle.std.specs.Prelude.{◌≡◌, ⊤, List, [], ◌∷◌, Some}
 use Rattle.session_model.specs.Journal.{Entry}
 use Rattle.session_model.specs.Inbox.{InboxRecord, Numbered}
 use Rattle.session_model.specs.Lives.{served_on, KeepsConnections}
-use Rattle.fixp_machine.specs.Machine.{State, front_of}
+use Rattle.fixp_machine.specs.Machine.{State, Call, front_of}
 use Rattle.fixp_machine.specs.Accepting.{model_flow}
-use Rattle.connection_laws.specs.Courses.{Waiting, inbox_of}
-use Rattle.connection_laws.specs.Connections.{refused_by, refused_held}
+use Rattle.connection_laws.specs.Courses.{Waiting, inbox_of, course_after}
+use Rattle.connection_laws.specs.Connections.{AddsBehind, refused_by, refused_held, refused_tail}
 use Rattle.connection_laws.specs.Living.{Leg, state_behind, inbox_behind, life_on, Opens}
 use Rattle.turn_laws.specs.Legs.{TurnedLeg, AreTurnsOf, course_on, leg_of}
 
@@ -50,4 +50,15 @@ TurnsRefusedHeld = (opened h : List Entry) (s : State) (inbox : List InboxRecord
     → KeepsConnections (model_flow s.config.own_flow) (model_flow s.config.peer_flow) opened h
     (served_on (life_on s inbox (legs_of s inbox legs))
     (refused_held (course_on (state_after s inbox legs) (inbox_after s inbox legs) last) m
+    (leg_of (state_after s inbox legs) (inbox_after s inbox legs) last).whole (leg_of (state_after s inbox legs) (inbox_after s inbox legs) last).drained))
+
+-- and so where the call of the disk failed that was to make records stable which further calls add
+abbrev pub TurnsRefusedTail : Type 0
+TurnsRefusedTail = (opened h : List Entry) (s : State) (inbox : List InboxRecord) (legs : List TurnedLeg) (last : TurnedLeg) (calls : List Call) (tried : List InboxRecord)
+    → Opens opened h s inbox → AllAreTurns h s inbox legs → AreTurnsOf h (state_after s inbox legs) last
+    → AddsBehind h (course_on (state_after s inbox legs) (inbox_after s inbox legs) last) calls tried
+    → KeepsConnections (model_flow s.config.own_flow) (model_flow s.config.peer_flow) opened h
+    (served_on (life_on s inbox (legs_of s inbox legs))
+    (refused_tail (course_on (state_after s inbox legs) (inbox_after s inbox legs) last)
+    (course_after (course_on (state_after s inbox legs) (inbox_after s inbox legs) last) calls) tried
     (leg_of (state_after s inbox legs) (inbox_after s inbox legs) last).whole (leg_of (state_after s inbox legs) (inbox_after s inbox legs) last).drained))

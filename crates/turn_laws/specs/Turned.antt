@@ -1,5 +1,6 @@
 -- What the contract of the loop says of a turn, as a turn of the laws over connections.
-use Rattle.conn_turns.specs.Refusals.{IsOfRecord}
+use Rattle.conn_turns.specs.Refusals.{IsOfRecord, IsTried, told_of, wanted_of}
+use Rattle.session_model.specs.Inbox.{InboxRecord}
 use Rattle.std.specs.Prelude.{◌≡◌, ◌⊎◌, ℕ, ◌≤◌, max, Bool, List, ◌++◌, length, Option, IfSome, Result}
 use Rattle.connection_laws.specs.Ranges.{IsInTime}
 use Rattle.jr_dated.specs.declared.journal.Journal.{Ghosts}
@@ -12,9 +13,9 @@ use Rattle.conn_turns.specs.Lines.{TakenFrame, lines_after}
 use Rattle.conn_turns.specs.Frames.{told}
 use Rattle.conn_turns.specs.Turns.{Turn, Refusal, IsFaithful, cut_short}
 use Rattle.conn_steps.specs.Settling.{IsPast, Gains, Refuses}
-use Rattle.conn_steps.specs.Taking.{OfInbox}
+use Rattle.conn_steps.specs.Taking.{OfInbox, refused_by}
 use Rattle.conn_loop.specs.Live.{EndAt}
-use Rattle.conn_loop.specs.Turned.{DidTurn, NotBegun, CutTurn, told_of, refused_of, wanted_of}
+use Rattle.conn_loop.specs.Turned.{DidTurn, NotBegun, CutTurn}
 use Rattle.turn_laws.specs.Turns.{line_received, adds_in, adds_cut, tells_in}
 use Rattle.turn_laws.specs.Legs.{IsTimelyTurn}
 use Rattle.turn_laws.specs.Made.{turn_at, MadeTurn, MadeCut}
@@ -39,9 +40,9 @@ module _ {J : Type 0} {G : Ghosts J} where
       → WasTurn tells eager before after old new
 
   -- A turn was cut short, in time: its link gave what it received in one call, and took nothing. The inbox gained what its frames add and
-  -- what stood before the refusal, a stop may leave of what was refused what its fault may, and the news are what was told of those. At Full
-  -- its journal has no room for the record that was refused, which is one unless memory ran out; and where something was refused the fault is
-  -- not the link's nor the outbox's
+  -- what stood before the refusal, and the news are what was told of those; behind them a stop may leave all that a failed call of its disk
+  -- tried, or nothing. At Full its journal has no room for the record that was refused, which is one unless memory ran out; and where something
+  -- was refused the fault is not the link's nor the outbox's
   pub record WasCut (eager : Bool) (before after : ℕ) (old new : EndAt J G) (fault : TurnFault) : Type 0 where
     pub now : ℕ
     pub received : List ℕ
@@ -50,8 +51,9 @@ module _ {J : Type 0} {G : Ghosts J} where
     pub few : length frames ≤ 16
     pub made : MadeCut eager (turn_at old before) (turn_at new after) now received frames refusal
     pub timely : IsTimelyTurn (cut_short now received frames refusal)
-    pub refuses : Refuses old.box new.box (adds_cut now (line_received old.line now received made.cut.got) frames refusal)
-        (refused_of fault now (lines_after now (line_received old.line now received made.cut.got) frames) refusal)
+    pub tried : List InboxRecord
+    pub is_tried : IsTried now (line_received old.line now received made.cut.got) frames refusal tried
+    pub refuses : Refuses old.box new.box (adds_cut now (line_received old.line now received made.cut.got) frames refusal) (refused_by fault tried)
     pub past : (entries bytes : ℕ) → fault ≡ faults.Full entries bytes
         → IsPast (limits_of new.box).bytes bytes (wanted_of now (lines_after now (line_received old.line now received made.cut.got) frames) refusal)
     pub recorded : IfSome refusal

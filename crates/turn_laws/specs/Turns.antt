@@ -1,6 +1,5 @@
 -- What a turn made of a line, as far as the machine, the bytes held and what was seen of the outbox go (this project's profile).
-use Rattle.conn_loop.specs.Turned.{stood_of}
-use Rattle.conn_turns.specs.Refusals.{IsRefused}
+use Rattle.conn_turns.specs.Refusals.{IsRefused, stood_of}
 use Rattle.std.specs.Prelude.{◌≡◌, ℕ, ◌||◌, Bool, List, [], ◌∷◌, ◌++◌, Option, IfSome}
 use mathlib.Core.List.{IsPrefix}
 use Rattle.session_model.specs.Journal.{History}

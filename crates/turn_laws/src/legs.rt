@@ -1,7 +1,7 @@
 //! Connections that are lists of turns, and lives of them.
 
-ghost use Rattle.turn_laws.specs.Legs.{TurnsRun, RefusedWaits, HeldAwaits, SentAreWritten, GivenUpBegins};
-ghost use Rattle.turn_laws.specs.Lives.{TurnsServe, TurnsRefused, TurnsRefusedHeld};
+ghost use Rattle.turn_laws.specs.Legs.{TurnsRun, RefusedWaits, HeldAwaits, TriedAdds, SentAreWritten, GivenUpBegins};
+ghost use Rattle.turn_laws.specs.Lives.{TurnsServe, TurnsRefused, TurnsRefusedHeld, TurnsRefusedTail};
 
 /// A connection that is a list of turns may run, with the frames that the link took whole.
 pub fn turns_run()
@@ -18,6 +18,11 @@ pub fn held_awaits()
     ensures law { HeldAwaits }
 {}
 
+/// Behind a turn that was cut short calls may come that add what a failed call of the inbox's disk tried.
+pub fn tried_adds()
+    ensures law { TriedAdds }
+{}
+
 /// A life whose connections are lists of turns keeps on them what the session model asks of it.
 pub fn turns_serve()
     ensures law { TurnsServe }
@@ -31,6 +36,11 @@ pub fn turns_refused()
 /// And so where the append of the record of a held message failed.
 pub fn turns_refused_held()
     ensures law { TurnsRefusedHeld }
+{}
+
+/// And so where a call of the disk failed that was to make several records stable.
+pub fn turns_refused_tail()
+    ensures law { TurnsRefusedTail }
 {}
 
 /// The bytes that the link took in the turns of a connection are the first of those written on it, and those of the frames that

@@ -1,5 +1,5 @@
 -- Two ends that run the loop are two ends of the machine.
-use Rattle.std.proofs.Common.{◌≡◌, ◌≤◌, List, [], ◌∷◌, ◌++◌, map, length, Option, Some, None, IfSome, refl, sym, ap, subst, ◌∙◌}
+use Rattle.std.proofs.Common.{◌≡◌, ◌≤◌, List, [], ◌∷◌, ◌++◌, map, length, Option, Some, None, IfSome, refl, sym, ap, subst, ◌∙◌, append-nil}
 use Rattle.std.specs.Prelude.{flat_map, option_map}
 use Rattle.std.specs.List.{AllByRecursion, AllZip}
 use mathlib.Core.List.{IsPrefix}
@@ -11,7 +11,7 @@ use Rattle.session_model.proofs.Lists.{all_first, all_second}
 use Rattle.fixp_msgs.specs.Payload.{IsApplication}
 use Rattle.fixp_msgs.specs.declared.flow.Flow.{Flow}
 use Rattle.fixp_replies.specs.Incoming.{Incoming}
-use Rattle.fixp_machine.specs.Machine.{State}
+use Rattle.fixp_machine.specs.Machine.{State, Call}
 use Rattle.connection_laws.specs.Framed.{IsLegalPiece}
 use Rattle.connection_laws.specs.Writing.{bytes_written}
 use Rattle.connection_laws.specs.Courses.{Course, inbox_of, beginning}
@@ -23,7 +23,7 @@ use Rattle.connection_laws.specs.Ranges.{IsInRange}
 use Rattle.connection_laws.specs.LegalLaws.{StaysLegal}
 use Rattle.connection_laws.proofs.Written.{written_is_legal}
 use Rattle.two_ends.specs.Hearing.{came, AreFirstOf}
-use Rattle.two_ends.specs.Meeting.{Run, TookWhole, ReadsFrom, LinkedByBytes, runs_on, last_run, runs_of, MayRefuse, MayLive}
+use Rattle.two_ends.specs.Meeting.{Run, heard_in, TookWhole, ReadsFrom, LinkedByBytes, runs_on, last_run, runs_of, MayRefuse, MayLive}
 use Rattle.two_ends.specs.Meeting
 use Rattle.two_ends.proofs.Sessions.{session_of_ends, ends_hold}
 use Rattle.turn_laws.specs.Legs.{TurnedLeg, IsTimely, calls_on, AreTurnsOf, given_on, sent_on, course_on, leg_of}
@@ -44,6 +44,7 @@ record IsRunOf (r : Run) (t : TurnedLeg) : Type 0 where
   range : IsInRange r.state
   payloads : AllByRecursion (λ (e : Entry). IsApplication e.payload) r.outbox
   timely : IsTimely t
+  heard : AreFirstOf (came (heard_in r)) (frames_of (given_on t))
 
 -- so it writes legal frames, and stays in range
 legal_run : (h : List Entry) (s : State) (inbox : List InboxRecord) (t : TurnedLeg) → s.facts.recorded.inbox_next ≡ next_number inbox → s.facts.recorded.sent ≤ length h → IsInRange s
@@ -56,9 +57,12 @@ first_none : (is : List Incoming) → AreFirstOf is [] → is ≡ []
 first_none [] first = refl
 first_none (i ∷ is) first = absurd first
 
-alone : (r : Run) (t : TurnedLeg) → IsRunOf r t → frames_of (given_on t) ≡ [] → came r.leg.calls ≡ []
-alone r t k none =
-    ap (λ (leg : Leg). came leg.calls) k.leg ∙ first_none (came (calls_on t)) (subst (λ (fs : List Frame). AreFirstOf (came (calls_on t)) fs) none (given_came r.outbox r.state t k.turns))
+alone : (r : Run) (t : TurnedLeg) → IsRunOf r t → frames_of (given_on t) ≡ [] → came (heard_in r) ≡ []
+alone r t k none = first_none (came (heard_in r)) (subst (λ (fs : List Frame). AreFirstOf (came (heard_in r)) fs) none k.heard)
+
+-- what came on one of which nothing was refused
+heard_whole : (h : List Entry) (s : State) (t : TurnedLeg) → AreTurnsOf h s t → AreFirstOf (came (calls_on t ++ [])) (frames_of (given_on t))
+heard_whole h s t k = subst (λ (cs : List Call). AreFirstOf (came cs) (frames_of (given_on t))) (sym (append-nil (calls_on t))) (given_came h s t k)
 
 reads : (r w : Run) (t u : TurnedLeg) → IsRunOf r t → IsRunOf w u → ReadsOf t u → ReadsFrom r w
 reads r w t u x y from = record {
@@ -68,7 +72,7 @@ reads r w t u x y from = record {
     bytes = given_on t;
     are_bytes = given_are_bytes t x.timely;
     begins = from;
-    frames = subst (λ (leg : Leg). AreFirstOf (came leg.calls) (frames_of (given_on t))) (sym x.leg) (given_came r.outbox r.state t x.turns);
+    frames = x.heard;
   };
   legal = subst (λ (leg : Leg). AllByRecursion IsLegalPiece (course_of w.state w.inbox leg).output) (sym y.leg) (legal_run w.outbox w.state w.inbox u y.awaits y.enough y.range y.payloads y.turns y.timely).legal;
   whole = subst (λ (leg : Leg). TookWhole (course_of w.state w.inbox leg) (sent_on u) leg.whole) (sym y.leg) (sent_are_whole w.outbox w.state w.inbox u y.awaits y.enough y.turns);
@@ -105,7 +109,10 @@ runs_zip h s inbox (t ∷ later) awaits enough range payloads all timely =
     let st : Stands h d = calls_keep h (beginning s inbox t.moment) (calls_on t) (connection_begins h s inbox t.moment awaits enough) (leg_stands h s inbox t awaits enough all.0) in
     let rest = runs_zip h d.state (inbox_of d) later st.agrees.recorded st.own.enough (legal_run h s inbox t awaits enough range payloads all.0 timely.0).range payloads all.1 timely.1 in
     record {
-      runs = (record { turns = all.0; leg = refl; awaits = awaits; enough = enough; range = range; payloads = payloads; timely = timely.0 }, rest.runs);
+      runs = (
+        record { turns = all.0; leg = refl; awaits = awaits; enough = enough; range = range; payloads = payloads; timely = timely.0; heard = heard_whole h s t all.0 },
+        rest.runs,
+      );
       range = rest.range;
     }
 
@@ -113,7 +120,7 @@ last_zip : (h : List Entry) (s : State) (inbox : List InboxRecord) (q : Option R
     → AllByRecursion (λ (e : Entry). IsApplication e.payload) h → IfSome q (IsRefusedOn h s inbox) → AllByRecursion IsTimely (last_leg q) → AllZip IsRunOf (last_run h s inbox (option_map (refused_leg s inbox) q)) (last_leg q)
 last_zip h s inbox None awaits enough range payloads k timely = tt
 last_zip h s inbox (Some r) awaits enough range payloads k timely =
-    (record { turns = k.turns; leg = refl; awaits = awaits; enough = enough; range = range; payloads = payloads; timely = timely.0 }, tt)
+    (record { turns = k.turns; leg = refl; awaits = awaits; enough = enough; range = range; payloads = payloads; timely = timely.0; heard = k.heard }, tt)
 
 last_refuses : (h : List Entry) (s : State) (inbox : List InboxRecord) (q : Option RefusedLeg) → s.facts.recorded.inbox_next ≡ next_number inbox → s.facts.recorded.sent ≤ length h
     → IfSome q (IsRefusedOn h s inbox) → IfSome (option_map (refused_leg s inbox) q) (MayRefuse h s inbox)

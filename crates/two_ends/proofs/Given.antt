@@ -32,7 +32,7 @@ none_came : (cs : List Call) → AllByRecursion IsQuiet cs → came cs ≡ []
 none_came [] all = refl
 none_came (call ∷ later) all = ap (λ (is : List Incoming). is ++ came later) all.0 ∙ none_came later all.1
 
-came_append : (first later : List Call) → came (first ++ later) ≡ came first ++ came later
+pub came_append : (first later : List Call) → came (first ++ later) ≡ came first ++ came later
 came_append first later = flat_map-append came_by first later
 
 -- the messages of frames that were taken

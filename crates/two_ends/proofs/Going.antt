@@ -1,5 +1,4 @@
 -- An end over its lives, turn by turn.
-use Rattle.two_ends.specs.Meeting.{Refusal, of_frame, of_held, IsRefusedAt}
 use Rattle.std.proofs.Common.{◌≡◌, ◌⊎◌, inl, inr, ◌≤◌, List, [], ◌∷◌, ◌++◌, length, Option, None, Some, refl, sym, ap, subst, ◌∙◌, append-nil, append_assoc, false}
 use Rattle.std.specs.Prelude.{IfSome, option_to_list}
 use Rattle.std.specs.List.{flat_map, AllByRecursion}
@@ -17,7 +16,7 @@ use Rattle.connection_laws.specs.Standing.{Stands}
 use Rattle.connection_laws.proofs.Going.{calls_keep, connection_begins}
 use Rattle.connection_laws.proofs.Continuing.{calls_go_on}
 use Rattle.turn_laws.specs.Turns.{line_received, IsTurn, IsCut, adds_in, adds_cut}
-use Rattle.turn_laws.specs.Standing.{Has, Waits, for_act, for_held}
+use Rattle.turn_laws.specs.Standing.{Has}
 use Rattle.turn_laws.specs.Legs.{AreTurns, TurnedLeg, calls_on, first_line, AreTurnsOf, IsTimelyTurn, IsTimely, course_on}
 use Rattle.turn_laws.specs.Lives.{AllAreTurns, legs_of, state_after, inbox_after}
 use Rattle.turn_laws.proofs.Going.{after_append}
@@ -28,6 +27,7 @@ use Rattle.turn_laws.proofs.Adding.{cut_adds}
 use Rattle.turn_laws.proofs.Sent.{given_up_begins}
 use Rattle.two_ends.specs.Driving.{EndNow, Beginning, Awaits, WereMade, machine_behind, list_behind, with_turn, cut_leg, IsBetween, IsDuring}
 use Rattle.two_ends.specs.Stories.{IsOver, life_of, served_by}
+use Rattle.two_ends.proofs.Failing.{FailsOn, failed_leg, fails_on}
 use Rattle.two_ends.specs.DrivingLaws.{LegBegins, TurnGoesOn, LegEnds, CutEnds, LifeEnds, LifeFails}
 
 -- ---- lists of turns, and of connections
@@ -217,7 +217,7 @@ life_ends b legs e closing awaits k has =
     none_left closing b legs e.inbox awaits r.made r.inbox
 
 pub life_fails : LifeFails
-life_fails b past leg e now received frames refusal refused closing awaits k cut timely left has = by_left (left h c x.after)
+life_fails b past leg e now received frames refusal tried refused closing awaits k cut timely i_tried left has = by_left left
   where
     h : List Entry
     h = entries closing
@@ -275,24 +275,18 @@ life_fails b past leg e now received frames refusal refused closing awaits k cut
     behind_all : list_behind b (past ++ broken ∷ []) ≡ e.inbox ++ gained
     behind_all = inbox_append b.machine b.inbox past broken ∙ is
 
-    by_left : (refused ≡ []) ⊎ Waits (course_after c (calls_of t)) refused → IsOver closing b (past ++ broken ∷ []) (e.inbox ++ gained) refused
+    by_left : (refused ≡ []) ⊎ (refused ≡ tried) → IsOver closing b (past ++ broken ∷ []) (e.inbox ++ gained) refused
     by_left (inl none) = subst (λ (rs : List InboxRecord). IsOver closing b (past ++ broken ∷ []) (e.inbox ++ gained) rs) (sym none) (none_left closing b (past ++ broken ∷ []) (e.inbox ++ gained) awaits made behind_all)
-    by_left (inr w) = by_refusal (subst (λ (y : Course). Waits y refused) (sym joined) w)
-      where
-        over : (r : Refusal) → IsRefusedAt (course_on s i broken) r → (served_by (life_of b closing past (Some (record { leg = broken; refusal = r })))).closing_inbox ≡ e.inbox ++ gained
-            → (served_by (life_of b closing past (Some (record { leg = broken; refusal = r })))).refused_inbox ≡ refused → IsOver closing b (past ++ broken ∷ []) (e.inbox ++ gained) refused
-        over r at came left_are = record {
+    by_left (inr all) =
+        let f : FailsOn h s i leg t tried = fails_on h s i leg d.before e.seen e.line now received frames refusal tried d.made has d.faithful x.after cut i_tried in
+        subst (λ (rs : List InboxRecord). IsOver closing b (past ++ broken ∷ []) (e.inbox ++ gained) rs) (sym all) (record {
           done = past;
-          last = Some (record { leg = broken; refusal = r });
+          last = Some (failed_leg leg t f.calls tried);
           legs_are = refl;
           made = d.behind;
-          waits = record { turns = are; refuses = at };
+          waits = f.is;
           timely = made.timely;
           grows = subst (λ (rs : List InboxRecord). IsPrefix b.inbox rs) behind_all (life_behind h b (past ++ broken ∷ []) awaits made).grows;
-          inbox_is = came;
-          refused_are = left_are;
-        }
-
-        by_refusal : Waits (course_on s i broken) refused → IsOver closing b (past ++ broken ∷ []) (e.inbox ++ gained) refused
-        by_refusal (for_act v at left_are) = over (of_frame v) at is left_are
-        by_refusal (for_held m at left_are) = over (of_held m) at is left_are
+          inbox_is = is;
+          refused_are = refl;
+        })

@@ -8,6 +8,7 @@ pub mod Given
 pub mod Whole
 pub mod Ends
 pub mod LoopSampled
+pub mod Failing
 pub mod Going
 pub mod Moving
 pub mod Driven

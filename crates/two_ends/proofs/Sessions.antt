@@ -15,24 +15,33 @@ use Rattle.session_model.specs.Guarantee.{OneEnd, Session}
 use Rattle.session_model.proofs.Guarantees.{session_turns_round, recoverable_guarantee, idempotent_guarantee, unsequenced_guarantee, no_flow_guarantee}
 use Rattle.fixp_msgs.specs.declared.flow.Flow.{Flow}
 use Rattle.fixp_msgs.specs.declared.flow.Flow.TheVariants as flows
-use Rattle.fixp_machine.specs.Machine.{State}
+use Rattle.fixp_machine.specs.Machine.{State, Call}
 use Rattle.fixp_machine.specs.Accepting.{model_flow}
 use Rattle.connection_laws.specs.Writing.{Piece, bytes_written, events_written}
-use Rattle.connection_laws.specs.Courses.{Course, inbox_of}
+use Rattle.connection_laws.specs.Courses.{Course, inbox_of, beginning, course_after}
+use Rattle.connection_laws.specs.Standing.{AllMayStand}
 use Rattle.connection_laws.specs.Living.{Leg, course_of, MayRun, AllMayRun, state_behind, inbox_behind, life_on, Opens}
 use Rattle.connection_laws.specs.Connections.{connection_of}
-use Rattle.connection_laws.proofs.Living.{ran, behind, life_serves, life_refused, life_refused_held}
+use Rattle.connection_laws.proofs.Living.{ran, behind, life_serves, life_refused_tail}
 use Rattle.two_ends.specs.Reading.{AreRead}
 use Rattle.two_ends.specs.Hearing.{came, AreFirstOf, TakesFrom}
-use Rattle.two_ends.specs.Meeting.{Refusal, of_frame, of_held, IsRefusedAt, refused_of, Run, course_in, accepted_in, connection_in, MayBegin, ReadsFrom, no_more, left_alone, right_alone, paired, LinksHold, Refused, MachineLife, served_with, life_in, runs_on, last_run, runs_of, MayRefuse, MayLive, end_in, SessionOfEnds, Holds, EndsHold}
+use Rattle.two_ends.specs.Meeting.{Refusal, IsRefusedAt, refused_of, Run, course_in, calls_behind, heard_in, accepted_in, connection_in, MayBegin, ReadsFrom, no_more, left_alone, right_alone, paired, LinksHold, Refused, MachineLife, served_with, life_in, runs_on, last_run, runs_of, MayRefuse, MayLive, end_in, SessionOfEnds, Holds, EndsHold}
+use Rattle.turn_laws.proofs.Going.{after_append, may_append}
 use Rattle.two_ends.proofs.Cutting.{written_is_read}
 use Rattle.two_ends.proofs.Heard.{events_begin, heard_from}
 
--- what is taken of the frames that came, with that of the frame whose records were refused
-takes_in : (written : List Event) (c : Course) (q : Option Refusal) → IfSome q (IsRefusedAt c) → TakesFrom written c → TakenFrom written (accepted_in c q)
-takes_in written c None at t = t.accepted
-takes_in written c (Some (of_frame w)) waits t = t.waiting w waits
-takes_in written c (Some (of_held m)) front t = t.accepted
+-- all calls of a connection may come, with those that add what a failed call tried; and they accept what the connection accepted with these
+all_come : (h : List Entry) (c : Course) (calls : List Call) (q : Option Refusal) → AllMayStand h c calls → IfSome q (IsRefusedAt h (course_after c calls)) → AllMayStand h c (calls ++ calls_behind q)
+all_come h c calls None all at = subst (λ (cs : List Call). AllMayStand h c cs) (sym (append-nil calls)) all
+all_come h c calls (Some q) all at = may_append h c calls q.calls all at.may
+
+accepted_is : (c : Course) (calls : List Call) (q : Option Refusal) → (course_after c (calls ++ calls_behind q)).accepted ≡ accepted_in (course_after c calls) q
+accepted_is c calls None = ap (λ (cs : List Call). (course_after c cs).accepted) (append-nil calls)
+accepted_is c calls (Some q) = ap (λ (e : Course). e.accepted) (after_append c calls q.calls)
+
+-- what is taken of the frames that came
+takes_in : (written : List Event) (r : Run) → TakesFrom written (course_after (beginning r.state r.inbox r.leg.moment) (heard_in r)) → TakenFrom written (connection_in r).accepted
+takes_in written r t = subst (λ (es : List Event). TakenFrom written es) (accepted_is (beginning r.state r.inbox r.leg.moment) r.leg.calls r.refused) t.accepted
 
 -- nothing is taken of nothing
 takes_nothing : (w a : List Event) → w ≡ [] → TakenFrom w a → a ≡ []
@@ -41,17 +50,19 @@ takes_nothing w a e (taken k) = absurd (cc e)
 takes_nothing w a e (rejected k) = absurd (cc e)
 
 -- a connection to which no frame came accepted nothing
-alone : (r : Run) → MayBegin r → came r.leg.calls ≡ [] → (connection_in r).accepted ≡ []
+alone : (r : Run) → MayBegin r → came (heard_in r) ≡ [] → (connection_in r).accepted ≡ []
 alone r may none =
-    takes_nothing [] (accepted_in (course_in r) r.refused) refl
-    (takes_in [] (course_in r) r.refused may.refused
-    (heard_from r.outbox r.state r.inbox r.leg.moment r.leg.calls [] [] [] may.awaits may.enough may.calls (subst (λ is. AreFirstOf is []) (sym none) tt) tt ([], refl)))
+    takes_nothing [] (connection_in r).accepted refl
+    (takes_in [] r
+    (heard_from r.outbox r.state r.inbox r.leg.moment (heard_in r) [] [] [] may.awaits may.enough (all_come r.outbox (beginning r.state r.inbox r.leg.moment) r.leg.calls r.refused may.calls may.refused)
+    (subst (λ is. AreFirstOf is []) (sym none) tt) tt ([], refl)))
 
 -- an end takes of what it read from another
 reads : (reader writer : Run) → MayBegin reader → MayBegin writer → ReadsFrom reader writer → TakenFrom (connection_in writer).written (connection_in reader).accepted
 reads reader writer mine theirs from =
-    takes_in (events_written writer.leg.whole) (course_in reader) reader.refused mine.refused
-    (heard_from reader.outbox reader.state reader.inbox reader.leg.moment reader.leg.calls read (events_written writer.leg.whole) (frames_of from.came.bytes) mine.awaits mine.enough mine.calls
+    takes_in (events_written writer.leg.whole) reader
+    (heard_from reader.outbox reader.state reader.inbox reader.leg.moment (heard_in reader) read (events_written writer.leg.whole) (frames_of from.came.bytes) mine.awaits mine.enough
+    (all_come reader.outbox (beginning reader.state reader.inbox reader.leg.moment) reader.leg.calls reader.refused mine.calls mine.refused)
     from.came.frames r.frames (events_begin read writer.leg.whole (from.whole.all read r.first (prefix_trans (bytes_written read) from.came.bytes from.sent r.whole from.came.begins))))
   where
     d : Course
@@ -73,11 +84,10 @@ links_hold as' (b ∷ bs) all_a all_b (right_alone none linked) = Lives.Linked.r
 links_hold (a ∷ as') (b ∷ bs) all_a all_b (paired p q linked) =
     Lives.Linked.paired (reads a b all_a.0 all_b.0 p) (reads b a all_b.0 all_a.0 q) (links_hold as' bs all_a.1 all_b.1 linked)
 
--- the one connection on which an append failed
+-- the one connection on which a call of the disk failed
 refused_connection : (c : Course) (q : Refusal) (whole : List Piece) (drained : Bool)
     → record (connection_of c whole drained) { accepted = accepted_in c (Some q) } ∷ [] ≡ (refused_of c q whole drained).connections
-refused_connection c (of_frame w) whole drained = refl
-refused_connection c (of_held m) whole drained = refl
+refused_connection c q whole drained = refl
 
 -- the connections of a life are those of its runs
 connections_on : (h : List Entry) (s : State) (inbox : List InboxRecord) (legs : List Leg) → map connection_in (runs_on h s inbox legs) ≡ (life_on s inbox legs).connections
@@ -157,11 +167,10 @@ keeps own peer l may =
     inbox : List InboxRecord
     inbox = inbox_behind l.state l.inbox l.legs
 
-    by_refusal : (leg : Leg) (q : Refusal) → MayRun h s inbox leg → IsRefusedAt (course_of s inbox leg) q
+    by_refusal : (leg : Leg) (q : Refusal) → MayRun h s inbox leg → IsRefusedAt h (course_of s inbox leg) q
         → KeepsConnections (model_flow l.state.config.own_flow) (model_flow l.state.config.peer_flow) opened h
         (served_on (life_on l.state l.inbox l.legs) (refused_of (course_of s inbox leg) q leg.whole leg.drained))
-    by_refusal leg (of_frame w) runs waits = life_refused opened h l.state l.inbox l.legs leg w may.opens may.legs runs waits
-    by_refusal leg (of_held m) runs front = life_refused_held opened h l.state l.inbox l.legs leg m may.opens may.legs runs front
+    by_refusal leg q runs adds = life_refused_tail opened h l.state l.inbox l.legs leg q.calls q.tried may.opens may.legs runs adds
 
     by_last : (q : Option Refused) → IfSome q (MayRefuse h s inbox)
         → KeepsConnections (model_flow l.state.config.own_flow) (model_flow l.state.config.peer_flow) opened h (served_with (life_on l.state l.inbox l.legs) s inbox q)

@@ -7,11 +7,11 @@ use Rattle.session_model.specs.Inbox.{InboxRecord}
 use Rattle.fixp_msgs.specs.declared.flow.Flow.{Flow}
 use Rattle.fixp_machine.specs.Machine.{taken, link_end, run}
 use Rattle.conn_turns.specs.Lines.{TakenFrame}
-use Rattle.conn_turns.specs.Turns.{Turn, Refusal, IsFaithful, cut_short, calls_of}
-use Rattle.connection_laws.specs.Courses.{Course, course_after}
+use Rattle.conn_turns.specs.Turns.{Turn, Refusal, IsFaithful, cut_short}
+use Rattle.conn_turns.specs.Refusals.{IsTried}
 use Rattle.connection_laws.specs.Ranges.{IsInTime}
 use Rattle.turn_laws.specs.Turns.{line_received, IsTurn, IsCutShort, adds_in, adds_cut}
-use Rattle.turn_laws.specs.Standing.{StandsAt, Has, Waits}
+use Rattle.turn_laws.specs.Standing.{Has}
 use Rattle.turn_laws.specs.Legs.{TurnedLeg, first_line, given_in, sent_in, IsTimelyTurn}
 use Rattle.two_ends.specs.Meeting.{Holds}
 use Rattle.two_ends.specs.Driving.{EndNow, Beginning, Awaits, begun_leg, with_turn, cut_leg, Between, During}
@@ -53,13 +53,13 @@ abbrev pub LifeEnds : Type 0
 LifeEnds = (b : Beginning) (legs : List TurnedLeg) (e : EndNow) (closing : List OutboxRecord) → Awaits b → Between b legs e → Has (entries closing) e.seen
     → IsOver closing b legs e.inbox []
 
--- it is over where a connection that goes on is cut short in a turn: the inbox holds what its frames add and what stood before the refusal, and what a stop
--- may leave of what was refused is nothing, or all of it, which is still to be added
+-- it is over where a connection that goes on is cut short in a turn: the inbox holds what its frames add and what stood before the refusal, and a stop may
+-- leave nothing more, or what a failed call of the inbox's disk tried
 abbrev pub LifeFails : Type 0
 LifeFails = (b : Beginning) (past : List TurnedLeg) (leg : TurnedLeg) (e : EndNow) (now : ℕ) (received : List ℕ) (frames : List TakenFrame)
-    (refusal : Option Refusal) (refused : List InboxRecord) (closing : List OutboxRecord) → Awaits b → During b past leg e
+    (refusal : Option Refusal) (tried refused : List InboxRecord) (closing : List OutboxRecord) → Awaits b → During b past leg e
     → (k : IsCutShort now received frames refusal e.line) → IsTimelyTurn (cut_short now received frames refusal)
-    → ((h : List Entry) (c : Course) → StandsAt h c e.line → (refused ≡ []) ⊎ Waits (course_after c (calls_of (cut_short now received frames refusal))) refused)
+    → IsTried now (line_received e.line now received k.got) frames refusal tried → (refused ≡ []) ⊎ (refused ≡ tried)
     → Has (entries closing) e.seen
     → IsOver closing b (past ++ cut_leg leg (cut_short now received frames refusal) ∷ [])
     (e.inbox ++ adds_cut now (line_received e.line now received k.got) frames refusal)

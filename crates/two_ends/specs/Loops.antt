@@ -11,12 +11,13 @@ use Rattle.fixp_msgs.specs.Payload.{IsApplication}
 use Rattle.fixp_msgs.specs.declared.flow.Flow.{Flow}
 use Rattle.fixp_machine.specs.Machine.{State}
 use Rattle.connection_laws.specs.Living.{Opens}
-use Rattle.connection_laws.specs.Ranges.{IsInRange}
+use Rattle.connection_laws.specs.Ranges.{IsInRange, FitsCall}
+use Rattle.two_ends.specs.Hearing.{came, AreFirstOf}
 use Rattle.two_ends.specs.Meeting.{Refusal, IsRefusedAt, Refused, MachineLife, life_in}
-use Rattle.turn_laws.specs.Legs.{TurnedLeg, IsTimely, AreTurnsOf, given_on, sent_on, course_on, leg_of}
+use Rattle.turn_laws.specs.Legs.{TurnedLeg, IsTimely, AreTurnsOf, calls_on, given_on, sent_on, course_on, leg_of}
 use Rattle.turn_laws.specs.Lives.{AllAreTurns, legs_of, state_after, inbox_after}
 
--- a last connection of a life, on which an append failed
+-- a last connection of a life, on which a call of the inbox's disk failed
 pub record RefusedLeg : Type 0 where
   pub leg : TurnedLeg
   pub refusal : Refusal
@@ -50,10 +51,13 @@ machine_life l = record {
 abbrev pub lives_of : List LoopLife → List Life
 lives_of lives = map life_in (map machine_life lives)
 
--- a last connection is turns over this outbox, and has come to that append
+-- a last connection is turns over this outbox, and has come to that call; the frames of the calls that add what it tried were given on it too, in
+-- time as its own
 pub record IsRefusedOn (h : List Entry) (s : State) (inbox : List InboxRecord) (r : RefusedLeg) : Type 0 where
   pub turns : AreTurnsOf h s r.leg
-  pub refuses : IsRefusedAt (course_on s inbox r.leg) r.refusal
+  pub refuses : IsRefusedAt h (course_on s inbox r.leg) r.refusal
+  pub heard : AreFirstOf (came (calls_on r.leg ++ r.refusal.calls)) (frames_of (given_on r.leg))
+  pub fits : IsTimely r.leg → AllByRecursion FitsCall r.refusal.calls
 
 -- its connections, one behind another
 abbrev pub last_leg : Option RefusedLeg → List TurnedLeg

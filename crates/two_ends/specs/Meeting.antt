@@ -3,7 +3,7 @@ use Rattle.std.specs.Prelude.{◌≡◌, ℕ, ◌≤◌, Bool, List, [], ◌∷�
 use Rattle.std.specs.List.{AllByRecursion}
 use mathlib.Core.List.{IsPrefix}
 use Rattle.session_model.specs.Journal.{Entry, OutboxRecord, entries}
-use Rattle.session_model.specs.Inbox.{InboxRecord, Numbered, next_number, applied, skips}
+use Rattle.session_model.specs.Inbox.{InboxRecord, next_number, applied, skips}
 use Rattle.session_model.specs.Events.{Event}
 use Rattle.session_model.specs.Growth as model
 use Rattle.session_model.specs.Growth.{AppliesPrefix, SettlesOnce, DeliversRising}
@@ -11,33 +11,31 @@ use Rattle.session_model.specs.Lives.{Connection, Served, Life, served_on, Keeps
 use Rattle.session_model.specs.Guarantee.{OneEnd, Session}
 use Rattle.fixp_msgs.specs.declared.flow.Flow.{Flow}
 use Rattle.fixp_msgs.specs.declared.flow.Flow.TheVariants as flows
-use Rattle.fixp_machine.specs.Machine.{State, front_of}
+use Rattle.fixp_machine.specs.Machine.{State, Call}
 use Rattle.fixp_machine.specs.Accepting.{model_flow}
 use Rattle.connection_laws.specs.Writing.{Piece, bytes_written}
 use Rattle.connection_laws.specs.Framed.{IsLegalPiece}
-use Rattle.connection_laws.specs.Courses.{Waiting, Course, inbox_of, beginning, reply_to, accepted_by}
+use Rattle.connection_laws.specs.Courses.{Course, inbox_of, beginning, course_after}
 use Rattle.connection_laws.specs.Standing.{AllMayStand}
-use Rattle.connection_laws.specs.Connections.{connection_of, refused_by, refused_held}
+use Rattle.connection_laws.specs.Connections.{connection_of, AddsBehind, refused_tail}
 use Rattle.connection_laws.specs.Living.{Leg, course_of, MayRun, AllMayRun, state_behind, inbox_behind, life_on, Opens}
 use Rattle.two_ends.specs.Hearing.{came, CameFrom}
 
--- what an append that failed was to add: the records of the frame that waits, or that of the held message that the inbox awaits
-pub data Refusal : Type 0 where
-  of_frame : Waiting → Refusal
-  of_held : Numbered → Refusal
+-- what a call that failed was to make stable, all together, and the calls of the machine that add it
+pub record Refusal : Type 0 where
+  pub calls : List Call
+  pub tried : List InboxRecord
 
--- a connection has come to such an append
-abbrev pub IsRefusedAt : Course → Refusal → Type 0
-IsRefusedAt c (of_frame w) = c.waiting ≡ Some w
-IsRefusedAt c (of_held m) = front_of c.state ≡ Some m
+-- a connection has come to such a call, over an outbox with these entries
+abbrev pub IsRefusedAt : List Entry → Course → Refusal → Type 0
+IsRefusedAt h c q = AddsBehind h c q.calls q.tried
 
 -- what a life served on it
 abbrev pub refused_of : Course → Refusal → List Piece → Bool → Served
-refused_of c (of_frame w) whole drained = refused_by c w whole drained
-refused_of c (of_held m) whole drained = refused_held c m whole drained
+refused_of c q whole drained = refused_tail c (course_after c q.calls) q.tried whole drained
 
--- One connection of the machine: over an outbox with these entries it begins in this state, over this inbox. Where an append
--- failed on it, this is what was to be added
+-- One connection of the machine: over an outbox with these entries it begins in this state, over this inbox. Where a call of the
+-- inbox's disk failed on it, this is what it tried
 pub record Run : Type 0 where
   pub outbox : List Entry
   pub state : State
@@ -48,11 +46,18 @@ pub record Run : Type 0 where
 abbrev pub course_in : Run → Course
 course_in r = course_of r.state r.inbox r.leg
 
--- what it accepted, with the event of the frame whose records were to be added
+-- its calls, with those that add what such a call tried
+abbrev pub calls_behind : Option Refusal → List Call
+calls_behind None = []
+calls_behind (Some q) = q.calls
+
+abbrev pub heard_in : Run → List Call
+heard_in r = r.leg.calls ++ calls_behind r.refused
+
+-- what it accepted, with the events of the frames whose records were to be added
 abbrev pub accepted_in : Course → Option Refusal → List Event
 accepted_in c None = c.accepted
-accepted_in c (Some (of_frame w)) = c.accepted ++ accepted_by (reply_to c.state w) w.incoming
-accepted_in c (Some (of_held m)) = c.accepted
+accepted_in c (Some q) = (course_after c q.calls).accepted
 
 -- the connection in the session model's words
 abbrev pub connection_in : Run → Connection
@@ -63,7 +68,7 @@ pub record MayBegin (r : Run) : Type 0 where
   pub awaits : r.state.facts.recorded.inbox_next ≡ next_number r.inbox
   pub enough : r.state.facts.recorded.sent ≤ length r.outbox
   pub calls : AllMayStand r.outbox (beginning r.state r.inbox r.leg.moment) r.leg.calls
-  pub refused : IfSome r.refused (IsRefusedAt (course_in r))
+  pub refused : IfSome r.refused (IsRefusedAt r.outbox (course_in r))
 
 -- the frames that the link took whole, where these are the bytes that it took: of those written, the first, as far as it took all
 -- of their bytes
@@ -77,7 +82,7 @@ pub record TookWhole (c : Course) (sent : List ℕ) (whole : List Piece) : Type 
 pub record ReadsFrom (reader writer : Run) : Type 0 where
   pub sent : List ℕ
   pub written : IsPrefix sent (bytes_written (course_in writer).output)
-  pub came : CameFrom sent reader.leg.calls
+  pub came : CameFrom sent (heard_in reader)
   pub legal : AllByRecursion IsLegalPiece (course_in writer).output
   pub whole : TookWhole (course_in writer) sent writer.leg.whole
 
@@ -85,15 +90,15 @@ pub record ReadsFrom (reader writer : Run) : Type 0 where
 -- the other; to a connection in no pair no frame came
 pub data LinkedByBytes : List Run → List Run → Type 0 where
   no_more : LinkedByBytes [] []
-  left_alone : {a : Run} {as' bs : List Run} → came a.leg.calls ≡ [] → LinkedByBytes as' bs → LinkedByBytes (a ∷ as') bs
-  right_alone : {b : Run} {as' bs : List Run} → came b.leg.calls ≡ [] → LinkedByBytes as' bs → LinkedByBytes as' (b ∷ bs)
+  left_alone : {a : Run} {as' bs : List Run} → came (heard_in a) ≡ [] → LinkedByBytes as' bs → LinkedByBytes (a ∷ as') bs
+  right_alone : {b : Run} {as' bs : List Run} → came (heard_in b) ≡ [] → LinkedByBytes as' bs → LinkedByBytes as' (b ∷ bs)
   paired : {a b : Run} {as' bs : List Run} → ReadsFrom a b → ReadsFrom b a → LinkedByBytes as' bs → LinkedByBytes (a ∷ as') (b ∷ bs)
 
 abbrev pub LinksHold : Type 0
 LinksHold = (as' bs : List Run) → AllByRecursion MayBegin as' → AllByRecursion MayBegin bs → LinkedByBytes as' bs
     → Linked (map connection_in as') (map connection_in bs)
 
--- a last connection of a life, on which an append failed
+-- a last connection of a life, on which such a call failed
 pub record Refused : Type 0 where
   pub leg : Leg
   pub refusal : Refusal
@@ -137,10 +142,10 @@ runs_of l =
     runs_on (entries l.closing_outbox) l.state l.inbox l.legs
     ++ last_run (entries l.closing_outbox) (state_behind l.state l.inbox l.legs) (inbox_behind l.state l.inbox l.legs) l.last
 
--- on the last connection each call may come, and it has come to that append
+-- on the last connection each call may come, and it has come to that call
 pub record MayRefuse (h : List Entry) (s : State) (inbox : List InboxRecord) (r : Refused) : Type 0 where
   pub runs : MayRun h s inbox r.leg
-  pub refuses : IsRefusedAt (course_of s inbox r.leg) r.refusal
+  pub refuses : IsRefusedAt h (course_of s inbox r.leg) r.refusal
 
 -- the life is of an end with these flows, opens where it may, and on each of its connections each call may come
 pub record MayLive (own peer : Flow) (l : MachineLife) : Type 0 where

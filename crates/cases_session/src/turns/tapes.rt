@@ -290,14 +290,14 @@ fn begun<R: Wait>(alloc: Global, role: Role, rt: &R) -> Option<Disks> {
 }
 
 /// A disk with the same content.
-fn copied(alloc: Global, disk: &MemDisk) -> Option<MemDisk> {
+pub fn copied(alloc: Global, disk: &MemDisk) -> Option<MemDisk> {
     let mut copy = MemDisk::without_faults(alloc, DISK).ok()?;
     copy.write_at(0, disk.content()).ok()?;
     Some(copy)
 }
 
 /// Disks with the same content.
-fn both_copied(alloc: Global, disks: &Disks) -> Option<Disks> {
+pub fn both_copied(alloc: Global, disks: &Disks) -> Option<Disks> {
     Some(Disks {
         outbox: copied(alloc, &disks.outbox)?,
         inbox: copied(alloc, &disks.inbox)?,

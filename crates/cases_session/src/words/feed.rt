@@ -3,10 +3,11 @@
 use crate::words::lines::shown;
 use cases_words::{digits, halves, number};
 use conn_accepted::{Why, push_accepted_line, push_has_line, push_refused_line};
-use conn_tail::read_tail;
+use conn_tail::{cut_tail, read_tail};
 use fixp_msgs::is_application;
-use gw_fakes::MemDisk;
-use gw_outside::Disk;
+use gw_appended_fakes::MemAppended;
+use gw_fakes::Calls;
+use gw_outside::push_all;
 use plan_feed::{Fed, Piece, Wrong, push_wrong, read_line};
 use sbe_value::Bytes;
 use std::alloc::{AllocError, Global};
@@ -137,18 +138,44 @@ pub fn refused_line(alloc: Global, words: &str) -> Result<String, AllocError> {
     shown(alloc, lines.as_slice())
 }
 
+/// The most bytes of a file of lines.
+const ROOM: usize = 100_000;
+
+/// A file of these lines, whose calls of these numbers fail; None where it is too long.
+fn file_of(alloc: Global, parts: &str, fail: Vec<u64>) -> Result<Option<MemAppended>, AllocError> {
+    let text = text(alloc, parts)?;
+    if text.len() > ROOM {
+        return Ok(None);
+    }
+    let file = MemAppended::new(alloc, text.as_slice(), ROOM, Calls::from(fail))?;
+    Ok(Some(file))
+}
+
 /// The end of a file of lines.
 pub fn tail_line(alloc: Global, parts: &str) -> Result<String, AllocError> {
-    let text = text(alloc, parts)?;
-    let mut disk = MemDisk::without_faults(alloc, 100_000)?;
-    if disk.write_at(0, text.as_slice()).is_err() {
+    let Some(mut file) = file_of(alloc, parts, Vec::new(alloc))? else {
         return format!(in alloc; "tail no room");
-    }
-    match read_tail(alloc, &mut disk) {
-        Ok(tail) => {
+    };
+    match read_tail(alloc, &mut file) {
+        Ok(Some(tail)) => {
             let (whole, last) = (tail.whole, tail.last);
             format!(in alloc; "tail {whole} {last:?}")
         }
+        Ok(None) => format!(in alloc; "tail none"),
         Err(fault) => format!(in alloc; "tail {fault:?}"),
     }
+}
+
+/// A file of lines whose call of this number fails, 0 for none, behind the cut at its end and one line more.
+pub fn cut_line(alloc: Global, words: &str) -> Result<String, AllocError> {
+    let (call, parts) = halves(words);
+    let mut fail = Vec::new(alloc);
+    fail.push(number(call))?;
+    let Some(mut file) = file_of(alloc, parts, fail)? else {
+        return format!(in alloc; "cut no room");
+    };
+    let answer = cut_tail(alloc, &mut file);
+    let pushed = push_all(&mut file, b"x\n");
+    let left = shown(alloc, file.content())?.replace(alloc, "\n", "|")?;
+    format!(in alloc; "cut {answer:?}, then {pushed:?}: {left}")
 }

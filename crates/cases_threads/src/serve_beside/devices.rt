@@ -26,6 +26,8 @@ impl<'a, N: Dialer> MetDialer<'a, N> {
 impl<N: Dialer> Dialer for MetDialer<'_, N> {
     type Link = N::Link;
 
+    type Waker = N::Waker;
+
     ghost told = { λ d. N.told d.dialer };
 
     ghost lent = { λ d. N.lent d.dialer };
@@ -35,6 +37,10 @@ impl<N: Dialer> Dialer for MetDialer<'_, N> {
     fn next(&mut self, stop: &AtomicBool) -> Result<Next<N::Link>, Failed> {
         self.meeting.dial();
         self.dialer.next(stop)
+    }
+
+    fn waker(&self) -> N::Waker {
+        self.dialer.waker()
     }
 
     fn back(&mut self, link: N::Link) {

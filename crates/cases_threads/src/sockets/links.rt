@@ -152,7 +152,7 @@ pub fn broken<R: Net<Listener = TcpListener, Stream = TcpStream> + Clock + Alloc
 }
 
 /// The moment in milliseconds.
-fn moment<R: Clock>(rt: &R) -> u64 {
+pub fn moment<R: Clock>(rt: &R) -> u64 {
     match rt.monotonic() {
         Ok(moment) => moment.as_millis().min(u64::MAX as u128) as u64,
         Err(_) => 0,

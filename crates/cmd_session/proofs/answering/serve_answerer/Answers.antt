@@ -17,8 +17,8 @@ use Rattle.order_book_gate.specs.contracts.book_desk.BookDesk as BookDesk
 use Rattle.gate_plans.specs.contracts.door.OpenDoor as open_door
 use Rattle.life_laws.specs.Plans.{Senders}
 use Rattle.life_laws.specs.PlanLives.{clocked, LivesOnceClosed}
-use Rattle.business_laws.specs.Answered.{answering}
-use Rattle.business_laws.specs.Served.{AreParted}
+use Rattle.life_laws.specs.Answered.{answering}
+use Rattle.life_laws.specs.AnsweredLives.{AreParted}
 use Rattle.cmd_session.specs.Answers.{desks_of, plan_of}
 use Rattle.cmd_session.proofs.Crossing.{hand_send, desks_send, book_desk_send}
 use Rattle.cmd_session.proofs.Parted.{none_began, answerer_goes_on}

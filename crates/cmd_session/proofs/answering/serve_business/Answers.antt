@@ -9,8 +9,8 @@ use Rattle.gate_business.specs.Business.{lock_of, HasThese}
 use Rattle.conn_door.specs.declared.answer.ServeFault.TheVariants as faults
 use Rattle.conn_serve.specs.Moments.{beside}
 use Rattle.life_laws.specs.PlanLives.{clocked, LivesOnceClosed}
-use Rattle.business_laws.specs.Answered.{answering}
-use Rattle.business_laws.proofs.Boxes.{business_boxes}
+use Rattle.life_laws.specs.Answered.{answering}
+use Rattle.life_laws.proofs.BusinessBoxes.{business_boxes}
 use Rattle.cmd_session.proofs.Parted.{blamed_so}
 use Rattle.cmd_session.proofs.answering.serve_business.Goals as goal
 

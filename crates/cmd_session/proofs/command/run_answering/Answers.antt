@@ -1,5 +1,5 @@
 use Rattle.std.proofs.Common.{inl, inr, ℕ, ◌≤◌, refl, sym, ap, ◌∙◌, subst}
-use Rattle.business_laws.specs.Answered.{answering}
+use Rattle.life_laws.specs.Answered.{answering}
 use Rattle.jr_segments.specs.declared.journal.SegJournal.{SegJournal}
 use Rattle.jr_segments.specs.Journal.{disk_of}
 use Rattle.jr_dated.specs.declared.limits.Limits.{Limits}

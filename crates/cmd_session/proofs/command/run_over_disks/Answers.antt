@@ -1,5 +1,5 @@
 use Rattle.std.proofs.Common.{◌≡◌, inl, inr, ⊎_elim, ℕ, ◌<◌, sym, ap, ◌∙◌, subst}
-use Rattle.business_laws.specs.Answered.{answering}
+use Rattle.life_laws.specs.Answered.{answering}
 use Rattle.cmd_session.specs.Answers.{answers_of, answerers, desks_of, plan_of}
 use Rattle.cmd_session.specs.Outsides.{sees}
 use Rattle.cmd_session.proofs.Given.{answered_by}

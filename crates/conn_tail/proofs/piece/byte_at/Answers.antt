@@ -4,5 +4,5 @@ use Rattle.conn_tail.proofs.piece.byte_at.Goals as goal
 
 pub returns-clause-byte : goal.returns-clause-byte
 returns-clause-byte g c =
-    byte_told (g.D.Disk.told c.args.disk.now) c.bring.new.piece c.bring.new.part.at c.bring.new.part.size c.args.place _
+    byte_told (g.A.Sink.taken c.args.out.now) c.bring.new.piece c.bring.new.part.at c.bring.new.part.size c.args.place _
     c.in_ok-bring.ensures.stands c.in_ok-bring.ensures.before c.in_ok-bring.ensures.behind refl

@@ -1,6 +1,5 @@
 use Rattle.std.proofs.Common.{◌≡◌, ℕ, sym, subst, ◌∙◌, arith}
 use Rattle.conn_tail.specs.Places.{Passed}
-use Rattle.conn_tail.proofs.Told.{same_left}
 use Rattle.conn_tail.proofs.Walk.{one_passed, none_tells, this_tells}
 use Rattle.conn_tail.proofs.tail.last_number.Goals as goal
 
@@ -22,10 +21,9 @@ loop-end-preserved g c =
           let at_loop = sym c.in_ok-start.ensures.content ∙ at_number in
           one_passed content c.in_ok-start.start c.loop-end.end c.args.whole (c.loop-end.invariant.passed content at_loop) c.loop-end-test.true
           (c.in_ok-start.ensures.start content at_loop) (none content at_number);
-      stands = λ content e. c.in_ok-start.ensures.stands content (sym c.in_ok-start.ensures.content ∙ sym c.in_ok-number.ensures.content ∙ e);
-      most = c.in_ok-start.ensures.most;
+      stands = λ content e. c.in_ok-number.ensures.stands content (sym c.in_ok-number.ensures.content ∙ e);
+      most = c.in_ok-number.ensures.most;
       content = c.in_ok-number.ensures.content ∙ c.in_ok-start.ensures.content ∙ c.loop-end.invariant.content;
-      images = same_left _ _ _ c.loop-end.invariant.images (same_left _ _ _ c.in_ok-start.ensures.images c.in_ok-number.ensures.images);
       counted = omega (arith, c.loop-end.invariant.counted, c.in_ok-start.ensures.counted, c.in_ok-number.ensures.counted);
     }
 

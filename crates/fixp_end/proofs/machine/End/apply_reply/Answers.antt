@@ -33,5 +33,5 @@ invariant_of-self c = (
     messages = subst (AllByRecursion (λ (m : Numbered). IsApplication m.payload)) (sym c.let_go_at.ensures.held)
         (all_until (λ (m : Numbered). IsApplication m.payload) c.args.reply.ending (held_in c.self.inside.window) c.self.invariant.0.messages);
   },
-  tt,
+  λ some. absurd (false≢true some),
 )

@@ -1,0 +1,34 @@
+-- Laws of projections.
+use Rattle.std.specs.Prelude.{⊤, ◌≡◌, ℕ, ◌+◌, ◌≤◌, ◌^◌, ◌<◌, List, [], ◌∷◌, ◌++◌, length, take, All}
+use Rattle.hex.specs.Hex.{IsBytes}
+use Rattle.session_model.specs.Inbox.{Numbered}
+use Rattle.conn_out.specs.Messages.{deliver_lines}
+use Rattle.conn_out.specs.Projections.{Tells, Projects}
+
+-- a front of the messages of a projection is told by its front
+pub record FrontTells (content : List ℕ) (ms : List Numbered) : Type 0 where
+  pub count : ℕ
+  pub projects : Projects content (take count ms)
+
+-- Wherever a projection is cut off, what is left projects the first of its messages: so a run whose process ended at any moment is gone on with
+abbrev pub FrontsProject : Type 0
+FrontsProject = (content : List ℕ) (ms : List Numbered) (n : ℕ) → Projects content ms → FrontTells (take n content) ms
+
+-- a message as an inbox has it: its number has 64 bits, its payload 16,386 bytes at most
+pub record IsMessage (m : Numbered) : Type 0 where
+  pub size : m.number < 2 ^ 64
+  pub short : length m.payload ≤ 16386
+  pub each : IsBytes m.payload
+
+-- a text that tells of some messages, and the lines of more behind it, tell of all of them
+abbrev pub LinesTellOn : Type 0
+LinesTellOn = (text : List ℕ) (ms more : List Numbered) → Tells text ms → All IsMessage more → Tells (text ++ deliver_lines more) (ms ++ more)
+
+-- the numbers of messages rise, the first from this one on
+abbrev pub AreRising : ℕ → List Numbered → Type 0
+AreRising n [] = ⊤
+AreRising n (m ∷ ms) = (n ≤ m.number) × AreRising (m.number + 1) ms
+
+-- messages as an inbox has them
+abbrev pub AreMessages : List Numbered → Type 0
+AreMessages ms = All IsMessage ms

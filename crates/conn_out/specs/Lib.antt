@@ -1,0 +1,4 @@
+pub mod Messages
+pub mod Projections
+pub mod Laws
+pub mod Telling

@@ -1,0 +1,129 @@
+//! The messages of an inbox behind a number, told line by line.
+
+ghost use Rattle.std.specs.Prelude.{◌≡◌, ◌≤◌, ◌++◌, ℕ, false, List, [], drop, IfOk, IfErr, OnOk, OnErr, IsErrOf, IsTrue, IsFalse, All, ◌<◌};
+ghost use Rattle.std.specs.Io.KnownBytes.{Appends};
+ghost use Rattle.gw_outside.specs.Faults.{HasRisen, TakesFront};
+ghost use Rattle.jr_dated.specs.Dated.{Dated};
+ghost use Rattle.conn_lines.specs.Lines.{deliver_line};
+ghost use Rattle.conn_out.specs.Messages.{deliver_lines, messages_of, messages_in, TellsUpTo, IsPlaceBehind};
+ghost use Rattle.conn_out.specs.Telling.{Written};
+ghost use Rattle.conn_out.specs.declared.fault.OutFault.TheVariants as faults;
+
+use crate::fault::{OutFault, no_record};
+use conn_lines::push_deliver_line;
+use gw_outside::{Failed, Sink, push_all};
+use jr_dated::Journal;
+use jr_record::Record;
+use std::alloc::Global;
+
+/// How many bytes of lines are pushed at once, at least, but for the last.
+const PIECE: usize = 65_536;
+
+/// The bytes of the longest line, at most.
+const LONGEST: usize = 33_000;
+
+/// Whether a record tells that a message was applied whose number is this one or a lower one.
+fn is_up_to(record: &Record, last: u64) -> bool
+    ensures tells { IsTrue result → TellsUpTo record.now last }
+    ensures none { IsFalse result → All (λ m. last < m.number) (messages_of record.now) }
+{
+    match record {
+        Record::Apply { number, .. } => *number <= last,
+        _ => false,
+    }
+}
+
+/// The place of the first record behind the message of this number, from 0 on; it is looked for from the last record on.
+pub(crate) fn place_behind<J: Journal>(journal: &mut J, last: u64) -> Result<u64, OutFault>
+    requires sound { J.is_broken journal.old ≡ false }
+    ensures within { IfOk result (λ at. at ≤ J.count journal.old) }
+    ensures behind { IfOk result (λ at. (h : List Dated) → J.is_told journal.old → J.stands journal.old h → IsPlaceBehind h at last) }
+    ensures sound { OnOk result (J.is_broken journal.new ≡ false) }
+    ensures told { J.is_told journal.old → J.is_told journal.new }
+    ensures records { (h : List Dated) → J.stands journal.old h → J.stands journal.new h }
+    ensures count { J.count journal.new ≡ J.count journal.old }
+    ensures counted { J.faults journal.old ≤ J.faults journal.new }
+    ensures journal { IsErrOf result faults.Journal → HasRisen (J.faults journal.old) (J.faults journal.new) }
+{
+    let mut at = journal.len();
+    while at > 0 {
+        let (record, _) = match journal.read(at - 1) {
+            Ok(read) => read,
+            Err(fault) => return Err(no_record(fault)),
+        };
+        if is_up_to(&record, last) {
+            return Ok(at);
+        }
+        at -= 1;
+    }
+    Ok(0)
+}
+
+/// Adds the line of a message, and pushes what is held where that is enough for a piece.
+fn tell_message<K: Sink>(
+    out: &mut K,
+    lines: &mut Vec<u8>,
+    number: u64,
+    payload: &[u8],
+) -> Result<(), OutFault>
+    ensures ok { OnOk result ((base : _) (text : List ℕ) → Written base (K.taken out.old) lines.old.items text → Written base (K.taken out.new) lines.new.items (text ++ deliver_line number payload.now)) }
+    ensures err { OnErr result ((base : _) (text : List ℕ) → Written base (K.taken out.old) lines.old.items text → TakesFront base (K.taken out.new) (text ++ deliver_line number payload.now)) }
+    ensures counted { K.faults out.old ≤ K.faults out.new }
+    ensures output { IsErrOf result faults.Output → HasRisen (K.faults out.old) (K.faults out.new) }
+{
+    let Ok(()) = push_deliver_line(lines, number, payload) else {
+        return Err(OutFault::Memory);
+    };
+    if lines.len() < PIECE {
+        return Ok(());
+    }
+    tell_held(out, lines)
+}
+
+/// Pushes the lines that are held.
+fn tell_held<K: Sink>(out: &mut K, lines: &mut Vec<u8>) -> Result<(), OutFault>
+    ensures ok { OnOk result (Appends (K.taken out.old) (K.taken out.new) lines.old.items) }
+    ensures emptied { OnOk result (lines.new.items ≡ []) }
+    ensures err { OnErr result (TakesFront (K.taken out.old) (K.taken out.new) lines.old.items) }
+    ensures which { IfErr result (λ fault. fault ≡ faults.Output) }
+    ensures counted { K.faults out.old ≤ K.faults out.new }
+    ensures output { OnErr result (HasRisen (K.faults out.old) (K.faults out.new)) }
+{
+    match push_all(out, lines.as_slice()) {
+        Ok(()) => {
+            lines.clear();
+            Ok(())
+        }
+        Err(Failed) => Err(OutFault::Output),
+    }
+}
+
+/// Tells of the messages that the records from a place on tell to be applied, each once and in order.
+pub(crate) fn tell_from<J: Journal, K: Sink>(
+    alloc: Global,
+    journal: &mut J,
+    from: u64,
+    out: &mut K,
+) -> Result<(), OutFault>
+    requires sound { J.is_broken journal.old ≡ false }
+    requires within { from ≤ J.count journal.old }
+    ensures ok { OnOk result ((h : List Dated) → J.is_told journal.old → J.stands journal.old h → Appends (K.taken out.old) (K.taken out.new) (deliver_lines (messages_in (drop from h)))) }
+    ensures err { OnErr result ((h : List Dated) → J.is_told journal.old → J.stands journal.old h → TakesFront (K.taken out.old) (K.taken out.new) (deliver_lines (messages_in (drop from h)))) }
+    ensures counted { (K.faults out.old ≤ K.faults out.new) × (J.faults journal.old ≤ J.faults journal.new) }
+    ensures output { IsErrOf result faults.Output → HasRisen (K.faults out.old) (K.faults out.new) }
+    ensures journal { IsErrOf result faults.Journal → HasRisen (J.faults journal.old) (J.faults journal.new) }
+{
+    let Ok(mut lines) = Vec::with_capacity(alloc, PIECE + LONGEST) else {
+        return Err(OutFault::Memory);
+    };
+    for at in from..journal.len() {
+        match journal.read(at) {
+            Ok((Record::Apply { number, payload }, _)) => {
+                tell_message(out, &mut lines, number, payload.as_slice())?;
+            }
+            Ok(_) => {}
+            Err(fault) => return Err(no_record(fault)),
+        }
+    }
+    tell_held(out, &mut lines)
+}

@@ -1,0 +1,54 @@
+//! Why OUT was not gone on with.
+
+ghost use Rattle.std.specs.Prelude.{◌≡◌, ◌⊎◌};
+ghost use Rattle.conn_tail.specs.declared.fault.TailFault.TheVariants as tail;
+ghost use Rattle.jr_dated.specs.declared.faults.FetchFault.TheVariants as fetch;
+ghost use Rattle.conn_out.specs.declared.fault.OutFault.TheVariants as out;
+
+use conn_tail::TailFault;
+use jr_dated::FetchFault;
+use thiserror::Error;
+
+/// Why OUT was not gone on with.
+#[derive(Clone, Copy, Debug, PartialEq, Eq, Error)]
+pub enum OutFault {
+    /// OUT failed.
+    #[error("the output failed")]
+    Output,
+    /// OUT ended before its length.
+    #[error("the output is shorter than its length was")]
+    Short,
+    /// A call of the journal's disk failed, now or since its opening.
+    #[error("the journal's device failed")]
+    Journal,
+    /// The journal's disk gave no record where this one, from 0 on, was written.
+    #[error("a record of the journal has changed")]
+    Changed { at: u64 },
+    #[error("out of memory")]
+    Memory,
+}
+
+/// Why the end of OUT was not found.
+pub(crate) fn no_tail(fault: TailFault) -> OutFault
+    ensures output { (result ≡ out.Output) → fault ≡ tail.Device }
+    ensures short { (result ≡ out.Short) → fault ≡ tail.Short }
+    ensures journal { result ≡ out.Journal → ⊥ }
+{
+    match fault {
+        TailFault::Device => OutFault::Output,
+        TailFault::Short => OutFault::Short,
+        TailFault::Memory => OutFault::Memory,
+    }
+}
+
+/// Why a record was not read.
+pub(crate) fn no_record(fault: FetchFault) -> OutFault
+    ensures journal { result ≡ out.Journal → (fault ≡ fetch.Fault) ⊎ (fault ≡ fetch.Broken) }
+    ensures output { result ≡ out.Output → ⊥ }
+{
+    match fault {
+        FetchFault::Memory => OutFault::Memory,
+        FetchFault::Broken | FetchFault::Fault => OutFault::Journal,
+        FetchFault::Changed { at } => OutFault::Changed { at },
+    }
+}

@@ -1,0 +1,13 @@
+//! Laws of projections, which have empty bodies.
+
+ghost use Rattle.conn_out.specs.Laws.{FrontsProject, LinesTellOn};
+
+/// Wherever a projection is cut off, what is left projects the first of its messages.
+pub fn fronts_project()
+    ensures law { FrontsProject }
+{}
+
+/// A text that tells of some messages, and the lines of more behind it, tell of all of them.
+pub fn lines_tell_on()
+    ensures law { LinesTellOn }
+{}
