@@ -1,8 +1,9 @@
 //! Sessions of two ends over their turns: two connections against each other over pipes in memory, with gates, journals and inboxes
 //! as a session has them. Senders submit between the turns, links give and take a part or a byte at a time, and connections are cut
 //! where it is drawn; the last one is not. The journals are opened again and judged by plain lists. Before them stand rows of whole turns,
-//! by `turns.txt`, a long session over a link with losses, and sessions of which one end is stopped at each call of a disk; behind them each end hears what an honest peer sends in a connection with
-//! one byte changed, by `tapes.txt`. What the program has to print stands in `stdout`, worked out by hand.
+//! by `turns.txt`, a long session over a link with losses, and sessions of which one end is stopped at each call of a disk; behind them
+//! each end hears what an honest peer sends in a connection with one byte changed, by `tapes.txt`. What the program has to print stands
+//! in `stdout`, worked out by hand.
 
 mod judge;
 mod losses;
@@ -154,7 +155,7 @@ pub fn print<R: Files + Print + AllocGlobal + Wait>(rt: &R) -> io::Result<()> {
     print_losses(rt, Role::Acceptor)?;
     for role in [Role::Acceptor, Role::Initiator] {
         print_stopped(rt, role, 3)?;
-        print_stopped(rt, role, 15)?;
+        print_stopped(rt, role, 14)?;
     }
     print_sessions(rt)?;
     let lines = fs::read_to_string(rt, "tapes.txt")?;
