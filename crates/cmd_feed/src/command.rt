@@ -1,0 +1,256 @@
+//! The whole of `accept` and `connect` with ACCEPTED.
+
+ghost use Rattle.std.specs.Prelude.{◌≡◌, ◌⊎◌, ◌+◌, ◌<◌, ◌≤◌, ◌^◌, false, [], ◌∷◌, length, IfErr, OnOk, OnErr, codes};
+ghost use Rattle.fixp_msgs.specs.declared.flow.Flow.TheVariants as flows;
+ghost use Rattle.jr_kept.specs.Outbox as outboxes;
+ghost use Rattle.jr_kept.specs.Inbox as inboxes;
+ghost use Rattle.sbe_value.specs.declared.path.Step.TheVariants.{Key};
+ghost use Rattle.toml_walk.specs.declared.fault.TomlFault.TheVariants.{Range};
+ghost use Rattle.schema_toml.specs.declared.fault.ConfigFault.TheVariants.{Toml};
+ghost use Rattle.cmd_session.specs.Outsides.{sees};
+ghost use Rattle.cmd_feed.specs.Outsides.{feed_sees, NoneFellFed};
+
+use crate::going_on::out_on;
+use crate::life::live_feeding;
+use crate::outside::FeedOutside;
+use cmd_base::{Status, begin, read_config};
+use cmd_config::{Configuration, Trade};
+use cmd_session::{Live, Role, close_inbox, close_outbox, end_config, open_boxes};
+use fixp_shake::EndConfig;
+use gw_appended::Appended;
+use gw_links::{Clock, Dialer};
+use gw_outside::{Disk, Sink, Source};
+use jr_dated::Journal;
+use jr_kept::{Inbox, Outbox};
+use jr_segments::SegJournal;
+use schema_toml::ConfigFault;
+use std::alloc::Global;
+use std::sync::Wait;
+use std::sync::atomic::AtomicBool;
+use std::thread::Threads;
+use toml_walk::out_of_range;
+
+/// Refuses a configuration with desks: what is sent is what they answer, and nothing comes of INPUT.
+///
+/// # Errors
+/// The key `desks` is out of range; or `Memory`.
+fn without_desks(alloc: Global, trade: Trade) -> Result<(), Status>
+    ensures none { OnOk result (trade.desks ≡ 0) }
+    ensures has { OnErr result (0 < trade.desks) }
+    ensures refused { IfErr result (λ status. (status ≡ Status.Config (Toml (Range (Key (codes "desks") ∷ [])))) ⊎ (status ≡ Status.Memory)) }
+{
+    if trade.desks == 0 {
+        return Ok(());
+    }
+    let fault = ConfigFault::Toml(out_of_range(alloc, "desks"));
+    Err(if fault.is_memory() {
+        Status::Memory
+    } else {
+        Status::Config(fault)
+    })
+}
+
+/// Begins ACCEPTED, and lives over the boxes. ACCEPTED and the outbox come back with the status.
+fn feed_over_boxes<
+    I: Source + Send,
+    A: Sink + Send,
+    K: Sink,
+    D: Disk + Send,
+    N: Dialer,
+    C: Clock,
+    R: Threads + Wait + Sync,
+>(
+    rt: &R,
+    alloc: Global,
+    end: EndConfig,
+    senders: u8,
+    devices: &mut Live<K, N, C>,
+    input: &mut I,
+    over: &AtomicBool,
+    accepted: A,
+    outbox: Outbox<SegJournal<D>>,
+    inbox: &mut Inbox<SegJournal<D>>,
+) -> (Status, A, Outbox<SegJournal<D>>)
+    requires least { 100 ≤ end.keepalive }
+    requires greatest { end.keepalive ≤ 60000 }
+    requires credentials { length end.credentials ≤ 2048 }
+    requires few { senders ≤ 16 }
+    requires sound { outboxes.is_broken outbox ≡ false }
+    requires in_sound { inboxes.is_broken inbox.old ≡ false }
+    requires lent { N.lent devices.old.dialer ≡ false }
+    requires flow { inboxes.flow_of inbox.old ≡ end.peer_flow }
+    requires limit { (inboxes.limits_of inbox.old).entries ≡ 2 ^ 26 }
+    requires numbered { inboxes.flow_of inbox.old ≡ flows.Recoverable → inboxes.next_of inbox.old + 1 < 2 ^ 64 }
+    requires few_entries { outboxes.front_of outbox < 2 ^ 40 }
+    ensures lent { N.lent devices.new.dialer ≡ false }
+    ensures never_falls { (K.faults devices.old.out ≤ K.faults devices.new.out) × (N.faults devices.old.dialer ≤ N.faults devices.new.dialer) }
+    ensures boxes_never_fall { (outboxes.faults_of outbox ≤ outboxes.faults_of result.2) × (inboxes.faults_of inbox.old ≤ inboxes.faults_of inbox.new) }
+    ensures streams_never_fall { (A.faults accepted ≤ A.faults result.1) × (I.faults input.old ≤ I.faults input.new) }
+{
+    let (mut accepted, mut outbox) = (accepted, outbox);
+    match begin(&mut accepted) {
+        Ok(()) => {}
+        Err(_) => return (Status::OutputFault, accepted, outbox),
+    }
+    // A sender may add an entry before the first turn of a connection.
+    let now = devices.clock.now();
+    outbox.at(now);
+    live_feeding(
+        rt, alloc, end, senders, devices, input, over, accepted, outbox, inbox,
+    )
+}
+
+/// Goes on with OUT, and feeds over the boxes. ACCEPTED and both disks come back with the status.
+fn feed_behind_out<
+    I: Source + Send,
+    A: Sink + Send,
+    K: Appended,
+    D: Disk + Send,
+    N: Dialer,
+    C: Clock,
+    R: Threads + Wait + Sync,
+>(
+    rt: &R,
+    alloc: Global,
+    end: EndConfig,
+    senders: u8,
+    devices: &mut Live<K, N, C>,
+    input: &mut I,
+    over: &AtomicBool,
+    accepted: A,
+    outbox: Outbox<SegJournal<D>>,
+    inbox: Inbox<SegJournal<D>>,
+) -> (Status, A, D, D)
+    requires least { 100 ≤ end.keepalive }
+    requires greatest { end.keepalive ≤ 60000 }
+    requires credentials { length end.credentials ≤ 2048 }
+    requires few { senders ≤ 16 }
+    requires sound { outboxes.is_broken outbox ≡ false }
+    requires in_sound { inboxes.is_broken inbox ≡ false }
+    requires lent { N.lent devices.old.dialer ≡ false }
+    requires few_entries { outboxes.front_of outbox < 2 ^ 40 }
+    ensures lent { N.lent devices.new.dialer ≡ false }
+    ensures never_falls { (K.faults devices.old.out ≤ K.faults devices.new.out) × (N.faults devices.old.dialer ≤ N.faults devices.new.dialer) }
+    ensures disks_never_fall { (outboxes.faults_of outbox ≤ D.faults result.2) × (inboxes.faults_of inbox ≤ D.faults result.3) }
+    ensures streams_never_fall { (A.faults accepted ≤ A.faults result.1) × (I.faults input.old ≤ I.faults input.new) }
+{
+    let mut inbox = match out_on(alloc, end.peer_flow, &mut devices.out, inbox) {
+        Ok(inbox) => inbox,
+        Err((status, disk)) => return (status, accepted, close_outbox(outbox), disk),
+    };
+    let (status, accepted, outbox) = feed_over_boxes(
+        rt, alloc, end, senders, devices, input, over, accepted, outbox, &mut inbox,
+    );
+    (status, accepted, close_outbox(outbox), close_inbox(inbox))
+}
+
+/// Opens the boxes of a session on their disks, and runs over them; the devices come back with the status.
+fn feed_over_disks<
+    S: Source,
+    I: Source + Send,
+    K: Appended,
+    A: Sink + Send,
+    D: Disk + Send,
+    N: Dialer,
+    C: Clock,
+    R: Threads + Wait + Sync,
+>(
+    rt: &R,
+    alloc: Global,
+    end: EndConfig,
+    senders: u8,
+    outside: FeedOutside<S, I, K, A, D, N, C>,
+    over: &AtomicBool,
+) -> (Status, FeedOutside<S, I, K, A, D, N, C>)
+    requires least { 100 ≤ end.keepalive }
+    requires greatest { end.keepalive ≤ 60000 }
+    requires credentials { length end.credentials ≤ 2048 }
+    requires few { senders ≤ 16 }
+    requires lent { N.lent outside.dialer ≡ false }
+    ensures config { result.1.config ≡ outside.config }
+    ensures lent { N.lent result.1.dialer ≡ false }
+    ensures none_fell { NoneFellFed (feed_sees (sees S.Source K.Sink D.Disk N.Dialer N.Link.Link C.Clock) K.keeps I.Source A.Sink) outside result.1 }
+{
+    let FeedOutside {
+        config,
+        mut input,
+        out,
+        accepted,
+        out_disk,
+        in_disk,
+        dialer,
+        clock,
+    } = outside;
+    let mut devices = Live { out, dialer, clock };
+    let (status, accepted, out_disk, in_disk) = match open_boxes(
+        alloc,
+        end.peer_flow,
+        out_disk,
+        in_disk,
+    ) {
+        Ok((outbox, inbox)) => feed_behind_out(
+            rt,
+            alloc,
+            end,
+            senders,
+            &mut devices,
+            &mut input,
+            over,
+            accepted,
+            outbox,
+            inbox,
+        ),
+        Err((status, out_disk, in_disk)) => (status, accepted, out_disk, in_disk),
+    };
+    let Live { out, dialer, clock } = devices;
+    let outside = FeedOutside {
+        config,
+        input,
+        out,
+        accepted,
+        out_disk,
+        in_disk,
+        dialer,
+        clock,
+    };
+    (status, outside)
+}
+
+/// `accept` for an acceptor, and `connect` for an initiator, where INPUT is read as it comes: one life of the session that CONFIG configures, over the
+/// journals on the two disks. ACCEPTED is told how many messages the outbox has of each sender, and then what became of each line of INPUT, once it is
+/// stable. CONFIG comes first, which has no desks, then the journals, the outbox first, then OUT, which goes on with what earlier runs told, and then
+/// ACCEPTED is begun; where one of them is refused or fails, all behind it is left as it was. Once the connections are over, `over` is set, and INPUT is
+/// not waited for.
+pub fn run_feeding<
+    S: Source,
+    I: Source + Send,
+    K: Appended,
+    A: Sink + Send,
+    D: Disk + Send,
+    N: Dialer,
+    C: Clock,
+    R: Threads + Wait + Sync,
+>(
+    rt: &R,
+    alloc: Global,
+    role: Role,
+    outside: FeedOutside<S, I, K, A, D, N, C>,
+    over: &AtomicBool,
+) -> (Status, FeedOutside<S, I, K, A, D, N, C>)
+    requires lent { N.lent outside.dialer ≡ false }
+    ensures lent { N.lent result.1.dialer ≡ false }
+    ensures none_fell { NoneFellFed (feed_sees (sees S.Source K.Sink D.Disk N.Dialer N.Link.Link C.Clock) K.keeps I.Source A.Sink) outside result.1 }
+{
+    let mut outside = outside;
+    let configuration = match read_config::<S, Configuration>(alloc, role, &mut outside.config) {
+        Ok(configuration) => configuration,
+        Err(status) => return (status, outside),
+    };
+    let Configuration { link, trade } = configuration;
+    match without_desks(alloc, trade) {
+        Ok(()) => {}
+        Err(status) => return (status, outside),
+    }
+    let end = end_config(role, link);
+    feed_over_disks(rt, alloc, end, trade.senders, outside, over)
+}
