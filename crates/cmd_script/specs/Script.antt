@@ -1,5 +1,5 @@
 -- The script of a rehearsal as a TOML table: its keys in the order in which they are visited (this project's profile).
-use Rattle.std.specs.Prelude.{ℕ, ◌*◌, ◌^◌, ◌==◌, ◌≡◌, ◌≤◌, ◌&&◌, Bool, false, not, nat_le, if◌then◌else◌, List, [], ◌∷◌, length, replicate, All, Result, Ok, codes}
+use Rattle.std.specs.Prelude.{ℕ, ◌*◌, ◌^◌, ◌==◌, ◌≡◌, ◌≤◌, Bool, false, not, nat_le, if◌then◌else◌, List, [], ◌∷◌, length, replicate, All, Result, Ok, codes}
 use Rattle.toml.specs.Data.{Data}
 use Rattle.fixp_msgs.specs.declared.flow.Flow.{Flow}
 use Rattle.toml_walk.specs.Reading.{Read, ◌>>=◌}
@@ -78,13 +78,9 @@ allows_client client = not (is_none client)
 abbrev pub allows_messages : ℕ → ℕ → Bool
 allows_messages senders messages = nat_le (senders * messages) 100000
 
--- the acceptor has no desks yet, so that no script may ask for one
-abbrev pub desks_are_built : Bool
-desks_are_built = false
-
 -- there are no desks exactly where the acceptor sends nothing
 abbrev pub allows_desks : Flow → ℕ → Bool
-allows_desks server desks = if desks == 0 then is_none server else desks_are_built && not (is_none server)
+allows_desks server desks = if desks == 0 then is_none server else not (is_none server)
 
 -- ---- the keys
 
@@ -148,12 +144,17 @@ script_of_text = limited (λ text. of_text (script_of_document text))
 abbrev pub IsCount : ℕ → Type 0
 IsCount count = count ≤ 100000
 
+-- some senders, 16 at most, and as many desks at most; and versions of the order schema that there are
 pub record IsLoadInRange (l : Load) : Type 0 where
   pub some : 1 ≤ length l.messages
   pub few : length l.messages ≤ 16
   pub counts : All IsCount l.messages
+  pub desks : l.desks ≤ 16
+  pub initiator_version : (1 ≤ l.initiator_version) × (l.initiator_version ≤ 2)
+  pub desk_version : (1 ≤ l.desk_version) × (l.desk_version ≤ 2)
+  pub reference : (1 ≤ l.reference) × (l.reference ≤ 10 ^ 15)
 
--- no desks are built, so that the acceptor sends nothing
+-- the initiator sends
 pub record IsScript (s : Script) : Type 0 where
   pub link : IsLinkInRange s.link
   pub client : is_none s.link.client_flow ≡ false

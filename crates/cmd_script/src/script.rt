@@ -28,9 +28,6 @@ pub const MESSAGES: Range = Range {
     greatest: 100_000,
 };
 
-/// Whether the acceptor has desks. Until then no script may ask for one.
-const DESKS_ARE_BUILT: bool = false;
-
 /// A number for each sender, from sender 1 on.
 pub type Counts = List<u64>;
 
@@ -97,7 +94,7 @@ fn allows_desks(server: Flow, desks: u64) -> bool
     if desks == 0 {
         is_none(server)
     } else {
-        DESKS_ARE_BUILT && !is_none(server)
+        !is_none(server)
     }
 }
 

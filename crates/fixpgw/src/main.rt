@@ -4,6 +4,7 @@
 
 mod rehearsals;
 mod sessions;
+mod soaks;
 
 use cmd_files::{Report, VERSION, asked, finish, run_over_files, usage_fault};
 use cmd_run::{Status, command_of};
@@ -11,6 +12,7 @@ use gw_real::{FileDisk, Opening};
 use rehearsals::{RehearsalFiles, rehearse_over_files};
 use session_files::Session;
 use sessions::{SessionFiles, run_over_sockets};
+use soaks::{SoakFile, soak_over_file};
 use std::fs::File;
 use std::io;
 use std::process::ExitCode;
@@ -67,6 +69,9 @@ fn run_words<R: Threads + Wait + Sync + Files<File = File> + Print + Eprint + Al
     if let Some(files) = RehearsalFiles::of(words) {
         return rehearse_over_files(rt, files);
     }
+    if let Some(file) = SoakFile::of(words) {
+        return soak_over_file(rt, file);
+    }
     let report = if command_of(words).is_some() {
         run_over_files(rt, words)
     } else {
@@ -84,8 +89,10 @@ fn main(rt: HostRuntime) -> ExitCode {
     if let Some(text) = asked(words) {
         return show(&rt, text);
     }
-    let Some(session) = Session::of(words) else {
-        return run_words(&rt, words);
+    // The form with ACCEPTED is none of the program's yet.
+    let session = match Session::of(words) {
+        Some(session) if session.accepted.is_none() => session,
+        _ => return run_words(&rt, words),
     };
     let (others, journals) = (session.others(), session.journals());
     let files = SessionFiles {
