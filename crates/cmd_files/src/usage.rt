@@ -23,6 +23,7 @@ const USAGE: &str =
   fixpgw journal OUTBOX INBOX OUT       prints both journals to OUT
   fixpgw migrate OLD NEW                moves a journal of format 1 to a file of its own, in the format of today
   fixpgw rehearse CONFIG OUT            runs two ends in memory by the script in CONFIG, and prints what both hold to OUT
+  fixpgw soak N OUT                     runs two ends in memory over N messages, with cuts, and prints what both hold to OUT
   fixpgw COMMAND --help                 what a command takes and does
   fixpgw --help                         this text
   fixpgw --version                      the name and the version
@@ -119,12 +120,21 @@ for INBOX. The first byte of NEW is written last: cut off at any moment, it leav
 
 const REHEARSE: &str = "usage: fixpgw rehearse CONFIG OUT
 
-Runs two ends of a session in memory, an initiator and an acceptor, as a script says: when messages are submitted, how many
-rounds run, when the connection is cut. Behind the last step it goes on until both ends have finished, and prints what their
-journals hold. No file is touched but these two, and no address is opened.
+Runs two ends of a session in memory, an initiator whose senders send orders, and an acceptor that may have desks or a book, as a
+script says: when messages are submitted, how many rounds run, when the connection is cut, when an end is stopped. Behind the last
+step it goes on until both ends have finished, and prints what their journals hold. No file is touched but these two, and no address is
+opened.
 
   CONFIG   the script, as TOML (read)
   OUT      a line for each sender, a line for each end, and `finished` (written); - is standard output";
+
+const SOAK: &str = "usage: fixpgw soak N OUT
+
+Runs two ends of a session in memory, as rehearse does, by a script that is made from N alone: four senders, among whom N orders are
+dealt out, against three desks, over recoverable flows, with a cut behind each 5,000 orders. It prints the same at each run.
+
+  N        how many orders, 4 to 100000
+  OUT      a line for each sender and each desk, a line for each end, and `finished` (written); - is standard output";
 
 /// The usage of a command, if there is such a command.
 fn usage_of(command: &str) -> Option<&'static str> {
@@ -139,6 +149,7 @@ fn usage_of(command: &str) -> Option<&'static str> {
         "journal" => Some(JOURNAL),
         "migrate" => Some(MIGRATE),
         "rehearse" => Some(REHEARSE),
+        "soak" => Some(SOAK),
         _ => None,
     }
 }

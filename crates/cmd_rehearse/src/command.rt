@@ -83,7 +83,7 @@ fn give<K: Sink>(alloc: Global, rehearsal: &Rehearsal, out: &mut K) -> Outcome
 
 /// Runs a script, and gives the lines.
 #[tactic(auto, using(crate::proofs::Giving::keeps_self))]
-fn run_script<R: Threads + Wait + Sync, K: Sink>(
+pub(crate) fn run_script<R: Threads + Wait + Sync, K: Sink>(
     rt: &R,
     alloc: Global,
     script: &Script,

@@ -4,6 +4,7 @@
 
 mod rehearsals;
 mod sessions;
+mod soaks;
 
 use cmd_files::{Report, VERSION, asked, finish, run_over_files, usage_fault};
 use cmd_run::{Status, command_of};
@@ -11,6 +12,7 @@ use gw_real::{FileDisk, Opening};
 use rehearsals::{RehearsalFiles, rehearse_over_files};
 use session_files::Session;
 use sessions::{SessionFiles, run_over_sockets};
+use soaks::{SoakFile, soak_over_file};
 use std::fs::File;
 use std::io;
 use std::process::ExitCode;
@@ -66,6 +68,9 @@ fn run_words<R: Threads + Wait + Sync + Files<File = File> + Print + Eprint + Al
 ) -> ExitCode {
     if let Some(files) = RehearsalFiles::of(words) {
         return rehearse_over_files(rt, files);
+    }
+    if let Some(file) = SoakFile::of(words) {
+        return soak_over_file(rt, file);
     }
     let report = if command_of(words).is_some() {
         run_over_files(rt, words)

@@ -31,9 +31,9 @@ pub struct RehearsalFiles<'a> {
 
 /// How a rehearsal ended, and what is wrong, where there was memory to say it.
 #[derive(Drop)]
-struct RehearsalReport {
-    outcome: Outcome,
-    line: Option<String>,
+pub struct RehearsalReport {
+    pub outcome: Outcome,
+    pub line: Option<String>,
 }
 
 impl<'a> RehearsalFiles<'a> {
@@ -142,17 +142,14 @@ fn print_line<R: Eprint>(rt: &R, report: &RehearsalReport) {
     };
 }
 
-/// Runs a rehearsal over these files, and prints its status on standard output, and what is wrong on standard error.
-pub fn rehearse_over_files<
-    R: Threads + Wait + Sync + Files<File = File> + Print + Eprint + AllocGlobal,
->(rt: &R, files: RehearsalFiles<'_>) -> ExitCode {
-    let report = report_of(rt, files);
+/// Prints the status of a rehearsal on standard output, and what is wrong on standard error.
+pub fn print_report<R: Print + Eprint>(rt: &R, report: &RehearsalReport) -> ExitCode {
     let code = report.outcome.code();
     let name = report.outcome.name();
     match println!(rt; "status {code} {name}") {
         Ok(()) => {
             if code != 0 {
-                print_line(rt, &report);
+                print_line(rt, report);
             }
             ExitCode::from(code)
         }
@@ -161,4 +158,12 @@ pub fn rehearse_over_files<
             ExitCode::from(Outcome::OutputFault.code())
         }
     }
+}
+
+/// Runs a rehearsal over these files, and prints its status on standard output, and what is wrong on standard error.
+pub fn rehearse_over_files<
+    R: Threads + Wait + Sync + Files<File = File> + Print + Eprint + AllocGlobal,
+>(rt: &R, files: RehearsalFiles<'_>) -> ExitCode {
+    let report = report_of(rt, files);
+    print_report(rt, &report)
 }

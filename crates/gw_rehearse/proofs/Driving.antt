@@ -1,6 +1,6 @@
 -- An end that is driven: where it stands behind a call, and who has its passes.
-use Rattle.std.proofs.Common.{◌≡◌, inl, inr, ℕ, zero, suc, ◌+◌, ◌*◌, ◌<◌, ◌≤◌, ◌^◌, true, false, Bool, if◌then◌else◌, [], ◌∷◌, List, length, Option, Some, None, Result, Ok, Err, refl, sym, ap, subst, ◌∙◌, arith}
-use Rattle.std.specs.Prelude.{⊤, ◌⊎◌, All, slice_index_or, OnOk, IfOk, IfErr, IfSome, IsSome, is_some}
+use Rattle.std.proofs.Common.{◌≡◌, Vec, Global, inl, inr, ℕ, zero, suc, ◌+◌, ◌*◌, ◌<◌, ◌≤◌, ◌^◌, true, false, Bool, if◌then◌else◌, [], ◌∷◌, List, length, Option, Some, None, Result, Ok, Err, refl, sym, ap, subst, ◌∙◌, arith}
+use Rattle.std.specs.Prelude.{⊤, ◌⊎◌, All, vec_len, slice_index_or, OnOk, IfOk, IfErr, IfSome, IsSome, is_some}
 use Rattle.std.specs.Result.{result_ok}
 use Rattle.session_model.specs.Journal.{History, BeginsHistory}
 use Rattle.session_model.proofs.Lists.{prefix_length}
@@ -10,7 +10,7 @@ use Rattle.fixp_replies.specs.Events.{link_ending}
 use Rattle.fixp_machine.specs.Machine.{State, around, step, taken, fresh}
 use Rattle.jr_dated.specs.declared.journal.Journal.{Ghosts}
 use Rattle.jr_kept.specs.declared.inbox.Inbox.{Inbox}
-use Rattle.jr_kept.specs.Inbox.{flow_of, limits_of, next_of, is_negotiated, peer_last_of}
+use Rattle.jr_kept.specs.Inbox.{SameContent, flow_of, limits_of, next_of, is_negotiated, peer_last_of}
 use Rattle.gate_turn.specs.Views.{Part}
 use Rattle.gate_turn.specs.Places.{known}
 use Rattle.gate_turn.specs.Listed.{pass_at, known_if, known_at}
@@ -39,10 +39,20 @@ use Rattle.turn_laws.specs.Turned.{WasTurn, WasCut}
 use Rattle.fixp_shake.specs.declared.config.EndConfig.{EndConfig}
 use Rattle.conn_loop.proofs.Working.{seen_same}
 use Rattle.fixp_replies.specs.declared.facts.EndState.{EndState}
+use Rattle.jr_dated.specs.declared.faults.FetchFault.TheVariants as fetch
+use Rattle.jr_boxes.specs.declared.faults.SubmitFault.{SubmitFault}
+use Rattle.jr_boxes.specs.declared.faults.SubmitFault.TheVariants as submit
+use Rattle.gate_business.specs.declared.business.ResumeFault.{ResumeFault}
+use Rattle.gate_business.specs.declared.business.ResumeFault.TheVariants as resuming
+use Rattle.order_staff.specs.declared.posts.Posts.{Posts}
+use Rattle.order_staff.specs.declared.posts.Posts.TheVariants as posts
+use Rattle.order_staff.specs.declared.staff.Staff.{Staff}
+use Rattle.order_staff.specs.declared.staff.Staff.TheVariants as staffs
+use Rattle.order_staff.specs.Staffs.{count_of, posts_of, HasStaff, IsSeatedAt, MayBe}
 use Rattle.gw_rehearse.specs.declared.standing.Standing.{Standing}
 use Rattle.gw_rehearse.specs.declared.standing.Standing.TheVariants as standings
 use Rattle.gw_rehearse.specs.Driven.{IsMadeOf}
-use Rattle.gw_rehearse.specs.Standing.{standing_of, HasSeats, KeepsPasses, UsesFirst, CanTurn, Rests, Stands, WasMade}
+use Rattle.gw_rehearse.specs.Standing.{standing_of, refused_by, resumed_by, is_given, is_failed, KeepsPasses, UsesFirst, CanTurn, Rests, Stands, WasMade}
 
 -- ---- the place
 
@@ -229,42 +239,115 @@ module _ {J : Type 0} {G : Ghosts J} where
   pub made_stands : (h : History) (most : ℕ) (l : Line) (p : Part) (box : Inbox J G) → ((p : Part) → BeginsHistory h p.seen → Rests l.machine p box) → BeginsHistory h p.seen → Stands standings.Over l most p box
   made_stands h most l p box may begins = record { turns = λ e. cc; begins = λ _. may p begins }
 
+  -- the next connection may begin over an inbox of the same content
+  pub resumed_rests : (m : State) (p : Part) (old new : Inbox J G) → SameContent old new → (limits_of new ≡ limits_of old) × (flow_of new ≡ flow_of old) → Rests m p old → Rests m p new
+  resumed_rests m p old new content kind h =
+      let a = h.agrees in
+      record {
+        over = h.over;
+        time = h.time;
+        sent = h.sent;
+        credentials = h.credentials;
+        seen = h.seen;
+        agrees = record {
+          flow = kind.1 ∙ a.flow;
+          most = let most = a.most in let same = ap (λ l. l.entries) kind.0 in omega (arith, most, same);
+          next = content.next ∙ a.next;
+          negotiated = content.negotiated ∙ a.negotiated;
+          peer_last = content.peer_last ∙ a.peer_last;
+        };
+      }
+
+-- how a standing may follow another, once what a turn applied was answered
+abbrev pub Follows : (s new : Standing) → Type 0
+Follows s new = (new ≡ s) ⊎ ((is_given s ≡ false) × (is_failed s ≡ false) × ((new ≡ standings.Failed) ⊎ (new ≡ standings.GivenUp)))
+
+pub given_follows : (s : Standing) → is_failed s ≡ false → is_given s ≡ false → Follows s standings.GivenUp
+given_follows s whole sound = inr (sound, whole, inr refl)
+
+pub refused_follows : (s new : Standing) (r : Result (Unit {0}) SubmitFault) → new ≡ refused_by s r → is_failed s ≡ false → is_given s ≡ false → Follows s new
+refused_follows s new (Ok _) is whole sound = inl is
+refused_follows s new (Err submit.Closed) is whole sound = inl is
+refused_follows s new (Err submit.Fault) is whole sound = inr (sound, whole, inl is)
+refused_follows s new (Err submit.Broken) is whole sound = inr (sound, whole, inl is)
+refused_follows s new (Err (submit.Full entries bytes)) is whole sound = inr (sound, whole, inr is)
+refused_follows s new (Err submit.Memory) is whole sound = inr (sound, whole, inr is)
+
+-- who took their place does not leave a connection
+pub resumed_closed : (r : Result (Unit {0}) ResumeFault) → resumed_by r ≡ standings.Open → ⊥
+resumed_closed (Ok _) is = cc
+resumed_closed (Err (resuming.Submit submit.Closed)) is = cc
+resumed_closed (Err (resuming.Submit submit.Fault)) is = cc
+resumed_closed (Err (resuming.Submit submit.Broken)) is = cc
+resumed_closed (Err (resuming.Submit (submit.Full entries bytes))) is = cc
+resumed_closed (Err (resuming.Submit submit.Memory)) is = cc
+resumed_closed (Err (resuming.Fetch fetch.Fault)) is = cc
+resumed_closed (Err (resuming.Fetch fetch.Broken)) is = cc
+resumed_closed (Err (resuming.Fetch fetch.Memory)) is = cc
+resumed_closed (Err (resuming.Fetch (fetch.Changed at))) is = cc
+
+module _ {J : Type 0} {G : Ghosts J} where
+  -- where it does not stand as it did, nothing is asked of where it stands
+  pub answered_stands : (s new : Standing) (l : Line) (most : ℕ) (p : Part) (box : Inbox J G) → Follows s new → Stands s l most p box → Stands new l most p box
+  answered_stands s new l most p box (inl same) h = subst (λ (x : Standing). Stands x l most p box) (sym same) h
+  answered_stands s new l most p box (inr (sound, whole, inl failed)) h = record {
+    turns = λ e. let x : standings.Failed ≡ standings.Open = sym failed ∙ e in cc;
+    begins = λ e. let x : standings.Failed ≡ standings.Over = sym failed ∙ e in cc;
+  }
+  answered_stands s new l most p box (inr (sound, whole, inr given)) h = record {
+    turns = λ e. let x : standings.GivenUp ≡ standings.Open = sym given ∙ e in cc;
+    begins = λ e. let x : standings.GivenUp ≡ standings.Over = sym given ∙ e in cc;
+  }
+
+  -- where the next connection may begin, and none goes on
+  pub rests_stands : (s : Standing) (l : Line) (most : ℕ) (p : Part) (box : Inbox J G) → (s ≡ standings.Open → ⊥) → Rests l.machine p box → Stands s l most p box
+  rests_stands s l most p box closed rests = record { turns = λ going. absurd (closed going); begins = λ over. rests }
+
+-- how many may be to send
+pub few_posts : (p : Posts) → MayBe p → posts_of p ≤ 16
+few_posts (posts.Senders count) may = may
+few_posts (posts.Desks terms) may = may.1
+few_posts (posts.Book version) may = omega arith
+
 -- ---- who has the passes
 
 module _ {J : Type 0} {G : Ghosts J} where
   -- the connection's pass that a gate was made with has seen what the gate opened with
-  pub last_seen : (gate : Gate J G) (old out : Passes (Kept J G)) (count : ℕ) (p : Pass (Kept J G)) → MadeAt gate old (count + 1) → ((n : ℕ) → count < n → pass_at out n ≡ pass_at old n) → pass_at out (count + 1) ≡ Some p
-      → BeginsHistory (opening_of gate).history (known p).seen
-  last_seen gate old out count p made others there =
-      let is = (made.each (count + 1) (record { from_one = omega arith; up_to = omega arith })).1 in
-      let at : pass_at old (count + 1) ≡ Some p = sym (others (count + 1) (omega arith)) ∙ there in
-      let knows : known_at old (count + 1) ≡ known p = ap (λ (o : Option (Pass (Kept J G))). known_if o) at in
-      subst (λ (h : History). BeginsHistory (opening_of gate).history h) (sym (ap (λ (x : Part). x.seen) is) ∙ ap (λ (x : Part). x.seen) knows) (begins_self (opening_of gate).history)
+  pub last_seen : (gate : Gate J G) (passes : Passes (Kept J G)) (count : ℕ) (p : Pass (Kept J G)) → MadeAt gate passes (count + 1) → known p ≡ known_at passes (count + 1) → BeginsHistory (opening_of gate).history (known p).seen
+  last_seen gate passes count p made is =
+      let at = (made.each (count + 1) (record { from_one = omega arith; up_to = omega arith })).1 in
+      subst (λ (h : History). BeginsHistory (opening_of gate).history h) (sym (ap (λ (x : Part). x.seen) at) ∙ ap (λ (x : Part). x.seen) (sym is)) (begins_self (opening_of gate).history)
 
-  -- the seats that a gate is made with
-  pub made_seats : (gate : Gate J G) (passes : Passes (Kept J G)) (senders : List (Sender J G)) (n plans count : ℕ) (p : Pass (Kept J G)) → n ≡ plans → plans ≡ count → count ≤ 16 → Seated gate senders (plans + 1)
-      → HasBehind gate passes (count + 1) (count + 1) → IsPassAt gate p → IsFree p → (known p).number ≡ count + 1 → (count ≡ 0 → (known p).made ≡ 1) → HasSeats gate passes senders n p
-  made_seats gate passes senders n plans count p is many few seated behind own free number first = subst (λ (k : ℕ). HasSeats gate passes senders k p) (sym (is ∙ many)) (record {
-    few = few;
-    seated = subst (λ (k : ℕ). Seated gate senders (k + 1)) many seated;
-    behind = behind;
-    own = own;
-    free = free;
-    number = number;
-    first = first;
-  })
+  -- senders that are seated keep their place
+  pub senders_kept : (gate : Gate J G) (staff : Staff J G) (old new : Vec (Sender J G) Global) (passes : Passes (Kept J G)) (p : Pass (Kept J G)) → staff ≡ staffs.Senders old passes → HasStaff gate staff p → Seated gate new.items (vec_len new + 1)
+      → vec_len new ≡ vec_len old → HasStaff gate (staffs.Senders new passes) p
+  senders_kept gate staff old new passes p is h seated count =
+      let was = subst (λ (s : Staff J G). HasStaff gate s p) is h in
+      record {
+        few = let few = was.few in omega (arith, few, count);
+        seated = (seated, subst (λ (n : ℕ). HasBehind gate passes (n + 1) (n + 1)) (sym count) was.seated.1);
+        own = was.own;
+        free = was.free;
+        number = was.number ∙ ap (λ (n : ℕ). n + 1) (sym count);
+        alone = λ none. was.alone (sym count ∙ none);
+      }
 
-  -- a pass that made the same numbers has the same seat
-  pub seats_kept : (gate : Gate J G) (passes : Passes (Kept J G)) (old new : List (Sender J G)) (count : ℕ) (p q : Pass (Kept J G)) → HasSeats gate passes old count p → Seated gate new (count + 1)
-      → IsPassAt gate q → IsFree q → (known q).number ≡ (known p).number → (known q).made ≡ (known p).made → HasSeats gate passes new count q
-  seats_kept gate passes old new count p q h seated own free number made = record {
-    few = h.few;
+  pub senders_seated : (gate : Gate J G) (staff : Staff J G) (old : Vec (Sender J G) Global) (passes : Passes (Kept J G)) (p : Pass (Kept J G)) → staff ≡ staffs.Senders old passes → HasStaff gate staff p
+      → (vec_len old ≤ 16) × Seated gate old.items (vec_len old + 1)
+  senders_seated gate staff old passes p is h =
+      let was = subst (λ (s : Staff J G). HasStaff gate s p) is h in
+      (was.few, was.seated.0)
+
+  -- a pass that made the same numbers, of those who send the same number, has the same place
+  pub staff_kept : (gate : Gate J G) (old new : Staff J G) (p q : Pass (Kept J G)) → HasStaff gate old p → IsSeatedAt gate new → count_of new ≡ count_of old → IsPassAt gate q → IsFree q → (known q).number ≡ (known p).number
+      → (known q).made ≡ (known p).made → HasStaff gate new q
+  staff_kept gate old new p q h seated count own free number made = record {
+    few = let few = h.few in omega (arith, few, count);
     seated = seated;
-    behind = h.behind;
     own = own;
     free = free;
-    number = number ∙ h.number;
-    first = λ none. made ∙ h.first none;
+    number = number ∙ (h.number ∙ ap (λ (n : ℕ). n + 1) (sym count));
+    alone = λ none. made ∙ h.alone (sym count ∙ none);
   }
 
   -- senders that have the passes that they had keep their seats

@@ -27,7 +27,9 @@ use Rattle.fixp_msgs.specs.declared.flow.Flow.{Flow}
 use Rattle.gate_senders.specs.Gate.{opening_of}
 use Rattle.gw_rehearse.specs.declared.end.DrivenEnd.{DrivenEnd}
 use Rattle.gw_rehearse.specs.declared.disks.Disks.{Disks}
-use Rattle.gw_rehearse.specs.Driven.{BeginsOn}
+use Rattle.turn_laws.specs.Legs.{TurnedLeg}
+use Rattle.two_ends.specs.Driving.{Beginning}
+use Rattle.gw_rehearse.specs.Driven.{BeginsOn, StandsBehind, beginning_on}
 use Rattle.gw_rehearse.specs.Stopped.{BeginsOnLeft, DisksLeaveNoMore, OutboxIsLeft, InboxIsLeft, LeavesImages, LeavesNoMore, IsLeft}
 
 -- what may be left of a disk
@@ -162,3 +164,10 @@ begins_as own peer own' peer' disks r is is_peer n =
 pub begins_if : {T : Type 0} (own peer : Flow) (before after : Disks) (o : Option (DrivenEnd × T)) → DisksLeaveNoMore before after → IfSome o (λ r. ∥ BeginsOnLeft own peer after r.0 ∥₁) → IfSome o (λ r. ∥ BeginsOnLeft own peer before r.0 ∥₁)
 begins_if own peer before after None more n = tt
 begins_if own peer before after (Some r) more n = ∥∥₁_map n (λ b. begins_more own peer before after r.0 more b)
+
+-- a life that begins as those who answer have taken their place
+pub begun_as : (own peer own' peer' : Flow) (outbox : List OutboxRecord) (inbox : List InboxRecord) (e e' : DrivenEnd) → own ≡ own' → peer ≡ peer' → ((b : Beginning) (legs : List TurnedLeg) → StandsBehind b legs e → StandsBehind b legs e')
+    → ∥ BeginsOn own peer outbox inbox e ∥₁ → ∥ BeginsOn own' peer' outbox inbox e' ∥₁
+begun_as own peer own' peer' outbox inbox e e' is is_peer on n =
+    subst (λ (f : Flow). ∥ BeginsOn f peer' outbox inbox e' ∥₁) is (subst (λ (f : Flow). ∥ BeginsOn own f outbox inbox e' ∥₁) is_peer
+    (∥∥₁_map n (λ b. record { machine = b.machine; began = b.began; stands = on (beginning_on b.machine outbox inbox) [] b.stands })))

@@ -1,5 +1,5 @@
 -- What each sender has submitted, as it is counted and as the outbox has it.
-use Rattle.std.proofs.Common.{◌≡◌, ℕ, zero, suc, ◌+◌, ◌<◌, ◌≤◌, List, [], ◌∷◌, ◌++◌, length, take, Option, Some, refl, sym, ap, ◌∙◌, subst, arith}
+use Rattle.std.proofs.Common.{◌≡◌, ℕ, zero, suc, ◌+◌, ◌<◌, ◌≤◌, List, [], ◌∷◌, ◌++◌, length, take, refl, sym, ap, ◌∙◌, subst, arith}
 use Rattle.std.specs.Prelude.{slice_index_or}
 use Rattle.std.proofs.lemmas.List.{ext_get_or, get_or-map, length-map, take_all}
 use Rattle.std.proofs.Math.Seq.{take-suc}
@@ -11,16 +11,16 @@ use Rattle.jr_kept.specs.declared.outbox.Outbox.{Outbox}
 use Rattle.jr_kept.specs.Outbox.{mine_of}
 use Rattle.gate_turn.specs.Views.{Part}
 use Rattle.gate_turn.specs.Places.{known}
-use Rattle.gate_turn.specs.Listed.{pass_at, known_if, known_at}
+use Rattle.gate_turn.specs.Listed.{known_at}
 use Rattle.gate_turn.specs.declared.pass.Pass.{Pass}
 use Rattle.gate_turn.specs.declared.passes.Passes.{Passes}
 use Rattle.gate_senders.specs.Gate.{ClosedWith, opening_of}
 use Rattle.gate_senders.specs.declared.gate.Gate.{Gate}
 use Rattle.gate_senders.specs.declared.kept.Kept.{Kept}
 use Rattle.gate_plans.specs.Runs.{CountedEach}
-use Rattle.gate_plans.specs.Seats.{Seated, HasTheirs}
 use Rattle.gate_plans.specs.declared.sender.Sender.{Sender}
-use Rattle.gw_rehearse.specs.Standing.{AreDone, sent_by}
+use Rattle.order_staff.specs.Staffs.{HasMade, sent_by}
+use Rattle.gw_rehearse.specs.Standing.{AreDone}
 use Rattle.gw_rehearse.specs.Summaries.{counts_to}
 
 -- some element of a list that has one
@@ -47,53 +47,27 @@ module _ {J : Type 0} {G : Ghosts J} where
       ∙ (ap (λ (m : ℕ). take n xs ++ m ∷ []) (each n (omega (arith, within))) ∙ sym (take-suc xs n 0 (omega (arith, within))))
 
   -- an outbox that comes out of its gate counts of each sender what its pass has made
-  pub sent_back : (gate : Gate J G) (out passes : Passes (Kept J G)) (senders : List (Sender J G)) (count : ℕ) (box : Outbox J G) → count ≡ length senders → count ≤ 16
-      → Seated gate senders (count + 1) → HasTheirs out passes senders → ClosedWith gate passes box → counts_to box count ≡ sent_by senders
-  sent_back gate out passes senders count box many few seated theirs closed =
-      counts_of box (sent_by senders) count (omega (arith, many, long)) each ∙ take_all count (sent_by senders) (omega (arith, many, long))
+  pub sent_back : (gate : Gate J G) (passes : Passes (Kept J G)) (counts : List ℕ) (count : ℕ) (box : Outbox J G) → length counts ≡ count → count ≤ 16 → HasMade passes counts → (known_at passes 1).made ≡ count + 1
+      → ClosedWith gate passes box → counts_to box count ≡ counts
+  sent_back gate passes counts count box long few has first closed = counts_of box counts count (omega (arith, long)) each ∙ take_all count counts (omega (arith, long))
     where
-      long : length (sent_by senders) ≡ length senders
-      long = length-map senders made
-
-      knows : (i : ℕ) (d : Sender J G) → i < length senders → known_at passes (i + 1) ≡ known (slice_index_or senders i d).pass
-      knows i d lt = ap (λ (o : Option (Pass (Kept J G))). known_if o) (theirs.theirs i d lt)
-
-      each : (i : ℕ) → i < length (sent_by senders) → mine_of box (i + 1) ≡ slice_index_or (sent_by senders) i 0
+      each : (i : ℕ) → i < length counts → mine_of box (i + 1) ≡ slice_index_or counts i 0
       each i lt =
-          let within : i < length senders = omega (arith, lt, long) in
-          let d = any senders (omega (arith, within)) in
-          let first : (known_at passes 1).made ≡ count + 1 = ap (λ (p : Part). p.made) (knows 0 d (omega (arith, within))) ∙ seated.first d (omega (arith, within)) in
-          let found = closed.closed.found (i + 1) (record { from_one = omega arith; up_to = omega (arith, within, many, first) }) in
-          let p = known (slice_index_or senders i d).pass in
-          let number : p.number ≡ i + 1 = seated.numbers i d within in
-          let mine : p.mine ≡ entries_of closed.history.made (i + 1) =
-          ap (λ (x : Part). x.mine) (sym (knows i d within)) ∙ (found.mine ∙ (ap (λ (x : Part). entries_of closed.history.made x.number) (knows i d within) ∙ ap (λ (n : ℕ). entries_of closed.history.made n) number)) in
+          let found = closed.closed.found (i + 1) (record { from_one = omega arith; up_to = omega (arith, lt, long, first) }) in
+          let mine : (known_at passes (i + 1)).mine ≡ entries_of closed.history.made (i + 1) = found.mine ∙ ap (λ (n : ℕ). entries_of closed.history.made n) (has.numbers i lt) in
           let counted : mine_of box (i + 1) ≡ length (entries_of closed.history.made (i + 1)) =
-          ∥∥₁_elim closed.holds (ℕ_set _ _) (λ h. h.tallied.each (i + 1) (omega arith, omega (arith, within, many, few))) in
-          counted ∙ (ap length (sym mine) ∙ sym (get_or-map made senders i d 0 within))
+          ∥∥₁_elim closed.holds (ℕ_set _ _) (λ h. h.tallied.each (i + 1) (omega arith, omega (arith, lt, long, few))) in
+          counted ∙ (ap length (sym mine) ∙ has.mine i lt)
 
-  -- where all passes are back, the connection's is the one behind those of the senders
-  module _ (given out : Passes (Kept J G)) (senders : List (Sender J G)) (count : ℕ) (p : Pass (Kept J G)) (many : count ≡ length senders) (alone : count ≡ 0 → (known p).made ≡ 1)
-      (there : pass_at given (count + 1) ≡ Some p) (theirs : HasTheirs given out senders) where
-    knows : known_at out (count + 1) ≡ known p
-    knows = ap (λ (o : Option (Pass (Kept J G))). known_if o) (theirs.others (count + 1) (omega (arith, many)) ∙ there)
+  -- the connection's pass has seen a beginning of the history that the outbox holds then
+  pub last_found : (gate : Gate J G) (passes : Passes (Kept J G)) (count : ℕ) (p : Pass (Kept J G)) (box : Outbox J G) → (known_at passes 1).made ≡ count + 1 → known_at passes (count + 1) ≡ known p
+      → (k : ClosedWith gate passes box) → BeginsHistory (known p).seen k.history
+  last_found gate passes count p box first last k =
+      subst (λ (x : Part). BeginsHistory x.seen k.history) last (k.closed.found (count + 1) (record { from_one = omega arith; up_to = omega (arith, first) })).seen
 
-    made_all : (gate : Gate J G) → Seated gate senders (count + 1) → (xs : List (Sender J G)) → xs ≡ senders → (known_at out 1).made ≡ count + 1
-    made_all gate seated [] e =
-        let none : count ≡ 0 = many ∙ sym (ap length e) in
-        ap (λ (x : Part). x.made) (subst (λ (n : ℕ). known_at out (n + 1) ≡ known p) none knows) ∙ (alone none ∙ omega (arith, none))
-    made_all gate seated (x ∷ xs) e =
-        let some : 0 < length senders = omega (arith, ap length e) in
-        ap (λ (y : Part). y.made) (ap (λ (o : Option (Pass (Kept J G))). known_if o) (theirs.theirs 0 x some)) ∙ seated.first x some
-
-    -- it has seen a beginning of the history that the outbox holds then
-    pub last_found : (gate : Gate J G) (box : Outbox J G) → Seated gate senders (count + 1) → (k : ClosedWith gate out box) → BeginsHistory (known p).seen k.history
-    last_found gate box seated k =
-        subst (λ (x : Part). BeginsHistory x.seen k.history) knows (k.closed.found (count + 1) (record { from_one = omega arith; up_to = omega (arith, made_all gate seated senders refl) })).seen
-
-    -- which goes on from what the gate was made with
-    pub opened_found : (gate : Gate J G) (box : Outbox J G) → Seated gate senders (count + 1) → (k : ClosedWith gate out box) → BeginsHistory (opening_of gate).history k.history
-    opened_found gate box seated k =
-        let found = k.closed.found (count + 1) (record { from_one = omega arith; up_to = omega (arith, made_all gate seated senders refl) }) in
-        let opened = k.closed.opened (count + 1) (record { from_one = omega arith; up_to = omega (arith, made_all gate seated senders refl) }) in
-        subst (λ a. BeginsHistory a.history k.history) opened found.begins
+  -- which goes on from what the gate was made with
+  pub opened_found : (gate : Gate J G) (passes : Passes (Kept J G)) (count : ℕ) (box : Outbox J G) → (known_at passes 1).made ≡ count + 1 → (k : ClosedWith gate passes box) → BeginsHistory (opening_of gate).history k.history
+  opened_found gate passes count box first k =
+      let found = k.closed.found (count + 1) (record { from_one = omega arith; up_to = omega (arith, first) }) in
+      let opened = k.closed.opened (count + 1) (record { from_one = omega arith; up_to = omega (arith, first) }) in
+      subst (λ a. BeginsHistory a.history k.history) opened found.begins

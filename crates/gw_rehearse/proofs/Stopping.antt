@@ -1,7 +1,7 @@
 -- A life that is over, and the one that begins on what a stop left of its disks.
-use Rattle.std.proofs.Common.{◌≡◌, ◌<◌, ◌^◌, ℕ, true, false, Bool, List, [], ◌∷◌, ◌++◌, length, map, take, Option, Some, None, refl, sym, ap, subst, ◌∙◌, true≢false}
+use Rattle.std.proofs.Common.{◌≡◌, ◌<◌, ◌^◌, ℕ, true, false, Bool, List, [], ◌∷◌, ◌++◌, length, map, take, Option, Some, None, refl, sym, ap, subst, ◌∙◌, append-nil, true≢false}
 use Rattle.std.specs.Prelude.{IfSome}
-use Rattle.std.proofs.Math.Logic.{∥∥₁_map₂}
+use Rattle.std.proofs.Math.Logic.{∥∥₁_map, ∥∥₁_map₂, ∥∥₁_elim, ∥∥₁_prop}
 use Rattle.std.proofs.lemmas.List.{map-append}
 use Rattle.std.specs.List.{AllByRecursion}
 use Rattle.session_model.specs.Journal.{Entry, OutboxRecord, History, BeginsHistory, entry, entries, InOrder}
@@ -24,11 +24,12 @@ use Rattle.gate_turn.proofs.Histories.{begins_on}
 use Rattle.gate_senders.specs.Gate.{opening_of}
 use Rattle.turn_laws.specs.Standing.{Has}
 use Rattle.turn_laws.specs.Legs.{TurnedLeg}
+use Rattle.two_ends.specs.Driving.{Beginning, Awaits}
 use Rattle.two_ends.specs.Stories.{lived, OutboxGoesOn}
 use Rattle.gw_rehearse.specs.declared.end.DrivenEnd.{DrivenEnd}
 use Rattle.gw_rehearse.specs.declared.journals.Journals.{Journals}
 use Rattle.gw_rehearse.specs.declared.disks.Disks.{Disks}
-use Rattle.gw_rehearse.specs.Driven.{IsEnded, ClosedOn, beginning_on}
+use Rattle.gw_rehearse.specs.Driven.{IsEnded, ClosedOn, StandsBehind, beginning_on}
 use Rattle.gw_rehearse.specs.Stopped.{LeavesNoMore, IsLeft, BeginsOnLeft}
 use Rattle.gw_rehearse.specs.Together.{GoesOnBehind, Lives, NextLife}
 use Rattle.gw_rehearse.proofs.Opening.{leaves_self}
@@ -144,3 +145,26 @@ lives_if own peer e j disks None c out_is in_is n = tt
 lives_if own peer e j disks (Some r) c out_is in_is n = record {
   next = λ l legs ended. lives_on own peer l legs e r.0 j disks c ended (subst (λ d. LeavesNoMore d disks.outbox) out_is (leaves_self disks.outbox)) (subst (λ d. LeavesNoMore d disks.inbox) in_is (leaves_self disks.inbox)) n;
 }
+
+-- one that stood so goes on as what became of it does, as those who answer took their place
+pub goes_resumed : (own peer : Flow) (e mid new : DrivenEnd) → ((b : Beginning) (legs : List TurnedLeg) → StandsBehind b legs mid → StandsBehind b legs new) → GoesOnBehind own peer e mid → GoesOnBehind own peer e new
+goes_resumed own peer e mid new on n = record {
+  next = λ l legs ended. ∥∥₁_map (n.next l legs ended) (λ x. record { lives = x.lives; legs_are = x.legs_are; stands = on x.lives.begins [] x.stands });
+}
+
+-- and where their life ended in that, as the one behind it
+pub goes_behind : (own peer : Flow) (e mid over new : DrivenEnd) → ((b : Beginning) (legs : List TurnedLeg) → Awaits b → StandsBehind b legs mid → IsEnded b legs over) → GoesOnBehind own peer e mid → GoesOnBehind own peer over new
+    → GoesOnBehind own peer e new
+goes_behind own peer e mid over new ends n m = record {
+  next = λ l legs ended. ∥∥₁_elim (n.next l legs ended) ∥∥₁_prop (λ x. ∥∥₁_map (m.next x.lives [] (ends x.lives.begins [] x.lives.began.awaits x.stands)) (λ y. record {
+    lives = y.lives;
+    legs_are = y.legs_are ∙ (append-nil x.lives.legs ∙ x.legs_are);
+    stands = y.stands;
+  }));
+}
+
+-- so where there is one behind it
+pub goes_if : {T : Type 0} (own peer : Flow) (e mid over : DrivenEnd) (o : Option (DrivenEnd × T)) → ((b : Beginning) (legs : List TurnedLeg) → Awaits b → StandsBehind b legs mid → IsEnded b legs over) → GoesOnBehind own peer e mid
+    → IfSome o (λ r. GoesOnBehind own peer over r.0) → IfSome o (λ r. GoesOnBehind own peer e r.0)
+goes_if own peer e mid over None ends n m = tt
+goes_if own peer e mid over (Some r) ends n m = goes_behind own peer e mid over r.0 ends n m

@@ -1,5 +1,6 @@
 -- What is known of an end over the connections that it had, behind each of its calls.
-use Rattle.std.proofs.Common.{◌≡◌, ◌+◌, ◌≤◌, ◌^◌, ℕ, false, Bool, List, [], ◌∷◌, ◌++◌, length, Option, Some, None, refl, sym, ap, subst, ◌∙◌, append-nil, arith, true≢false}
+use Rattle.std.proofs.Common.{◌≡◌, inl, inr, ◌+◌, ◌≤◌, ◌^◌, ℕ, false, Bool, List, [], ◌∷◌, ◌++◌, length, Option, Some, None, refl, sym, ap, subst, ◌∙◌, append-nil, arith, true≢false}
+use Rattle.std.specs.Prelude.{◌⊎◌}
 use Rattle.gw_links.specs.Links.{LinkTold, Carried, Steps}
 use Rattle.session_model.specs.Journal.{Entry, History, BeginsHistory, OutboxRecord, entries}
 use Rattle.session_model.specs.Inbox.{InboxRecord, next_number}
@@ -8,7 +9,7 @@ use Rattle.jr_boxes.specs.Outboxes.{outbox_of}
 use Rattle.gate_senders.specs.Gate.{opening_of}
 use Rattle.fixp_machine.specs.Machine.{State, fresh}
 use Rattle.fixp_shake.specs.declared.config.EndConfig.{EndConfig}
-use Rattle.jr_kept.specs.Inbox.{HoldsBox, next_of}
+use Rattle.jr_kept.specs.Inbox.{HoldsBox, SameContent, next_of}
 use Rattle.gate_turn.specs.Places.{known}
 use Rattle.gate_turn.specs.Views.{Part}
 use Rattle.connection_laws.specs.Ranges.{IsInTime, IsInRange}
@@ -24,7 +25,7 @@ use Rattle.turn_laws.specs.Standing.{Has}
 use Rattle.turn_laws.specs.Legs.{TurnedLeg, given_in, sent_in}
 use Rattle.turn_laws.specs.Turns.{line_received, adds_in, adds_cut}
 use Rattle.turn_laws.proofs.Tailing.{left_is}
-use Rattle.two_ends.specs.Driving.{Beginning, Awaits, begun_leg, with_turn, cut_leg, Between, During}
+use Rattle.two_ends.specs.Driving.{EndNow, Beginning, Awaits, begun_leg, with_turn, cut_leg, Between, During}
 use Rattle.two_ends.specs.Stories.{IsOver}
 use Rattle.two_ends.proofs.Going.{leg_begins, turn_goes_on, leg_ends, cut_ends, life_ends, life_fails}
 use Rattle.two_ends.proofs.Moving.{turn_carries}
@@ -32,7 +33,7 @@ use Rattle.gw_rehearse.specs.declared.end.DrivenEnd.{DrivenEnd}
 use Rattle.gw_rehearse.specs.declared.standing.Standing.{Standing}
 use Rattle.gw_rehearse.specs.declared.standing.Standing.TheVariants as standings
 use Rattle.gw_rehearse.specs.Standing.{is_given, is_failed, WasMade}
-use Rattle.gw_rehearse.specs.Driven.{now_of, IsMadeOf, OpensWith, StandsBehind, RunsOver, TurnedOn, BeginsOn, IsEnded}
+use Rattle.gw_rehearse.specs.Driven.{now_of, IsMadeOf, OpensWith, StandsBehind, RunsOver, TurnedOn, BeginsOn, IsEnded, IsAnswered}
 use Rattle.gw_rehearse.proofs.Outboxes.{entries-outbox_of}
 
 -- one that does not go on, did not fail and was not given up is over
@@ -233,3 +234,106 @@ ended_one b past leg e awaits sound k = record { opens = k.opens; inbox = k.inbo
     by_standing standings.Open is sound = all_over (ap is_failed is) (leg_ends b past leg (now_of e k.inbox) awaits (k.during is))
     by_standing standings.Failed is sound = k.failed is
     by_standing standings.GivenUp is sound = absurd (true≢false sound)
+
+-- ---- what a turn applied, answered
+
+-- an end of which nothing changed but who sends, its news and where it stands
+module _ (e e' : DrivenEnd) (same : e' ≡ record e { staff = e'.staff; news = e'.news; standing = e'.standing }) where
+  gate_same : e'.gate ≡ e.gate
+  gate_same = ap (λ (x : DrivenEnd). x.gate) same
+
+  inbox_same : e'.inbox ≡ e.inbox
+  inbox_same = ap (λ (x : DrivenEnd). x.inbox) same
+
+  pass_same : e'.pass ≡ e.pass
+  pass_same = ap (λ (x : DrivenEnd). x.pass) same
+
+  now_same : (i : List InboxRecord) → now_of e i ≡ now_of e' i
+  now_same i =
+      ap (λ c. record { line = line_of c; seen = (known e.pass).seen; inbox = i }) (sym (ap (λ (x : DrivenEnd). x.conn) same))
+      ∙ ap (λ p. record { line = line_of e'.conn; seen = (known p).seen; inbox = i }) (sym pass_same)
+
+  -- where it stands as it did
+  stood_runs : (b : Beginning) (past : List TurnedLeg) (leg : TurnedLeg) → e'.standing ≡ e.standing → RunsOver b past leg e → RunsOver b past leg e'
+  stood_runs b past leg stood k = record {
+    opens = opens_same b e e' gate_same k.opens;
+    inbox = k.inbox;
+    refused = k.refused;
+    holds = subst (λ box. HoldsBox box k.inbox k.refused) (sym inbox_same) k.holds;
+    whole = λ whole. k.whole (ap is_failed (sym stood) ∙ whole);
+    failed = λ failed closing has. k.failed (sym stood ∙ failed) closing (subst (λ p. Has (entries closing) (known p).seen) pass_same has);
+    during = λ going. subst (λ (x : EndNow). During b past leg x) (now_same k.inbox) (k.during (sym stood ∙ going));
+    between = λ over. subst (λ (x : EndNow). Between b (past ++ leg ∷ []) x) (now_same k.inbox) (k.between (sym stood ∙ over));
+  }
+
+  -- where it failed, its life is over
+  refused_runs : (b : Beginning) (past : List TurnedLeg) (leg : TurnedLeg) → Awaits b → is_given e.standing ≡ false → e'.standing ≡ standings.Failed → RunsOver b past leg e → RunsOver b past leg e'
+  refused_runs b past leg awaits sound is k =
+      let o = ended_one b past leg e awaits sound k in
+      record {
+        opens = opens_same b e e' gate_same o.opens;
+        inbox = o.inbox;
+        refused = o.refused;
+        holds = subst (λ box. HoldsBox box o.inbox o.refused) (sym inbox_same) o.holds;
+        whole = λ whole. absurd (unfailed e'.standing whole is);
+        failed = λ failed closing has. o.over closing (subst (λ p. Has (entries closing) (known p).seen) pass_same has);
+        during = λ going. absurd (unfailed e'.standing (ap is_failed going) is);
+        between = λ over. absurd (unfailed e'.standing (ap is_failed over) is);
+      }
+
+pub answered_runs : (b : Beginning) (past : List TurnedLeg) (leg : TurnedLeg) (e e' : DrivenEnd) → IsAnswered e e' → Awaits b → is_given e'.standing ≡ false → RunsOver b past leg e → RunsOver b past leg e'
+answered_runs b past leg e e' answered awaits sound k = by_standing answered.stands
+  where
+    by_failing : is_given e.standing ≡ false → (e'.standing ≡ standings.Failed) ⊎ (e'.standing ≡ standings.GivenUp) → RunsOver b past leg e'
+    by_failing was (inl failed) = refused_runs e e' answered.same b past leg awaits was failed k
+    by_failing was (inr given) = absurd (true≢false (sym (ap is_given given) ∙ sound))
+
+    by_standing : (e'.standing ≡ e.standing) ⊎ ((is_given e.standing ≡ false) × (is_failed e.standing ≡ false) × ((e'.standing ≡ standings.Failed) ⊎ (e'.standing ≡ standings.GivenUp))) → RunsOver b past leg e'
+    by_standing (inl stood) = stood_runs e e' answered.same b past leg stood k
+    by_standing (inr went) = by_failing went.0 went.2
+
+-- it was given up before only if it is so behind
+pub answered_sound : (e e' : DrivenEnd) → IsAnswered e e' → is_given e'.standing ≡ false → is_given e.standing ≡ false
+answered_sound e e' answered sound = by_standing answered.stands
+  where
+    by_standing : (e'.standing ≡ e.standing) ⊎ ((is_given e.standing ≡ false) × (is_failed e.standing ≡ false) × ((e'.standing ≡ standings.Failed) ⊎ (e'.standing ≡ standings.GivenUp))) → is_given e.standing ≡ false
+    by_standing (inl stood) = ap is_given (sym stood) ∙ sound
+    by_standing (inr went) = went.0
+
+pub answered_on : (b : Beginning) (past : List TurnedLeg) (leg : TurnedLeg) (e e' : DrivenEnd) (told told' : Option LinkTold) → IsAnswered e e' → Awaits b → is_given e'.standing ≡ false → TurnedOn b past leg e told told'
+    → TurnedOn b past leg e' told told'
+answered_on b past leg e e' told told' answered awaits sound t = record {
+  later = t.later;
+  given = t.given;
+  sent = t.sent;
+  carries = t.carries;
+  moved = t.moved;
+  runs = answered_runs b past t.later e e' answered awaits sound t.runs;
+}
+
+-- ---- those who answer have taken their place
+
+-- of an end that has begun no connection nothing changed but who sends, where it stands, and the faults and the moment of its inbox
+module _ (e e' : DrivenEnd) (gate : e'.gate ≡ e.gate) (conn : e'.conn ≡ e.conn) (pass : e'.pass ≡ e.pass) (content : SameContent e.inbox e'.inbox) where
+  now_still : (i : List InboxRecord) → now_of e i ≡ now_of e' i
+  now_still i =
+      ap (λ c. record { line = line_of c; seen = (known e.pass).seen; inbox = i }) (sym conn)
+      ∙ ap (λ p. record { line = line_of e'.conn; seen = (known p).seen; inbox = i }) (sym pass)
+
+  pub resumed_stands : e'.standing ≡ standings.Over → (b : Beginning) (legs : List TurnedLeg) → StandsBehind b legs e → StandsBehind b legs e'
+  resumed_stands over b legs k = record {
+    over = over;
+    opens = opens_same b e e' gate k.opens;
+    inbox = k.inbox;
+    holds = (content.holds k.inbox []).0 k.holds;
+    between = subst (λ (x : EndNow). Between b legs x) (now_still k.inbox) k.between;
+  }
+
+  pub resumed_ended : (b : Beginning) (legs : List TurnedLeg) → Awaits b → StandsBehind b legs e → IsEnded b legs e'
+  resumed_ended b legs awaits k = record {
+    opens = opens_same b e e' gate k.opens;
+    inbox = k.inbox;
+    refused = [];
+    holds = (content.holds k.inbox []).0 k.holds;
+    over = λ closing has. life_ends b legs (now_of e k.inbox) closing awaits k.between (subst (λ p. Has (entries closing) (known p).seen) pass has);
+  }

@@ -68,7 +68,7 @@ record SameEnd (e e' : DrivenEnd) : Type 0 where
   inbox : e'.inbox ≡ e.inbox
   gate : e'.gate ≡ e.gate
 
-same_of : (e e' : DrivenEnd) → e' ≡ record e { senders = e'.senders } → SameEnd e e'
+same_of : (e e' : DrivenEnd) → e' ≡ record e { staff = e'.staff } → SameEnd e e'
 same_of e e' same = record {
   standing = ap (λ (x : DrivenEnd). x.standing) same;
   conn = ap (λ (x : DrivenEnd). x.conn) same;
@@ -122,7 +122,7 @@ module _ (client server : Flow) where
     meet = record { leg = t.meet.leg; leg_a = t.meet.leg_a; way = t.meet.way; runs = runs_same t.lives.begins t.past t.meet.leg i i' s t.meet.runs; runs_a = t.meet.runs_a };
   }
 
-  pub submitted : (i i' a : DrivenEnd) (pipe : Option Held) → i' ≡ record i { senders = i'.senders } → (is_lost i a ≡ false → ∥ Together client server i a pipe ∥₁)
+  pub submitted : (i i' a : DrivenEnd) (pipe : Option Held) → i' ≡ record i { staff = i'.staff } → (is_lost i a ≡ false → ∥ Together client server i a pipe ∥₁)
       → is_lost i' a ≡ false → ∥ Together client server i' a pipe ∥₁
   submitted i i' a pipe same k sound =
       let s = same_of i i' same in
@@ -306,7 +306,7 @@ module _ (client server : Flow) where
 
   -- so it is of a pair in which the initiator is stopped, whatever its senders do then
   pub initiator_on : (i a i' i'' a' : DrivenEnd) (pipe : Option Held) → ((b : Beginning) (past : List TurnedLeg) (leg : TurnedLeg) → Awaits b → RunsOver b past leg a → is_given a.standing ≡ false → is_failed a.standing ≡ false
-      → StandsBehind b (past ++ leg ∷ []) a') → (a.standing ≡ standings.Over → a' ≡ a) → is_lost i a ≡ false → is_failed a.standing ≡ false → GoesOnBehind client server i i' → i'' ≡ record i' { senders = i''.senders }
+      → StandsBehind b (past ++ leg ∷ []) a') → (a.standing ≡ standings.Over → a' ≡ a) → is_lost i a ≡ false → is_failed a.standing ≡ false → GoesOnBehind client server i i' → i'' ≡ record i' { staff = i''.staff }
       → (is_lost i a ≡ false → ∥ Together client server i a pipe ∥₁) → ∥ Together client server i'' a' None ∥₁
   initiator_on i a i' i'' a' pipe over rests sound whole n same k =
       ∥∥₁_elim (k sound) ∥∥₁_prop (λ t. ∥∥₁_map (initiator_next i a i' a' pipe over rests sound whole n t) (λ u. together_same i' i'' a' None (same_of i' i'' same) u))

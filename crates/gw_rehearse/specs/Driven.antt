@@ -1,5 +1,5 @@
 -- What is known of an end that is driven, over the connections that it had (this project's profile).
-use Rattle.std.specs.Prelude.{◌≡◌, ℕ, ◌*◌, ◌^◌, ◌<◌, List, [], ◌∷◌, ◌++◌, false, None, Option, vec_len}
+use Rattle.std.specs.Prelude.{◌≡◌, ◌⊎◌, ℕ, ◌*◌, ◌^◌, ◌<◌, List, [], ◌∷◌, ◌++◌, false, None, Option}
 use Rattle.gw_links.specs.Links.{LinkTold, Steps}
 use Rattle.session_model.specs.Journal.{History, BeginsHistory, OutboxRecord, entries}
 use Rattle.session_model.specs.Inbox.{InboxRecord}
@@ -7,7 +7,7 @@ use Rattle.fixp_msgs.specs.declared.flow.Flow.{Flow}
 use Rattle.fixp_shake.specs.declared.config.EndConfig.{EndConfig}
 use Rattle.fixp_replies.specs.declared.facts.EndState.{EndState}
 use Rattle.fixp_machine.specs.Machine.{State, fresh}
-use Rattle.jr_kept.specs.Inbox.{HoldsBox}
+use Rattle.jr_kept.specs.Inbox.{HoldsBox, is_broken}
 use Rattle.jr_kept.specs.Outbox as outboxes
 use Rattle.jr_boxes.specs.Outboxes.{outbox_of}
 use Rattle.gate_turn.specs.Places.{known}
@@ -22,11 +22,22 @@ use Rattle.two_ends.specs.Stories.{Began, IsOver}
 use Rattle.gw_rehearse.specs.declared.end.DrivenEnd.{DrivenEnd}
 use Rattle.gw_rehearse.specs.declared.journals.Journals.{Journals}
 use Rattle.gw_rehearse.specs.declared.standing.Standing.TheVariants as standings
-use Rattle.gw_rehearse.specs.Standing.{HasSeats, Stands, is_given, is_failed}
+use Rattle.order_staff.specs.Staffs.{HasStaff}
+use Rattle.gw_rehearse.specs.Standing.{Stands, is_given, is_failed}
 
 -- its passes are where they belong, and it stands where it can go on
 abbrev pub IsDriven : DrivenEnd → Type 0
-IsDriven e = HasSeats e.gate e.passes e.senders.items (vec_len e.senders) e.pass × Stands e.standing (line_of e.conn) (e.turns * 262240) (known e.pass) e.inbox
+IsDriven e = HasStaff e.gate e.staff e.pass × Stands e.standing (line_of e.conn) (e.turns * 262240) (known e.pass) e.inbox
+
+-- it has begun no connection in its life, and no call of its inbox's disk has failed
+pub record IsResting (e : DrivenEnd) : Type 0 where
+  pub over : e.standing ≡ standings.Over
+  pub sound : is_broken e.inbox ≡ false
+
+-- what its last turn applied was answered: it stands as it did, or, where it had neither failed nor was given up, it does not go on
+pub record IsAnswered (old new : DrivenEnd) : Type 0 where
+  pub same : new ≡ record old { staff = new.staff; news = new.news; standing = new.standing }
+  pub stands : (new.standing ≡ old.standing) ⊎ ((is_given old.standing ≡ false) × (is_failed old.standing ≡ false) × ((new.standing ≡ standings.Failed) ⊎ (new.standing ≡ standings.GivenUp)))
 
 -- an end between two turns, in the words of the laws of driven ends, where its inbox holds this list
 abbrev pub now_of : DrivenEnd → List InboxRecord → EndNow

@@ -1,16 +1,9 @@
 -- What holds of an end between the calls that drive it (this project's profile).
-use Rattle.std.specs.Prelude.{◌≡◌, ℕ, ◌+◌, ◌<◌, ◌≤◌, ◌^◌, Bool, true, false, List, length, map, slice_index_or, IsSome, Result, Ok, Err, ⊤}
+use Rattle.std.specs.Prelude.{◌≡◌, ℕ, ◌<◌, ◌≤◌, ◌^◌, Bool, true, false, List, length, slice_index_or, IsSome, Result, Ok, Err, ⊤}
 use Rattle.jr_dated.specs.declared.journal.Journal.{Ghosts}
 use Rattle.jr_kept.specs.declared.inbox.Inbox.{Inbox}
 use Rattle.gate_turn.specs.Views.{Part}
 use Rattle.gate_turn.specs.Places.{known}
-use Rattle.gate_turn.specs.Calls.{IsFree}
-use Rattle.gate_turn.specs.declared.pass.Pass.{Pass}
-use Rattle.gate_turn.specs.declared.passes.Passes.{Passes}
-use Rattle.gate_senders.specs.Gate.{IsPassAt}
-use Rattle.gate_senders.specs.declared.gate.Gate.{Gate}
-use Rattle.gate_senders.specs.declared.kept.Kept.{Kept}
-use Rattle.gate_plans.specs.Seats.{Seated, HasBehind}
 use Rattle.gate_plans.specs.declared.sender.Sender.{Sender}
 use Rattle.conn_turns.specs.Lines.{Line}
 use Rattle.conn_turns.specs.declared.answer.TurnEnd.{TurnEnd}
@@ -22,6 +15,11 @@ use Rattle.conn_loop.specs.Conn.{GoesOn, HasSeen}
 use Rattle.conn_loop.specs.Live.{EndAt}
 use Rattle.turn_laws.specs.Turned.{WasTurn, WasCut}
 use Rattle.fixp_machine.specs.Machine.{State}
+use Rattle.jr_dated.specs.declared.faults.FetchFault.TheVariants as fetch
+use Rattle.jr_boxes.specs.declared.faults.SubmitFault.{SubmitFault}
+use Rattle.jr_boxes.specs.declared.faults.SubmitFault.TheVariants as submit
+use Rattle.gate_business.specs.declared.business.ResumeFault.{ResumeFault}
+use Rattle.gate_business.specs.declared.business.ResumeFault.TheVariants as resuming
 use Rattle.gw_rehearse.specs.declared.standing.Standing.{Standing}
 use Rattle.gw_rehearse.specs.declared.standing.Standing.TheVariants as standings
 
@@ -36,6 +34,24 @@ standing_of (Err (faults.Changed at)) = standings.GivenUp
 standing_of (Err faults.Broken) = standings.Failed
 standing_of (Err (faults.Full entries bytes)) = standings.GivenUp
 standing_of (Err faults.Memory) = standings.GivenUp
+
+-- where it stands once what a turn applied was answered so: a refusal ends it, but that the outbox is closed already
+abbrev pub refused_by : Standing → Result (Unit {0}) SubmitFault → Standing
+refused_by s (Ok _) = s
+refused_by s (Err submit.Closed) = s
+refused_by s (Err submit.Fault) = standings.Failed
+refused_by s (Err submit.Broken) = standings.Failed
+refused_by s (Err (submit.Full entries bytes)) = standings.GivenUp
+refused_by s (Err submit.Memory) = standings.GivenUp
+
+-- and once those who answer were to take their place behind the inbox
+abbrev pub resumed_by : Result (Unit {0}) ResumeFault → Standing
+resumed_by (Ok _) = standings.Over
+resumed_by (Err (resuming.Submit fault)) = refused_by standings.Over (Err fault)
+resumed_by (Err (resuming.Fetch fetch.Fault)) = standings.Failed
+resumed_by (Err (resuming.Fetch fetch.Broken)) = standings.Failed
+resumed_by (Err (resuming.Fetch fetch.Memory)) = standings.GivenUp
+resumed_by (Err (resuming.Fetch (fetch.Changed at))) = standings.GivenUp
 
 -- whether a connection is not over, and whether nothing follows
 abbrev pub is_going : Standing → Bool
@@ -65,24 +81,10 @@ module _ {J : Type 0} {G : Ghosts J} where
   WasMade standings.Failed eager before after old new = (fault : TurnFault) × WasCut eager before after old new fault
   WasMade standings.GivenUp eager before after old new = ⊤
 
-  -- of a gate for so many senders each sender has its pass, the connection has its own, and the list has none
-  pub record HasSeats (gate : Gate J G) (passes : Passes (Kept J G)) (senders : List (Sender J G)) (count : ℕ) (p : Pass (Kept J G)) : Type 0 where
-    pub few : count ≤ 16
-    pub seated : Seated gate senders (count + 1)
-    pub behind : HasBehind gate passes (count + 1) (count + 1)
-    pub own : IsPassAt gate p
-    pub free : IsFree p
-    pub number : (known p).number ≡ count + 1
-    pub first : count ≡ 0 → (known p).made ≡ 1
-
   -- each sender has the pass that it had
   pub record KeepsPasses (before after : List (Sender J G)) : Type 0 where
     pub long : length after ≡ length before
     pub each : (i : ℕ) (d : Sender J G) → i < length before → (slice_index_or after i d).pass ≡ (slice_index_or before i d).pass
-
-  -- how many messages each sender has submitted, as its pass shows
-  abbrev pub sent_by : List (Sender J G) → List ℕ
-  sent_by senders = map (λ (s : Sender J G). length (known s.pass).mine) senders
 
   -- each sender has done so many
   pub record AreDone (senders : List (Sender J G)) (messages : List ℕ) : Type 0 where

@@ -1,10 +1,13 @@
 -- What is told of the two journals of an end (this project's profile).
-use Rattle.std.specs.Prelude.{◌≡◌, ℕ, zero, suc, ◌+◌, ◌-◌, List, [], ◌∷◌, ◌++◌, length}
+use Rattle.std.specs.Prelude.{◌≡◌, ℕ, zero, suc, ◌+◌, ◌-◌, ◌*◌, ◌/◌, ◌%◌, nat_le, if◌then◌else◌, false, List, [], ◌∷◌, ◌++◌, length}
+use Rattle.cmd_script.specs.declared.script.Load.{Load}
 use Rattle.session_model.specs.Journal.{History, entries_of}
 use Rattle.session_model.specs.Inbox.{InboxRecord, applied, next_number}
 use Rattle.jr_dated.specs.declared.journal.Journal.{Ghosts}
 use Rattle.jr_kept.specs.declared.outbox.Outbox.{Outbox}
 use Rattle.jr_kept.specs.Outbox.{mine_of}
+use Rattle.jr_kept.specs.Inbox.{count_of}
+use Rattle.gw_rehearse.specs.declared.journals.Journals.{Journals}
 use Rattle.gw_rehearse.specs.declared.rehearsal.Rehearsal.{Rehearsal}
 use Rattle.gw_rehearse.specs.declared.summary.EndSummary.{EndSummary}
 
@@ -21,6 +24,19 @@ counts_to box (suc n) = counts_to box n ++ mine_of box (n + 1) ∷ []
 -- what stands of each sender in the initiator's outbox behind a rehearsal
 abbrev pub sent_in : Rehearsal → List ℕ
 sent_in r = counts_to r.initiator.outbox r.initiator.senders
+
+-- how many of so many messages fall to a desk, where they are dealt out to so many desks in turn
+abbrev pub share_of : (messages desks desk : ℕ) → ℕ
+share_of messages desks desk = messages / desks + (if nat_le desk (messages % desks) then 1 else 0)
+
+-- two reports of each message of its share, from desk 1 to this one
+abbrev pub reports_to : (messages desks : ℕ) → ℕ → List ℕ
+reports_to messages desks zero = []
+reports_to messages desks (suc n) = reports_to messages desks n ++ 2 * share_of messages desks (n + 1) ∷ []
+
+-- each desk has so many in the acceptor's outbox, of the messages that were applied there; of a book nothing is said
+abbrev pub HasReported : Load → Journals → Type 0
+HasReported load acceptor = load.book ≡ false → counts_to acceptor.outbox load.desks ≡ reports_to (count_of acceptor.inbox) load.desks load.desks
 
 -- how many numbers were passed over: those before the awaited one under which no message was applied
 abbrev pub passed_over : List InboxRecord → ℕ

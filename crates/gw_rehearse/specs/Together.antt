@@ -63,9 +63,9 @@ pub record Together (client server : Flow) (initiator acceptor : DrivenEnd) (pip
 abbrev pub is_lost : (initiator acceptor : DrivenEnd) → Bool
 is_lost initiator acceptor = is_given initiator.standing || is_given acceptor.standing
 
--- a pair to its callers: what the senders have submitted, its flows, and whether an end was given up, or failed
+-- a pair to its callers: what the initiator's senders have submitted, its flows, and whether an end was given up, or failed
 pub record PairNow : Type 0 where
-  pub sent : List ℕ
+  pub sent : Option (List ℕ)
   pub client : Flow
   pub server : Flow
   pub lost : Bool

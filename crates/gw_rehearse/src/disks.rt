@@ -140,6 +140,7 @@ pub(crate) fn open_inbox(
     disk: MemDisk,
     flow: Flow,
 ) -> Result<Inbox<Log>, Option<MemDisk>>
+    ensures sound { IfOk result (λ box. inboxes.is_broken box ≡ false) }
     ensures flow { IfOk result (λ box. inboxes.flow_of box ≡ flow) }
     ensures limit { IfOk result (λ box. (inboxes.limits_of box).entries ≡ 2 ^ 24) }
     ensures next { IfOk result (λ box. inboxes.next_of box ≤ 2 ^ 24 + 1) }

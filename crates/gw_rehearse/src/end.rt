@@ -6,7 +6,7 @@ ghost use Rattle.session_model.specs.Journal.{BeginsHistory};
 ghost use Rattle.session_model.specs.Inbox.{InboxRecord};
 ghost use Rattle.jr_boxes.specs.Outboxes.{outbox_of};
 ghost use Rattle.jr_kept.specs.Outbox as outboxes;
-ghost use Rattle.jr_kept.specs.Inbox.{HoldsBox, flow_of, limits_of, next_of, is_negotiated, peer_last_of};
+ghost use Rattle.jr_kept.specs.Inbox.{HoldsBox, flow_of, is_broken, limits_of, next_of, is_negotiated, peer_last_of};
 ghost use Rattle.gate_turn.specs.Views.{Part};
 ghost use Rattle.gate_senders.specs.Gate.{opening_of};
 ghost use Rattle.conn_loop.specs.Conn.{line_of, new_line};
@@ -14,8 +14,9 @@ ghost use Rattle.turn_laws.specs.Legs.{TurnedLeg};
 ghost use Rattle.two_ends.specs.Driving.{Beginning, Awaits, begun_leg};
 ghost use Rattle.cmd_config.specs.Settings.{own_flow, peer_flow};
 ghost use Rattle.cmd_script.specs.Script.{IsCount, IsScript};
-ghost use Rattle.gw_rehearse.specs.Standing.{Rests, is_failed, is_given, is_going, sent_by};
-ghost use Rattle.gw_rehearse.specs.Driven.{BeginsOn, ClosedOn, IsDriven, IsMadeOf, RunsOver, StandsBehind, TurnsOn};
+ghost use Rattle.order_staff.specs.Staffs.{MayBe, sent_in};
+ghost use Rattle.gw_rehearse.specs.Standing.{Rests, is_failed, is_given, is_going};
+ghost use Rattle.gw_rehearse.specs.Driven.{BeginsOn, ClosedOn, IsAnswered, IsDriven, IsEnded, IsMadeOf, IsResting, RunsOver, StandsBehind, TurnsOn};
 ghost use Rattle.gw_rehearse.specs.Stopped.{BeginsOnLeft, DisksLeaveNoMore};
 ghost use Rattle.gw_rehearse.specs.Summaries.{counts_to};
 ghost use Rattle.gw_rehearse.specs.Together.{GoesOnBehind};
@@ -24,6 +25,7 @@ ghost use Rattle.gw_rehearse.specs.declared.standing.Standing.TheVariants as sta
 use crate::configs::config_of;
 use crate::disks::{Disks, open_inbox, open_outbox};
 use crate::journals::{Journals, Log, MOST};
+use crate::posts::posts_of;
 use crate::senders::{finish, go_on, have_sent, submit_next};
 use crate::standing::Standing;
 use crate::turning::make_turn;
@@ -31,14 +33,13 @@ use cmd_script::Script;
 use conn_loop::{Conn, News};
 use fixp_end::{End, EndConfig, EndState, Ending};
 use fixp_shake::Role;
-use gate_plans::{Sender, give_last, seat, take_last, unseat};
 use gate_senders::{Gate, Kept};
-use gate_turn::{Pass, Passes};
+use gate_turn::Pass;
 use gw_fakes::Pick;
 use gw_link_fakes::MemClock;
 use gw_links::Link;
 use jr_kept::{Inbox, Outbox};
-use plan_values::Plan;
+use order_staff::{Posts, Staff};
 use std::alloc::{AllocError, Global};
 use std::sync::Wait;
 use std::thread::Threads;
@@ -46,11 +47,13 @@ use std::thread::Threads;
 /// The most turns of a connection.
 const TURNS: u64 = 1 << 40;
 
-/// An end of a session. Its senders have their passes, and the connection has its own.
+/// The most messages that are answered at once.
+const ANSWERED: usize = 512;
+
+/// An end of a session. Those who send have their passes, and the connection has its own.
 pub(crate) struct DrivenEnd {
     gate: Gate<Log>,
-    passes: Passes<Kept<Log>>,
-    senders: Vec<Sender<Log>>,
+    staff: Staff<Log>,
     pass: Pass<Kept<Log>>,
     inbox: Inbox<Log>,
     conn: Conn,
@@ -112,52 +115,46 @@ fn new_conn(alloc: Global, gate: &Gate<Log>, inbox: &Inbox<Log>, config: EndConf
     opened(alloc, config, state).ok()
 }
 
-/// A plan without messages for each of so many senders; none where memory runs out.
-fn empty_plans(alloc: Global, senders: u16) -> Option<Vec<Plan>>
-    requires { senders ≤ 16 }
-    ensures { IfSome result (λ plans. vec_len plans ≡ senders) }
-{
-    let mut plans = Vec::new(alloc);
-    for _ in 0..senders {
-        plans.push(Plan::new(alloc)).ok()?;
-    }
-    Some(plans)
+/// Whether the connection has ended with both finishes exchanged, or one before it.
+fn has_ended_finished(conn: &Conn, before: bool) -> bool {
+    before || matches!(conn.end().ending(), Some(Ending::Finished))
 }
 
 impl DrivenEnd {
-    /// An end over new journals, with so many senders, which has begun no connection; none where memory runs out.
-    pub(crate) fn open(alloc: Global, config: EndConfig, senders: u16) -> Option<DrivenEnd>
+    /// An end over new journals, with those who are to send, which has begun no connection; none where memory runs out.
+    pub(crate) fn open(alloc: Global, config: EndConfig, posts: Posts) -> Option<DrivenEnd>
         requires keepalive { (100 ≤ config.keepalive) × (config.keepalive ≤ 60000) }
         requires credentials { length config.credentials ≤ 2048 }
-        requires senders { senders ≤ 16 }
+        requires posts { MayBe posts }
         requires session { length config.session ≡ 16 }
         ensures driven { IfSome result (λ end. IsDriven end) }
         ensures sound { IfSome result (λ end. is_given end.standing ≡ false) }
+        ensures rests { IfSome result IsResting }
         ensures first { IfSome result (λ end. ∥ BeginsOn config.own_flow config.peer_flow [] [] end ∥₁) }
     {
         let disks = Disks::formatted(alloc)?;
-        match DrivenEnd::reopen(alloc, config, disks, senders, false) {
+        match DrivenEnd::reopen(alloc, config, disks, posts, false) {
             Ok(end) => Some(end),
             Err(_) => None,
         }
     }
 
-    /// An end over the journals of these disks, with so many senders, which has begun no connection, and which has finished in an earlier life
-    /// or not. The disks come back where a call of one
-    /// failed; none do where memory runs out, or a journal has too many records.
+    /// An end over the journals of these disks, with those who are to send, which has begun no connection, and which has finished in an earlier
+    /// life or not. The disks come back where a call of one failed; none do where memory runs out, or a journal has too many records.
     pub(crate) fn reopen(
         alloc: Global,
         config: EndConfig,
         disks: Disks,
-        senders: u16,
+        posts: Posts,
         finished: bool,
     ) -> Result<DrivenEnd, Option<Disks>>
         requires keepalive { (100 ≤ config.keepalive) × (config.keepalive ≤ 60000) }
         requires credentials { length config.credentials ≤ 2048 }
-        requires senders { senders ≤ 16 }
+        requires posts { MayBe posts }
         requires session { length config.session ≡ 16 }
         ensures driven { IfOk result (λ end. IsDriven end) }
         ensures sound { IfOk result (λ end. is_given end.standing ≡ false) }
+        ensures rests { IfOk result IsResting }
         ensures begins { IfOk result (λ end. ∥ BeginsOnLeft config.own_flow config.peer_flow disks end ∥₁) }
         ensures returned { IfErr result (λ o. IfSome o (DisksLeaveNoMore disks)) }
     {
@@ -175,58 +172,62 @@ impl DrivenEnd {
             }
             Err(None) => return Err(None),
         };
-        match DrivenEnd::over(alloc, config, outbox, inbox, senders, finished) {
+        match DrivenEnd::over(alloc, config, outbox, inbox, posts, finished) {
             Some(end) => Ok(end),
             None => Err(None),
         }
     }
 
-    /// An end over these boxes, with so many senders, which has begun no connection; none where memory runs out, or the outbox has too
+    /// An end over these boxes, with those who are to send, which has begun no connection; none where memory runs out, or the outbox has too
     /// many entries.
+    #[tactic(auto, using(crate::proofs::Driving::few_posts))]
     fn over(
         alloc: Global,
         config: EndConfig,
         outbox: Outbox<Log>,
         inbox: Inbox<Log>,
-        senders: u16,
+        posts: Posts,
         finished: bool,
     ) -> Option<DrivenEnd>
         requires keepalive { (100 ≤ config.keepalive) × (config.keepalive ≤ 60000) }
         requires credentials { length config.credentials ≤ 2048 }
-        requires senders { senders ≤ 16 }
+        requires posts { MayBe posts }
         requires session { length config.session ≡ 16 }
         requires sound { outboxes.is_broken outbox ≡ false }
+        requires in_sound { is_broken inbox ≡ false }
         requires flow { flow_of inbox ≡ config.peer_flow }
         requires limit { (limits_of inbox).entries ≡ 2 ^ 24 }
         requires next { next_of inbox ≤ 2 ^ 24 + 1 }
         ensures driven { IfSome result (λ end. IsDriven end) }
         ensures sound { IfSome result (λ end. is_given end.standing ≡ false) }
+        ensures rests { IfSome result IsResting }
         ensures stands { IfSome result (λ end. ∥ outboxes.StandsFor outbox (opening_of end.gate).history ∥₁) }
         ensures begins { IfSome result (λ end. (i : List InboxRecord) → HoldsBox inbox i [] → BeginsOn config.own_flow config.peer_flow (outbox_of (opening_of end.gate).history) i end) }
     {
-        let plans = empty_plans(alloc, senders)?;
-        let seats = Vec::with_capacity(alloc, plans.len()).ok()?;
-        let Ok((gate, mut passes)) = Gate::new(alloc, outbox, senders) else {
+        let Ok((gate, passes)) = Gate::new(alloc, outbox, posts.count()) else {
             return None;
         };
         let Some(conn) = new_conn(alloc, &gate, &inbox, config) else {
             let _ = gate.close(passes);
             return None;
         };
-        let seated = seat(&gate, &mut passes, plans, seats);
-        let pass = take_last(&gate, &mut passes, senders);
-        Some(DrivenEnd {
-            gate,
-            passes,
-            senders: seated,
-            pass,
-            inbox,
-            conn,
-            news: News::new(alloc),
-            standing: Standing::Over,
-            turns: 0,
-            finished,
-        })
+        match Staff::new(alloc, &gate, passes, posts) {
+            Ok((staff, pass)) => Some(DrivenEnd {
+                gate,
+                staff,
+                pass,
+                inbox,
+                conn,
+                news: News::new(alloc),
+                standing: Standing::Over,
+                turns: 0,
+                finished,
+            }),
+            Err(passes) => {
+                let _ = gate.close(passes);
+                None
+            }
+        }
     }
 
     /// Whether a connection is not over.
@@ -250,6 +251,13 @@ impl DrivenEnd {
         matches!(self.standing, Standing::GivenUp)
     }
 
+    /// Whether no connection goes on, and the next may begin.
+    fn is_resting(&self) -> bool
+        ensures { IsTrue result → self.now.standing ≡ standings.Over }
+    {
+        matches!(self.standing, Standing::Over)
+    }
+
     /// Whether a connection has ended with both finishes exchanged.
     pub(crate) fn has_finished(&self) -> bool {
         self.finished
@@ -267,9 +275,11 @@ impl DrivenEnd {
     ///
     /// # Errors
     /// Want of memory.
+    #[tactic(auto, using(crate::proofs::Driving::senders_kept, crate::proofs::Driving::senders_seated))]
     pub(crate) fn submit<R: Threads + Wait + Sync>(
         &mut self,
         alloc: Global,
+        version: u8,
         messages: &[u64],
         count: u64,
         rt: &R,
@@ -277,25 +287,32 @@ impl DrivenEnd {
         requires counts { All IsCount messages.now }
         requires driven { IsDriven self.old }
         ensures driven { IsDriven self.new }
-        ensures same { self.new ≡ record self.old { senders = self.new.senders } }
+        ensures same { self.new ≡ record self.old { staff = self.new.staff } }
     {
-        if !submit_next(alloc, &self.gate, &mut self.senders, messages, count, rt)? {
+        let Staff::Senders { senders, .. } = &mut self.staff else {
+            return Ok(true);
+        };
+        if !submit_next(alloc, version, &self.gate, senders, messages, count, rt)? {
             return Ok(false);
         }
-        if !have_sent(&self.gate, &mut self.senders, messages, rt) {
+        if !have_sent(&self.gate, senders, messages, rt) {
             return Ok(true);
         }
-        Ok(finish(&self.gate, &mut self.senders, rt))
+        Ok(finish(&self.gate, senders, rt))
     }
 
     /// Whether the outbox has all that each sender sends, and no more of it.
+    #[tactic(auto, using(crate::proofs::Driving::senders_kept, crate::proofs::Driving::senders_seated))]
     pub(crate) fn has_sent<R: Wait>(&mut self, messages: &[u64], rt: &R) -> bool
         requires driven { IsDriven self.old }
         ensures driven { IsDriven self.new }
-        ensures same { self.new ≡ record self.old { senders = self.new.senders } }
-        ensures sent { IsTrue result → sent_by self.new.senders.items ≡ messages.now }
+        ensures same { self.new ≡ record self.old { staff = self.new.staff } }
+        ensures sent { IsTrue result → sent_in self.new.staff ≡ Some messages.now }
     {
-        have_sent(&self.gate, &mut self.senders, messages, rt)
+        let Staff::Senders { senders, .. } = &mut self.staff else {
+            return false;
+        };
+        have_sent(&self.gate, senders, messages, rt)
     }
 
     /// The next connection begins, where one may.
@@ -314,8 +331,14 @@ impl DrivenEnd {
         self.standing = Standing::Open;
     }
 
-    /// A turn is made where a connection goes on.
-    pub(crate) fn turn<L: Link, R: Wait>(&mut self, link: &mut L, clock: &mut MemClock, rt: &R)
+    /// A turn is made where a connection goes on, and what it applied is answered.
+    pub(crate) fn turn<L: Link, R: Threads + Wait + Sync>(
+        &mut self,
+        alloc: Global,
+        link: &mut L,
+        clock: &mut MemClock,
+        rt: &R,
+    )
         requires driven { IsDriven self.old }
         ensures driven { IsDriven self.new }
         ensures flow { flow_of self.new.inbox ≡ flow_of self.old.inbox }
@@ -340,9 +363,49 @@ impl DrivenEnd {
             rt,
         );
         self.turns += 1;
-        if matches!(self.conn.end().ending(), Some(Ending::Finished)) {
-            self.finished = true;
+        self.finished = has_ended_finished(&self.conn, self.finished);
+        self.answer(alloc, rt);
+    }
+
+    /// Has those who answer do so for what the last turn applied, unless that failed. Behind a refusal the end does not go on.
+    fn answer<R: Threads + Wait + Sync>(&mut self, alloc: Global, rt: &R)
+        requires driven { IsDriven self.old }
+        ensures driven { IsDriven self.new }
+        ensures answered { IsAnswered self.old self.new }
+    {
+        if self.has_failed() {
+            return;
         }
+        if self.is_given_up() {
+            return;
+        }
+        let Ok(payloads) = self.news.take_delivered(alloc) else {
+            self.standing = Standing::GivenUp;
+            return;
+        };
+        // A turn applies far fewer.
+        if payloads.len() > ANSWERED {
+            self.standing = Standing::GivenUp;
+            return;
+        }
+        let finished = self.inbox.peer_last().is_some();
+        let answer = self.staff.answer(&payloads, finished, &self.gate, rt);
+        self.standing = self.standing.refused(answer);
+    }
+
+    /// Has those who answer take their place behind the messages of the inbox, in a life that has begun no connection. Answers whether they did;
+    /// where not, a call of a disk failed, or memory ran out.
+    pub(crate) fn resume<R: Threads + Wait + Sync>(&mut self, alloc: Global, rt: &R) -> bool
+        requires driven { IsDriven self.old }
+        requires rests { IsResting self.old }
+        ensures driven { IsDriven self.new }
+        ensures sound { IsTrue result → is_given self.new.standing ≡ false }
+        ensures stands { IsTrue result → (b : Beginning) (legs : List TurnedLeg) → StandsBehind b legs self.old → StandsBehind b legs self.new }
+        ensures ended { (b : Beginning) (legs : List TurnedLeg) → Awaits b → StandsBehind b legs self.old → IsEnded b legs self.new }
+    {
+        let answer = self.staff.resume(alloc, &mut self.inbox, &self.gate, rt);
+        self.standing = Standing::resumed(answer);
+        self.is_resting()
     }
 
     /// The connection is given up, where one goes on: what is held and unsent is dropped.
@@ -365,18 +428,23 @@ impl DrivenEnd {
     ///
     /// # Errors
     /// Want of memory.
+    #[tactic(auto, using(crate::proofs::Driving::senders_kept, crate::proofs::Driving::senders_seated))]
     pub(crate) fn go_on<R: Wait>(
         &mut self,
         alloc: Global,
+        version: u8,
         messages: &[u64],
         rt: &R,
     ) -> Result<(), AllocError>
         requires counts { All IsCount messages.now }
         requires driven { IsDriven self.old }
         ensures driven { IsDriven self.new }
-        ensures same { self.new ≡ record self.old { senders = self.new.senders } }
+        ensures same { self.new ≡ record self.old { staff = self.new.staff } }
     {
-        go_on(alloc, &self.gate, &mut self.senders, messages, rt)
+        let Staff::Senders { senders, .. } = &mut self.staff else {
+            return Ok(());
+        };
+        go_on(alloc, version, &self.gate, senders, messages, rt)
     }
 
     /// The end goes on from its disks: once they were stopped as the pick says, or, where there is a fuse, with so many more calls of each. Where
@@ -393,30 +461,83 @@ impl DrivenEnd {
         requires driven { IsDriven self }
         ensures driven { IfSome result (λ r. IsDriven r.0) }
         ensures sound { IfSome result (λ r. is_given r.0.standing ≡ false) }
+        ensures rests { IfSome result (λ r. IsResting r.0) }
         ensures next { IfSome result (λ r. GoesOnBehind (own_flow role script.now.link.client_flow script.now.link.server_flow) (peer_flow role script.now.link.client_flow script.now.link.server_flow) self r.0) }
     {
         let finished = self.finished;
         let journals = self.close();
-        let senders = journals.senders;
         let disks = journals.into_disks();
         match fuse {
-            None => reopen_stopped(alloc, script, role, disks, pick, senders, finished),
-            Some(after) => {
-                reopen_fused(alloc, script, role, disks, after, pick, senders, finished)
-            }
+            None => reopen_stopped(alloc, script, role, disks, pick, finished),
+            Some(after) => reopen_fused(alloc, script, role, disks, after, pick, finished),
         }
+    }
+
+    /// The end goes on from its disks, as `restart` says, and those who answer take their place. Where a call of a disk fails in that, it is
+    /// stopped at once, and they take it behind that. Answers the end, and whether it is still to be stopped; none where memory runs out.
+    pub(crate) fn restart_answering<R: Threads + Wait + Sync>(
+        self,
+        alloc: Global,
+        script: &Script,
+        role: Role,
+        fuse: Option<u32>,
+        pick: Pick,
+        rt: &R,
+    ) -> Option<(DrivenEnd, bool)>
+        requires script { IsScript script.now }
+        requires driven { IsDriven self }
+        ensures driven { IfSome result (λ r. IsDriven r.0) }
+        ensures sound { IfSome result (λ r. is_given r.0.standing ≡ false) }
+        ensures next { IfSome result (λ r. GoesOnBehind (own_flow role script.now.link.client_flow script.now.link.server_flow) (peer_flow role script.now.link.client_flow script.now.link.server_flow) self r.0) }
+    {
+        let Some((mut end, pending)) = self.restart(alloc, script, role, fuse, pick) else {
+            return None;
+        };
+        if end.resume(alloc, rt) {
+            return Some((end, pending));
+        }
+        end.stop_answering(alloc, script, role, pick, rt)
+    }
+
+    /// The end is stopped, unless it was given up, and goes on from its disks, where those who answer take their place; none where memory runs
+    /// out.
+    fn stop_answering<R: Threads + Wait + Sync>(
+        self,
+        alloc: Global,
+        script: &Script,
+        role: Role,
+        pick: Pick,
+        rt: &R,
+    ) -> Option<(DrivenEnd, bool)>
+        requires script { IsScript script.now }
+        requires driven { IsDriven self }
+        ensures driven { IfSome result (λ r. IsDriven r.0) }
+        ensures sound { IfSome result (λ r. is_given r.0.standing ≡ false) }
+        ensures next { IfSome result (λ r. GoesOnBehind (own_flow role script.now.link.client_flow script.now.link.server_flow) (peer_flow role script.now.link.client_flow script.now.link.server_flow) self r.0) }
+    {
+        if self.is_given_up() {
+            let _ = self.close();
+            return None;
+        }
+        let Some((mut end, _)) = self.restart(alloc, script, role, None, pick) else {
+            return None;
+        };
+        if end.resume(alloc, rt) {
+            return Some((end, false));
+        }
+        let _ = end.close();
+        None
     }
 
     /// Its journals.
     pub(crate) fn close(self) -> Journals
         requires driven { IsDriven self }
-        ensures counts { counts_to result.outbox result.senders ≡ sent_by self.senders.items }
+        ensures counts { (counts : List ℕ) → sent_in self.staff ≡ Some counts → counts_to result.outbox result.senders ≡ counts }
         ensures closed { ClosedOn self result }
     {
         let DrivenEnd {
             gate,
-            mut passes,
-            senders,
+            staff,
             pass,
             inbox,
             conn: _,
@@ -425,13 +546,12 @@ impl DrivenEnd {
             turns: _,
             finished: _,
         } = self;
-        let count = senders.len() as u16;
-        give_last(&gate, &mut passes, count, pass);
-        unseat(&gate, senders, &mut passes);
+        let senders = staff.count();
+        let passes = staff.close(&gate, pass);
         Journals {
             outbox: gate.close(passes),
             inbox,
-            senders: count,
+            senders,
         }
     }
 }
@@ -442,20 +562,19 @@ fn reopen_as(
     script: &Script,
     role: Role,
     disks: Disks,
-    senders: u16,
     finished: bool,
 ) -> Result<DrivenEnd, Option<Disks>>
     requires script { IsScript script.now }
-    requires senders { senders ≤ 16 }
     ensures driven { IfOk result (λ end. IsDriven end) }
     ensures sound { IfOk result (λ end. is_given end.standing ≡ false) }
+    ensures rests { IfOk result IsResting }
     ensures begins { IfOk result (λ end. ∥ BeginsOnLeft (own_flow role script.now.link.client_flow script.now.link.server_flow) (peer_flow role script.now.link.client_flow script.now.link.server_flow) disks end ∥₁) }
     ensures returned { IfErr result (λ o. IfSome o (DisksLeaveNoMore disks)) }
 {
     let Ok(config) = config_of(alloc, script, role) else {
         return Err(None);
     };
-    DrivenEnd::reopen(alloc, config, disks, senders, finished)
+    DrivenEnd::reopen(alloc, config, disks, posts_of(script, role), finished)
 }
 
 /// The end of a role over the journals of these disks, once they were stopped, which is not to be stopped again; none where memory runs out.
@@ -465,17 +584,16 @@ fn reopen_stopped(
     role: Role,
     disks: Disks,
     pick: Pick,
-    senders: u16,
     finished: bool,
 ) -> Option<(DrivenEnd, bool)>
     requires script { IsScript script.now }
-    requires senders { senders ≤ 16 }
     ensures driven { IfSome result (λ r. IsDriven r.0) }
     ensures sound { IfSome result (λ r. is_given r.0.standing ≡ false) }
+    ensures rests { IfSome result (λ r. IsResting r.0) }
     ensures begins { IfSome result (λ r. ∥ BeginsOnLeft (own_flow role script.now.link.client_flow script.now.link.server_flow) (peer_flow role script.now.link.client_flow script.now.link.server_flow) disks r.0 ∥₁) }
 {
     let stopped = disks.stop(pick);
-    match reopen_as(alloc, script, role, stopped, senders, finished) {
+    match reopen_as(alloc, script, role, stopped, finished) {
         Ok(end) => Some((end, false)),
         Err(_) => None,
     }
@@ -490,21 +608,18 @@ fn reopen_fused(
     disks: Disks,
     after: u32,
     pick: Pick,
-    senders: u16,
     finished: bool,
 ) -> Option<(DrivenEnd, bool)>
     requires script { IsScript script.now }
-    requires senders { senders ≤ 16 }
     ensures driven { IfSome result (λ r. IsDriven r.0) }
     ensures sound { IfSome result (λ r. is_given r.0.standing ≡ false) }
+    ensures rests { IfSome result (λ r. IsResting r.0) }
     ensures begins { IfSome result (λ r. ∥ BeginsOnLeft (own_flow role script.now.link.client_flow script.now.link.server_flow) (peer_flow role script.now.link.client_flow script.now.link.server_flow) disks r.0 ∥₁) }
 {
     let fused = disks.fuse(u64::from(after));
-    match reopen_as(alloc, script, role, fused, senders, finished) {
+    match reopen_as(alloc, script, role, fused, finished) {
         Ok(end) => Some((end, true)),
-        Err(Some(failed)) => {
-            reopen_stopped(alloc, script, role, failed, pick, senders, finished)
-        }
+        Err(Some(failed)) => reopen_stopped(alloc, script, role, failed, pick, finished),
         Err(None) => None,
     }
 }

@@ -1,5 +1,5 @@
 //! A rehearsal: the two ends of a session over journals and connections in memory, driven round by round as a script says, until
-//! both have finished. Relies on `conn_loop` for each turn, on `gate_plans` for the senders, on `cmd_script` for the script, and on the
+//! both have finished. Relies on `conn_loop` for each turn, on `order_staff` for those who send, on `cmd_script` for the script, and on the
 //! disks, links and clock in memory of `gw_fakes` and `gw_link_fakes`.
 #![tactic(auto)]
 
@@ -9,7 +9,9 @@ mod end;
 mod journals;
 mod pair;
 mod payloads;
+mod posts;
 mod rehearsal;
+mod reports;
 mod senders;
 mod standing;
 mod summary;

@@ -1,12 +1,12 @@
 //! Both ends, and what lies between them.
 
-ghost use Rattle.std.specs.Prelude.{◌≡◌, ◌≤◌, ◌||◌, [], All, length, false, if◌then◌else◌, None, Some, IfOk, IfSome, IsTrue, OnErr, OnOk};
+ghost use Rattle.std.specs.Prelude.{◌≡◌, ◌||◌, ℕ, List, [], false, if◌then◌else◌, None, Some, IfOk, IfSome, IsTrue, OnErr, OnOk};
 ghost use Rattle.fixp_msgs.specs.declared.flow.Flow.{Flow};
 ghost use Rattle.jr_kept.specs.Inbox.{flow_of, next_of};
 ghost use Rattle.gw_link_fakes.specs.Pipes.{told_at};
 ghost use Rattle.gw_link_fakes.specs.declared.pipe.Side.TheVariants.{Left, Right};
 ghost use Rattle.cmd_config.specs.Settings.{own_flow, peer_flow};
-ghost use Rattle.cmd_script.specs.Script.{IsCount, IsScript};
+ghost use Rattle.cmd_script.specs.Script.{IsScript};
 ghost use Rattle.gw_rehearse.specs.Standing.{is_given, is_going};
 ghost use Rattle.gw_rehearse.specs.Driven.{BeginsOn, IsDriven, TurnsOn};
 ghost use Rattle.gw_rehearse.specs.Together.{IsPairOf, KeepsSession, StaysSound, Together, is_lost};
@@ -15,6 +15,7 @@ ghost use Rattle.gw_rehearse.specs.Summaries.{counts_to};
 use crate::configs::config_of;
 use crate::end::DrivenEnd;
 use crate::journals::Journals;
+use crate::posts::posts_of;
 use cmd_script::{Script, Step};
 use fixp_msgs::Flow;
 use fixp_shake::Role;
@@ -59,56 +60,83 @@ impl From<AllocError> for Spent {
     }
 }
 
-/// An end of a role, with so many senders; none where memory runs out.
-fn open_end(alloc: Global, script: &Script, role: Role, senders: u16) -> Option<DrivenEnd>
+/// An end of a role over new journals, with those who send there; none where memory runs out.
+fn open_end<R: Threads + Wait + Sync>(
+    alloc: Global,
+    script: &Script,
+    role: Role,
+    rt: &R,
+) -> Option<DrivenEnd>
     requires script { IsScript script.now }
-    requires senders { senders ≤ 16 }
     ensures driven { IfSome result (λ end. IsDriven end) }
     ensures sound { IfSome result (λ end. is_given end.standing ≡ false) }
     ensures first { IfSome result (λ end. ∥ BeginsOn (own_flow role script.now.link.client_flow script.now.link.server_flow) (peer_flow role script.now.link.client_flow script.now.link.server_flow) [] [] end ∥₁) }
 {
-    let config = config_of(alloc, script, role).ok()?;
-    DrivenEnd::open(alloc, config, senders)
+    let Ok(config) = config_of(alloc, script, role) else {
+        return None;
+    };
+    let Some(mut end) = DrivenEnd::open(alloc, config, posts_of(script, role)) else {
+        return None;
+    };
+    if end.resume(alloc, rt) {
+        return Some(end);
+    }
+    let _ = end.close();
+    None
 }
 
 impl Model for Pair {
     ghost use Rattle.std.specs.Prelude.{◌≡◌, false};
-    ghost use Rattle.gw_rehearse.specs.Standing.{is_failed, sent_by};
+    ghost use Rattle.gw_rehearse.specs.Standing.{is_failed};
+    ghost use Rattle.order_staff.specs.Staffs.{sent_in};
     ghost use Rattle.std.specs.Prelude.{◌||◌};
     ghost use Rattle.gw_rehearse.specs.Driven.{IsDriven};
     ghost use Rattle.gw_rehearse.specs.Together.{PairNow, Together, is_lost};
 
     ghost Value = { PairNow };
 
-    ghost view = { λ p. record { sent = sent_by p.initiator.senders.items; client = p.client; server = p.server; lost = is_lost p.initiator p.acceptor; failed = is_failed p.initiator.standing || is_failed p.acceptor.standing } };
+    ghost view = { λ p. record { sent = sent_in p.initiator.staff; client = p.client; server = p.server; lost = is_lost p.initiator p.acceptor; failed = is_failed p.initiator.standing || is_failed p.acceptor.standing } };
 
     ghost invariant = { λ p. IsDriven p.initiator × IsDriven p.acceptor × (is_lost p.initiator p.acceptor ≡ false → ∥ Together p.client p.server p.initiator p.acceptor p.pipe ∥₁) };
 }
 
 /// A turn of an end over the left end of a pipe.
-fn turn_left<R: Wait>(end: &mut DrivenEnd, pipe: &mut Pipe, clock: &mut MemClock, rt: &R)
+fn turn_left<R: Threads + Wait + Sync>(
+    alloc: Global,
+    end: &mut DrivenEnd,
+    pipe: &mut Pipe,
+    clock: &mut MemClock,
+    rt: &R,
+)
     requires driven { IsDriven end.old }
     ensures driven { IsDriven end.new }
     ensures sound { is_given end.new.standing ≡ false → is_given end.old.standing ≡ false }
     ensures turned { TurnsOn end.old end.new (Some (told_at Left pipe.old)) (Some (told_at Left pipe.new)) }
 {
     let mut link = pipe.left();
-    end.turn(&mut link, clock, rt);
+    end.turn(alloc, &mut link, clock, rt);
 }
 
 /// A turn of an end over the right end of a pipe.
-fn turn_right<R: Wait>(end: &mut DrivenEnd, pipe: &mut Pipe, clock: &mut MemClock, rt: &R)
+fn turn_right<R: Threads + Wait + Sync>(
+    alloc: Global,
+    end: &mut DrivenEnd,
+    pipe: &mut Pipe,
+    clock: &mut MemClock,
+    rt: &R,
+)
     requires driven { IsDriven end.old }
     ensures driven { IsDriven end.new }
     ensures sound { is_given end.new.standing ≡ false → is_given end.old.standing ≡ false }
     ensures turned { TurnsOn end.old end.new (Some (told_at Right pipe.old)) (Some (told_at Right pipe.new)) }
 {
     let mut link = pipe.right();
-    end.turn(&mut link, clock, rt);
+    end.turn(alloc, &mut link, clock, rt);
 }
 
 /// A turn of the initiator, and then one of the acceptor, unless the initiator failed.
-fn turn_both<R: Wait>(
+fn turn_both<R: Threads + Wait + Sync>(
+    alloc: Global,
     initiator: &mut DrivenEnd,
     acceptor: &mut DrivenEnd,
     pipe: &mut Pipe,
@@ -122,12 +150,12 @@ fn turn_both<R: Wait>(
     ensures sound { is_lost initiator.new acceptor.new ≡ false → is_lost initiator.old acceptor.old ≡ false }
     ensures together { (client server : Flow) → Together client server initiator.old acceptor.old (Some pipe.old) → is_lost initiator.new acceptor.new ≡ false → Together client server initiator.new acceptor.new (Some pipe.new) }
 {
-    turn_left(initiator, pipe, clock, rt);
+    turn_left(alloc, initiator, pipe, clock, rt);
     // Its link is cut as it is stopped, so the other end receives nothing more.
     if initiator.has_failed() {
         return;
     }
-    turn_right(acceptor, pipe, clock, rt);
+    turn_right(alloc, acceptor, pipe, clock, rt);
 }
 
 /// The connection that stands, or a new one, which both ends begin.
@@ -184,15 +212,18 @@ fn put_back(place: &mut Option<Pipe>, pipe: Pipe, goes_on: bool)
 
 impl Pair {
     /// Two ends over new journals, between which no connection stands; none where memory runs out.
-    pub(crate) fn open(alloc: Global, script: &Script) -> Option<Pair>
+    pub(crate) fn open<R: Threads + Wait + Sync>(
+        alloc: Global,
+        script: &Script,
+        rt: &R,
+    ) -> Option<Pair>
         requires { IsScript script.now }
         ensures client { IfSome result (λ pair. pair.client ≡ script.now.link.client_flow) }
         ensures server { IfSome result (λ pair. pair.server ≡ script.now.link.server_flow) }
         ensures sound { IfSome result (λ pair. pair.lost ≡ false) }
     {
-        let senders = script.load.messages.len() as u16;
-        let initiator = open_end(alloc, script, Role::Initiator, senders)?;
-        let Some(acceptor) = open_end(alloc, script, Role::Acceptor, 0) else {
+        let initiator = open_end(alloc, script, Role::Initiator, rt)?;
+        let Some(acceptor) = open_end(alloc, script, Role::Acceptor, rt) else {
             let _ = initiator.close();
             return None;
         };
@@ -215,7 +246,7 @@ impl Pair {
 
     /// Whether the initiator's outbox has all that each sender sends, and no more of it.
     pub(crate) fn has_sent<R: Wait>(&mut self, messages: &[u64], rt: &R) -> bool
-        ensures sent { IsTrue result → self.new.sent ≡ messages.now }
+        ensures sent { IsTrue result → self.new.sent ≡ Some messages.now }
         ensures stays { StaysSound self.old self.new }
     {
         self.initiator.has_sent(messages, rt)
@@ -231,7 +262,7 @@ impl Pair {
     /// # Errors
     /// Want of memory.
     #[tactic(auto, using(crate::proofs::Together::stays_self))]
-    fn turns<R: Wait>(&mut self, rt: &R) -> Result<(), Spent>
+    fn turns<R: Threads + Wait + Sync>(&mut self, rt: &R) -> Result<(), Spent>
         ensures stays { OnOk result (StaysSound self.old self.new) }
     {
         if self.is_over() {
@@ -246,6 +277,7 @@ impl Pair {
             &mut self.clock,
         )?;
         turn_both(
+            self.alloc,
             &mut self.initiator,
             &mut self.acceptor,
             &mut pipe,
@@ -266,7 +298,7 @@ impl Pair {
     /// # Errors
     /// Want of memory, behind which no round follows.
     #[tactic(auto, using(crate::proofs::Together::stays_self, crate::proofs::Together::stays_on))]
-    fn round<R: Wait>(&mut self, rt: &R) -> Result<(), Spent>
+    fn round<R: Threads + Wait + Sync>(&mut self, rt: &R) -> Result<(), Spent>
         ensures stays { OnOk result (StaysSound self.old self.new) }
     {
         self.turns(rt)?;
@@ -286,7 +318,7 @@ impl Pair {
     /// # Errors
     /// Want of memory.
     #[tactic(auto, using(crate::proofs::Together::stays_self, crate::proofs::Together::stays_on))]
-    fn rounds<R: Wait>(&mut self, count: u32, rt: &R) -> Result<u32, Spent>
+    fn rounds<R: Threads + Wait + Sync>(&mut self, count: u32, rt: &R) -> Result<u32, Spent>
         ensures stays { OnOk result (StaysSound self.old self.new) }
     {
         for done in 0..count {
@@ -316,14 +348,19 @@ impl Pair {
     /// Want of memory.
     fn submit<R: Threads + Wait + Sync>(
         &mut self,
-        messages: &[u64],
+        script: &Script,
         count: u64,
         rt: &R,
     ) -> Result<bool, Spent>
-        requires counts { All IsCount messages.now }
+        requires script { IsScript script.now }
         ensures stays { OnOk result (StaysSound self.old self.new) }
     {
-        Ok(self.initiator.submit(self.alloc, messages, count, rt)?)
+        let version = script.load.initiator_version;
+        let messages = script.load.messages.as_slice();
+        Ok(
+            self.initiator
+                .submit(self.alloc, version, messages, count, rt)?,
+        )
     }
 
     /// Both ends are given up.
@@ -350,8 +387,7 @@ impl Pair {
         ensures stays { IfOk result (StaysSound self) }
     {
         let mut pair = self;
-        let messages = script.load.messages.as_slice();
-        match pair.submit(messages, count, rt) {
+        match pair.submit(script, count, rt) {
             Ok(true) => pair.run(script, rounds, rt),
             Ok(false) => pair.stop_pending(script, rt)?.run(script, rounds, rt),
             Err(Spent) => Err(pair.give_up()),
@@ -363,7 +399,12 @@ impl Pair {
     /// # Errors
     /// Want of memory.
     #[tactic(auto, using(crate::proofs::Together::stays_self, crate::proofs::Together::stays_on, crate::proofs::Together::pair_on))]
-    fn run<R: Wait>(self, script: &Script, count: u32, rt: &R) -> Result<Pair, Spent>
+    fn run<R: Threads + Wait + Sync>(
+        self,
+        script: &Script,
+        count: u32,
+        rt: &R,
+    ) -> Result<Pair, Spent>
         requires script { IsScript script.now }
         requires flows { IsPairOf script.now self }
         ensures stays { IfOk result (StaysSound self) }
@@ -387,7 +428,7 @@ impl Pair {
     ///
     /// # Errors
     /// Want of memory; also where an end failed that no stop is of, since its disk has no room then.
-    fn stop_pending<R: Wait>(self, script: &Script, rt: &R) -> Result<Pair, Spent>
+    fn stop_pending<R: Threads + Wait + Sync>(self, script: &Script, rt: &R) -> Result<Pair, Spent>
         requires script { IsScript script.now }
         requires flows { IsPairOf script.now self }
         ensures stays { IfOk result (StaysSound self) }
@@ -403,7 +444,7 @@ impl Pair {
     /// # Errors
     /// Want of memory.
     #[tactic(auto, using(crate::proofs::Together::stays_self, crate::proofs::Together::stays_on, crate::proofs::Together::pair_on))]
-    fn stop_due<R: Wait>(self, script: &Script, rt: &R) -> Result<Pair, Spent>
+    fn stop_due<R: Threads + Wait + Sync>(self, script: &Script, rt: &R) -> Result<Pair, Spent>
         requires script { IsScript script.now }
         requires flows { IsPairOf script.now self }
         ensures stays { IfOk result (StaysSound self) }
@@ -418,7 +459,7 @@ impl Pair {
     ///
     /// # Errors
     /// Want of memory; also where the other end failed.
-    fn renew<R: Wait>(
+    fn renew<R: Threads + Wait + Sync>(
         self,
         script: &Script,
         stop: Stop,
@@ -431,12 +472,12 @@ impl Pair {
     {
         match stop.end {
             Role::Initiator => self.renew_initiator(script, stop, fuse, rt),
-            Role::Acceptor => self.renew_acceptor(script, stop, fuse),
+            Role::Acceptor => self.renew_acceptor(script, stop, fuse, rt),
         }
     }
 
     /// The initiator goes on from its journals, and the connection is cut.
-    fn renew_initiator<R: Wait>(
+    fn renew_initiator<R: Threads + Wait + Sync>(
         self,
         script: &Script,
         stop: Stop,
@@ -471,8 +512,9 @@ impl Pair {
             let _ = acceptor.close();
             return Err(Spent);
         };
+        let version = script.load.initiator_version;
         let messages = script.load.messages.as_slice();
-        let answer = initiator.go_on(alloc, messages, rt);
+        let answer = initiator.go_on(alloc, version, messages, rt);
         let pair = Pair {
             initiator,
             acceptor,
@@ -490,7 +532,13 @@ impl Pair {
     }
 
     /// The acceptor goes on from its journals, and the connection is cut.
-    fn renew_acceptor(self, script: &Script, stop: Stop, fuse: Option<u32>) -> Result<Pair, Spent>
+    fn renew_acceptor<R: Threads + Wait + Sync>(
+        self,
+        script: &Script,
+        stop: Stop,
+        fuse: Option<u32>,
+        rt: &R,
+    ) -> Result<Pair, Spent>
         requires script { IsScript script.now }
         requires flows { IsPairOf script.now self }
         ensures stays { IfOk result (StaysSound self) }
@@ -509,12 +557,13 @@ impl Pair {
             alloc,
         } = self;
         initiator.cut();
-        let Some((acceptor, pending)) = acceptor.restart(
+        let Some((acceptor, pending)) = acceptor.restart_answering(
             alloc,
             script,
             Role::Acceptor,
             fuse,
             stop.pick,
+            rt,
         ) else {
             let _ = initiator.close();
             return Err(Spent);
@@ -537,7 +586,7 @@ impl Pair {
     /// # Errors
     /// Want of memory.
     #[tactic(auto, using(crate::proofs::Together::stays_self, crate::proofs::Together::stays_on, crate::proofs::Together::pair_on))]
-    fn begin_stop<R: Wait>(
+    fn begin_stop<R: Threads + Wait + Sync>(
         self,
         script: &Script,
         stop: Stop,
@@ -618,7 +667,7 @@ impl Pair {
     /// # Errors
     /// Want of memory.
     #[tactic(auto, using(crate::proofs::Together::stays_self, crate::proofs::Together::stays_on))]
-    pub(crate) fn drain<R: Wait>(&mut self, most: u64, rt: &R) -> Result<(), Spent>
+    pub(crate) fn drain<R: Threads + Wait + Sync>(&mut self, most: u64, rt: &R) -> Result<(), Spent>
         ensures stays { OnOk result (StaysSound self.old self.new) }
     {
         for _ in 0..most {
@@ -632,7 +681,7 @@ impl Pair {
 
     /// The journals of the initiator and of the acceptor.
     pub(crate) fn close(self) -> (Journals, Journals)
-        ensures counts { counts_to result.0.outbox result.0.senders ≡ self.sent }
+        ensures counts { (counts : List ℕ) → self.sent ≡ Some counts → counts_to result.0.outbox result.0.senders ≡ counts }
         ensures keeps { self.lost ≡ false → ∥ KeepsSession self.client self.server result.0 result.1 ∥₁ }
     {
         let Pair {

@@ -3,11 +3,12 @@
 ghost use Rattle.std.specs.Prelude.{◌≡◌, ℕ, Err, IfOk, IsTrue, OnOk};
 ghost use Rattle.cmd_script.specs.Script.{IsScript};
 ghost use Rattle.gw_rehearse.specs.Together.{Arrives, CountsAll, IsPairOf, KeepsSession, StaysSound, StoppedAt};
-ghost use Rattle.gw_rehearse.specs.Summaries.{counts_to, sent_in};
+ghost use Rattle.gw_rehearse.specs.Summaries.{HasReported, counts_to, sent_in};
 ghost use Rattle.gw_rehearse.specs.declared.rehearsal.RehearseFault.TheVariants as faults;
 
 use crate::journals::Journals;
 use crate::pair::{Pair, Spent};
+use crate::reports::has_reported;
 use cmd_script::Script;
 use fixp_msgs::Flow;
 use std::alloc::Global;
@@ -22,8 +23,8 @@ const ROUNDS_EACH: u64 = 16;
 /// Why a rehearsal did not come to its end.
 #[derive(Clone, Copy, Debug)]
 pub enum RehearseFault {
-    /// Both finishes were not exchanged within the rounds behind the last step, with all messages sent, and those of a recoverable flow applied; the
-    /// inboxes wait for these numbers.
+    /// Both finishes were not exchanged within the rounds behind the last step, with all messages sent, those of a recoverable flow applied, and all
+    /// that were applied reported on; the inboxes wait for these numbers.
     Undrained {
         initiator_next: u64,
         acceptor_next: u64,
@@ -56,7 +57,7 @@ fn total(messages: &[u64]) -> u64 {
 fn run<R: Threads + Wait + Sync>(pair: Pair, script: &Script, rt: &R) -> Result<(Pair, bool), Spent>
     requires script { IsScript script.now }
     requires flows { IsPairOf script.now pair }
-    ensures sent { IfOk result (λ r. IsTrue r.1 → r.0.sent ≡ script.now.load.messages) }
+    ensures sent { IfOk result (λ r. IsTrue r.1 → r.0.sent ≡ Some script.now.load.messages) }
     ensures stays { IfOk result (λ r. StaysSound pair r.0) }
 {
     let messages = script.load.messages.as_slice();
@@ -93,17 +94,20 @@ fn judged(
     initiator: Journals,
     acceptor: Journals,
 ) -> Result<Rehearsal, RehearseFault>
+    requires script { IsScript script.now }
     requires keeps { ∥ KeepsSession script.now.link.client_flow script.now.link.server_flow initiator acceptor ∥₁ }
     requires sent { IsTrue done → counts_to initiator.outbox initiator.senders ≡ script.now.load.messages }
     ensures sent { IfOk result (λ r. sent_in r ≡ script.now.load.messages) }
     ensures keeps { IfOk result (λ r. ∥ KeepsSession script.now.link.client_flow script.now.link.server_flow r.initiator r.acceptor ∥₁) }
     ensures outward { IfOk result (λ r. Arrives script.now.link.client_flow r.initiator r.acceptor) }
     ensures homeward { IfOk result (λ r. Arrives script.now.link.server_flow r.acceptor r.initiator) }
+    ensures reported { IfOk result (λ r. HasReported script.now.load r.acceptor) }
     ensures undrained { (m n : ℕ) → result ≡ Err (faults.Undrained m n) → ∥ StoppedAt script.now.link.client_flow script.now.link.server_flow m n ∥₁ }
 {
     let outward = has_arrived(script.link.client_flow, &initiator, &acceptor);
     let homeward = has_arrived(script.link.server_flow, &acceptor, &initiator);
-    if done && outward && homeward {
+    let reported = has_reported(&script.load, &acceptor);
+    if done && outward && homeward && reported {
         return Ok(Rehearsal {
             initiator,
             acceptor,
@@ -118,7 +122,8 @@ fn judged(
 /// Runs a script over two new ends, and behind its last step rounds until both have finished: 64, and 16 for each message, at most.
 ///
 /// # Errors
-/// `Undrained` where they have not finished then, with all messages sent, and those of a recoverable flow applied; and want of memory.
+/// `Undrained` where they have not finished then, with all messages sent, those of a recoverable flow applied, and all that were applied reported
+/// on; and want of memory.
 pub fn rehearse<R: Threads + Wait + Sync>(
     alloc: Global,
     script: &Script,
@@ -129,9 +134,10 @@ pub fn rehearse<R: Threads + Wait + Sync>(
     ensures keeps { IfOk result (λ r. ∥ KeepsSession script.now.link.client_flow script.now.link.server_flow r.initiator r.acceptor ∥₁) }
     ensures outward { IfOk result (λ r. Arrives script.now.link.client_flow r.initiator r.acceptor) }
     ensures homeward { IfOk result (λ r. Arrives script.now.link.server_flow r.acceptor r.initiator) }
+    ensures reported { IfOk result (λ r. HasReported script.now.load r.acceptor) }
     ensures undrained { (m n : ℕ) → result ≡ Err (faults.Undrained m n) → ∥ StoppedAt script.now.link.client_flow script.now.link.server_flow m n ∥₁ }
 {
-    let Some(pair) = Pair::open(alloc, script) else {
+    let Some(pair) = Pair::open(alloc, script, rt) else {
         return Err(RehearseFault::Memory);
     };
     let Ok((pair, done)) = run(pair, script, rt) else {

@@ -4,7 +4,8 @@ ghost use Rattle.std.specs.Prelude.{◌≡◌, ◌+◌, ◌<◌, ◌≤◌, All,
 ghost use Rattle.gate_plans.specs.Runs.{IsReady};
 ghost use Rattle.gate_plans.specs.Seats.{Seated};
 ghost use Rattle.cmd_script.specs.Script.{IsCount};
-ghost use Rattle.gw_rehearse.specs.Standing.{AreDone, KeepsPasses, UsesFirst, sent_by};
+ghost use Rattle.gw_rehearse.specs.Standing.{AreDone, KeepsPasses, UsesFirst};
+ghost use Rattle.order_staff.specs.Staffs.{sent_by};
 
 use crate::journals::Log;
 use crate::payloads::message_of;
@@ -21,6 +22,7 @@ use std::thread::Threads;
 /// Want of memory.
 fn add_next(
     alloc: Global,
+    version: u8,
     plan: &mut Plan,
     sender: u16,
     all: u64,
@@ -32,7 +34,7 @@ fn add_next(
     let first = plan.len();
     let last = all.min(first.saturating_add(count));
     for place in first..last {
-        let message = message_of(alloc, sender, place + 1)?;
+        let message = message_of(alloc, version, sender, place + 1)?;
         if !plan.add(message)? {
             unreachable!()
         }
@@ -46,6 +48,7 @@ fn add_next(
 /// Want of memory.
 fn add_to_each(
     alloc: Global,
+    version: u8,
     senders: &mut [Sender<Log>],
     messages: &[u64],
     count: u64,
@@ -57,7 +60,14 @@ fn add_to_each(
     for place in 0..senders.len() {
         if place < messages.len() {
             let plan = &mut senders[place].plan;
-            add_next(alloc, plan, place as u16 + 1, messages[place], count)?;
+            add_next(
+                alloc,
+                version,
+                plan,
+                place as u16 + 1,
+                messages[place],
+                count,
+            )?;
         }
     }
     Ok(())
@@ -70,6 +80,7 @@ fn add_to_each(
 #[tactic(auto, using(crate::proofs::Driving::kept_seated))]
 pub(crate) fn submit_next<R: Threads + Wait + Sync>(
     alloc: Global,
+    version: u8,
     gate: &Gate<Log>,
     senders: &mut Vec<Sender<Log>>,
     messages: &[u64],
@@ -82,7 +93,7 @@ pub(crate) fn submit_next<R: Threads + Wait + Sync>(
     ensures seated { Seated gate.now senders.new.items (vec_len senders.new + 1) }
     ensures count { vec_len senders.new ≡ vec_len senders.old }
 {
-    add_to_each(alloc, senders.as_mut_slice(), messages, count)?;
+    add_to_each(alloc, version, senders.as_mut_slice(), messages, count)?;
     Ok(run_seated(gate, senders, &OpenDoor, rt).is_ok())
 }
 
@@ -93,6 +104,7 @@ pub(crate) fn submit_next<R: Threads + Wait + Sync>(
 #[tactic(auto, using(crate::proofs::Driving::kept_seated))]
 pub(crate) fn go_on<R: Wait>(
     alloc: Global,
+    version: u8,
     gate: &Gate<Log>,
     senders: &mut Vec<Sender<Log>>,
     messages: &[u64],
@@ -105,14 +117,19 @@ pub(crate) fn go_on<R: Wait>(
     ensures count { vec_len senders.new ≡ vec_len senders.old }
 {
     count_done(gate, senders, rt);
-    add_done(alloc, senders.as_mut_slice(), messages)
+    add_done(alloc, version, senders.as_mut_slice(), messages)
 }
 
 /// Adds to the plan of each sender the messages that it has done.
 ///
 /// # Errors
 /// Want of memory.
-fn add_done(alloc: Global, senders: &mut [Sender<Log>], messages: &[u64]) -> Result<(), AllocError>
+fn add_done(
+    alloc: Global,
+    version: u8,
+    senders: &mut [Sender<Log>],
+    messages: &[u64],
+) -> Result<(), AllocError>
     requires few { length senders.old ≤ 16 }
     requires counts { All IsCount messages.now }
     ensures passes { KeepsPasses senders.old senders.new }
@@ -121,7 +138,14 @@ fn add_done(alloc: Global, senders: &mut [Sender<Log>], messages: &[u64]) -> Res
         if place < messages.len() {
             let done = senders[place].done;
             let plan = &mut senders[place].plan;
-            add_next(alloc, plan, place as u16 + 1, messages[place], done)?;
+            add_next(
+                alloc,
+                version,
+                plan,
+                place as u16 + 1,
+                messages[place],
+                done,
+            )?;
         }
     }
     Ok(())

@@ -3,6 +3,9 @@
 ghost use Rattle.std.specs.Prelude.{◌≡◌};
 
 use conn_loop::{TurnEnd, TurnFault};
+use gate_business::ResumeFault;
+use jr_dated::FetchFault;
+use jr_kept::SubmitFault;
 
 /// Where an end stands.
 #[derive(Clone, Copy)]
@@ -18,7 +21,7 @@ pub enum Standing {
 }
 
 impl Standing {
-    ghost use Rattle.gw_rehearse.specs.Standing.{standing_of};
+    ghost use Rattle.gw_rehearse.specs.Standing.{refused_by, resumed_by, standing_of};
 
     /// Where an end stands behind a turn that answered so.
     pub(crate) fn behind(answer: Result<TurnEnd, TurnFault>) -> Standing
@@ -29,6 +32,31 @@ impl Standing {
             Ok(TurnEnd::Ended(_)) | Err(TurnFault::Link) => Standing::Over,
             Err(TurnFault::Inbox | TurnFault::Outbox | TurnFault::Broken) => Standing::Failed,
             Err(TurnFault::Changed { .. } | TurnFault::Full { .. } | TurnFault::Memory) => {
+                Standing::GivenUp
+            }
+        }
+    }
+
+    /// Where it stands once what a turn applied was answered so.
+    pub(crate) fn refused(self, answer: Result<(), SubmitFault>) -> Standing
+        ensures { result ≡ refused_by self answer }
+    {
+        match answer {
+            Ok(()) | Err(SubmitFault::Closed) => self,
+            Err(SubmitFault::Fault | SubmitFault::Broken) => Standing::Failed,
+            Err(SubmitFault::Full { .. } | SubmitFault::Memory) => Standing::GivenUp,
+        }
+    }
+
+    /// Where it stands once those who answer were to take their place behind its inbox.
+    pub(crate) fn resumed(answer: Result<(), ResumeFault>) -> Standing
+        ensures { result ≡ resumed_by answer }
+    {
+        match answer {
+            Ok(()) => Standing::Over,
+            Err(ResumeFault::Submit(fault)) => Standing::Over.refused(Err(fault)),
+            Err(ResumeFault::Fetch(FetchFault::Fault | FetchFault::Broken)) => Standing::Failed,
+            Err(ResumeFault::Fetch(FetchFault::Memory | FetchFault::Changed { .. })) => {
                 Standing::GivenUp
             }
         }

@@ -289,20 +289,16 @@ pub fn asked_by(purpose: Purpose, key: &str, found: Option<&Value>) -> Option<As
     }
 }
 
-/// What `rehearse` asks of `desks`, at which this is found: none exactly where the acceptor sends nothing, which it does for now.
+/// What `rehearse` asks of `desks`, at which this is found: none exactly where the acceptor sends nothing.
 fn asked_of_desks(found: Option<&Value>) -> Asked {
     let is_zero = matches!(found, Some(Value::Integer(0)));
     Asked {
         by: "rehearse",
-        value: if is_zero {
-            "above 0 where server_flow is not \"none\""
-        } else {
-            "0"
-        },
+        value: if is_zero { "above 0" } else { "0" },
         condition: if is_zero {
-            "; there are no desks yet, so server_flow has to be \"none\""
+            " where server_flow is not \"none\""
         } else {
-            "; there are no desks yet"
+            " where server_flow is \"none\""
         },
         default: "",
     }
@@ -318,6 +314,12 @@ pub fn asked_by_script(key: &str, found: Option<&Value>) -> Option<Asked> {
             "",
         )),
         "desks" => Some(asked_of_desks(found)),
+        "book" => Some(Asked {
+            by: "rehearse",
+            value: "false",
+            condition: " where desks is not 1",
+            default: "",
+        }),
         _ => None,
     }
 }

@@ -3,13 +3,13 @@ use Rattle.std.proofs.Math.Logic.{∥∥₁_map}
 use Rattle.gw_rehearse.proofs.Arriving.{outward_arrived, homeward_arrived, stopped}
 use Rattle.gw_rehearse.proofs.rehearsal.judged.Goals as goal
 
-pub returns-then-homeward-clause-outward : goal.returns-then-homeward-clause-outward
-returns-then-homeward-clause-outward c = λ is.
+pub returns-then-reported-clause-outward : goal.returns-then-reported-clause-outward
+returns-then-reported-clause-outward c = λ is.
     let link = c.args.script.now.link in
     ∥∥₁_map c.requires.keeps (λ s. outward_arrived link.client_flow link.server_flow c.args.initiator c.args.acceptor s (c.if-outward.ensures.counts refl) is)
 
-pub returns-then-homeward-clause-homeward : goal.returns-then-homeward-clause-homeward
-returns-then-homeward-clause-homeward c = λ is.
+pub returns-then-reported-clause-homeward : goal.returns-then-reported-clause-homeward
+returns-then-reported-clause-homeward c = λ is.
     let link = c.args.script.now.link in
     ∥∥₁_map c.requires.keeps (λ s. homeward_arrived link.client_flow link.server_flow c.args.initiator c.args.acceptor s (c.if-homeward.ensures.counts refl) is)
 

@@ -1,5 +1,5 @@
 use Rattle.std.proofs.Common.{refl}
-use Rattle.gw_rehearse.proofs.Stories.{turned, unturned}
+use Rattle.gw_rehearse.proofs.Stories.{turned, unturned, answered_on, answered_sound}
 use Rattle.gw_rehearse.proofs.end.DrivenEnd.turn.Goals as goal
 
 pub returns-in_default : goal.returns-in_default
@@ -8,14 +8,10 @@ returns-in_default g c = record { driven = c.requires.driven; flow = refl; sound
 pub returns-then-self-ge-TURNS-clause-turned : goal.returns-then-self-ge-TURNS-clause-turned
 returns-then-self-ge-TURNS-clause-turned g c = record { goes = λ b past leg first k sound. unturned b past leg c.args.self.now _ k }
 
-pub returns-then-matches-clause-turned : goal.returns-then-matches-clause-turned
-returns-then-matches-clause-turned g c = record {
+pub returns-clause-turned : goal.returns-clause-turned
+returns-clause-turned g c = record {
   goes = λ b past leg first k sound.
-      turned b past leg c.args.self.now _ _ _ _ _ _ _ _ _ first refl c.in-Open.is (c.requires.driven.1.turns c.in-Open.is).goes.unended c.make_turn-self.ensures.looks k sound c.make_turn-self.ensures.turned;
-}
-
-pub returns-else-matches-clause-turned : goal.returns-else-matches-clause-turned
-returns-else-matches-clause-turned g c = record {
-  goes = λ b past leg first k sound.
-      turned b past leg c.args.self.now _ _ _ _ _ _ _ _ _ first refl c.in-Open.is (c.requires.driven.1.turns c.in-Open.is).goes.unended c.make_turn-self.ensures.looks k sound c.make_turn-self.ensures.turned;
+      let answered = c.answer.ensures.answered in
+      answered_on b past leg _ _ _ _ answered first sound
+      (turned b past leg c.args.self.now _ _ _ _ _ _ _ _ _ first refl c.in-Open.is (c.requires.driven.1.turns c.in-Open.is).goes.unended c.make_turn-self.ensures.looks k (answered_sound _ _ answered sound) c.make_turn-self.ensures.turned);
 }

@@ -4,6 +4,9 @@ use Rattle.gw_rehearse.specs.Together.{PairNow, KeepsSession}
 use Rattle.gw_rehearse.proofs.Closing.{keeps_session}
 use Rattle.gw_rehearse.proofs.pair.Pair.close.Goals as goal
 
+pub returns-clause-counts : goal.returns-clause-counts
+returns-clause-counts c = λ counts is. c.close.ensures.counts counts (ap (λ (v : PairNow). v.sent) c.self.view_is ∙ is)
+
 pub returns-clause-keeps : goal.returns-clause-keeps
 returns-clause-keeps c = λ sound.
     let p = c.self.inside in

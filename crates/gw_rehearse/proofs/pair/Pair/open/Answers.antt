@@ -3,7 +3,7 @@ use Rattle.gw_rehearse.proofs.Together.{new_pair}
 use Rattle.gw_rehearse.proofs.pair.Pair.open.Goals as goal
 
 pub invariant_of-result : goal.invariant_of-result
-invariant_of-result c =
+invariant_of-result g c =
     let link = c.args.script.now.link in (
       c.in_ok-initiator.ensures.driven,
       c.in-Some.ensures.driven,

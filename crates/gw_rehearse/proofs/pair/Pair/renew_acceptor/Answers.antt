@@ -9,7 +9,7 @@ use Rattle.gw_rehearse.proofs.pair.Pair.renew_acceptor.Goals as goal
 use Rattle.fixp_shake.specs.declared.config.Role.TheVariants as roles
 
 pub invariant_of-result : goal.invariant_of-result
-invariant_of-result c =
+invariant_of-result g c =
     let p = c.self.inside in
     let link = c.args.script.now.link in
     let came = c.in-Some in
@@ -24,7 +24,7 @@ invariant_of-result c =
     )
 
 pub returns : goal.returns
-returns c =
+returns g c =
     let p = c.self.inside in
     let came = c.in-Some in
     record {

@@ -1,0 +1,2 @@
+pub mod Soak
+pub mod Laws

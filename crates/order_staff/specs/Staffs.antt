@@ -1,0 +1,79 @@
+-- Those who send at an end, and where their passes are (this project's profile).
+use Rattle.std.specs.Prelude.{◌≡◌, ℕ, ◌+◌, ◌<◌, ◌≤◌, List, length, map, slice_index_or, vec_len, Option, Some, None}
+use Rattle.jr_dated.specs.declared.journal.Journal.{Ghosts}
+use Rattle.gate_turn.specs.Views.{Part}
+use Rattle.gate_turn.specs.Places.{known}
+use Rattle.gate_turn.specs.Listed.{known_at}
+use Rattle.gate_turn.specs.Calls.{IsFree}
+use Rattle.gate_turn.specs.declared.pass.Pass.{Pass}
+use Rattle.gate_turn.specs.declared.passes.Passes.{Passes}
+use Rattle.gate_senders.specs.Gate.{senders_of, IsPassAt}
+use Rattle.gate_senders.specs.declared.gate.Gate.{Gate}
+use Rattle.gate_senders.specs.declared.kept.Kept.{Kept}
+use Rattle.gate_plans.specs.Seats.{Seated, HasBehind}
+use Rattle.gate_plans.specs.declared.sender.Sender.{Sender}
+use Rattle.gate_business.specs.Business.{lock_of}
+use Rattle.order_desk.specs.Schema.{IsVersion}
+use Rattle.order_gate.specs.Desks.{HasPasses, part_in}
+use Rattle.order_book_gate.specs.Desk.{HasPass, part_of}
+use Rattle.order_staff.specs.declared.posts.Posts.{Posts}
+use Rattle.order_staff.specs.declared.posts.Posts.TheVariants as posts
+use Rattle.order_staff.specs.declared.staff.Staff.{Staff}
+use Rattle.order_staff.specs.declared.staff.Staff.TheVariants as staffs
+
+-- how many are to send
+abbrev pub posts_of : Posts → ℕ
+posts_of (posts.Senders count) = count
+posts_of (posts.Desks terms) = terms.desks
+posts_of (posts.Book version) = 1
+
+-- 16 at most; desks are some, of a version that there is
+abbrev pub MayBe : Posts → Type 0
+MayBe (posts.Senders count) = count ≤ 16
+MayBe (posts.Desks terms) = (0 < terms.desks) × (terms.desks ≤ 16) × IsVersion terms.version
+MayBe (posts.Book version) = IsVersion version
+
+module _ {J : Type 0} {G : Ghosts J} where
+  -- how many send
+  abbrev pub count_of : Staff J G → ℕ
+  count_of (staffs.Senders senders passes) = vec_len senders
+  count_of (staffs.Desks count desks) = count
+  count_of (staffs.Book book) = 1
+
+  -- so many who answer have their passes, which are the first ones of this gate
+  pub record HasFirst (gate : Gate J G) (count : ℕ) (has : Type 0) (part : ℕ → Part) : Type 0 where
+    pub holds : has
+    pub some : 0 < count
+    pub few : count ≤ 16
+    pub senders : count ≤ senders_of gate
+    pub first : (part 1).made ≡ count + 1
+
+  -- they have the passes of the first numbers
+  abbrev pub IsSeatedAt : Gate J G → Staff J G → Type 0
+  IsSeatedAt gate (staffs.Senders senders passes) = Seated gate senders.items (vec_len senders + 1) × HasBehind gate passes (vec_len senders + 1) (vec_len senders + 1)
+  IsSeatedAt gate (staffs.Desks count desks) = HasFirst gate count (HasPasses (lock_of gate) desks) (part_in desks.hands.items) × (desks.desks ≡ count)
+  IsSeatedAt gate (staffs.Book book) = HasFirst gate 1 (HasPass (lock_of gate) book) (part_of book)
+
+  -- and the connection has the one behind them
+  pub record HasStaff (gate : Gate J G) (staff : Staff J G) (p : Pass (Kept J G)) : Type 0 where
+    pub few : count_of staff ≤ 16
+    pub seated : IsSeatedAt gate staff
+    pub own : IsPassAt gate p
+    pub free : IsFree p
+    pub number : (known p).number ≡ count_of staff + 1
+    pub alone : count_of staff ≡ 0 → (known p).made ≡ 1
+
+  -- how many messages each of these senders has submitted, as its pass shows
+  abbrev pub sent_by : List (Sender J G) → List ℕ
+  sent_by senders = map (λ (s : Sender J G). length (known s.pass).mine) senders
+
+  -- and each sender of an end, where it has senders
+  abbrev pub sent_in : Staff J G → Option (List ℕ)
+  sent_in (staffs.Senders senders passes) = Some (sent_by senders.items)
+  sent_in (staffs.Desks count desks) = None
+  sent_in (staffs.Book book) = None
+
+  -- the passes of the first numbers made so many entries each
+  pub record HasMade (passes : Passes (Kept J G)) (counts : List ℕ) : Type 0 where
+    pub mine : (i : ℕ) → i < length counts → length (known_at passes (i + 1)).mine ≡ slice_index_or counts i 0
+    pub numbers : (i : ℕ) → i < length counts → (known_at passes (i + 1)).number ≡ i + 1

@@ -1,0 +1,375 @@
+//! Those who send at an end, with their passes.
+
+ghost use Rattle.std.specs.Prelude.{◌≡◌, ℕ, ◌+◌, ◌<◌, ◌≤◌, false, List, length, vec_len, vec_capacity, [], Some, IfErr, IfOk, IfSome};
+ghost use denote.Param.Send.{IsSend};
+ghost use Rattle.order_gate.specs.contracts.desk.Desk as desk;
+ghost use Rattle.order_gate.specs.contracts.form.Form as form;
+ghost use Rattle.order_book.specs.contracts.book.Book as book;
+ghost use Rattle.gate_plans.specs.contracts.door.OpenDoor as open_door;
+ghost use Rattle.jr_kept.specs.Inbox.{SameContent, is_broken, limits_of, flow_of};
+ghost use Rattle.gate_turn.specs.Places.{known};
+ghost use Rattle.gate_turn.specs.Rule.{In};
+ghost use Rattle.gate_turn.specs.Listed.{known_at};
+ghost use Rattle.gate_turn.specs.Calls.{IsFree};
+ghost use Rattle.gate_senders.specs.Gate.{senders_of, IsPassAt, MadeAt, AllBackAt};
+ghost use Rattle.gate_business.specs.Business.{lock_of};
+ghost use Rattle.order_desk.specs.Schema.{IsVersion};
+
+use crate::posts::Posts;
+use gate_business::{Business, ResumeFault, give_connection, take_connection};
+use gate_plans::{OpenDoor, Sender, give_last, seat, take_last, unseat};
+use gate_senders::{Gate, Kept};
+use gate_turn::{Pass, Passes};
+use jr_dated::Journal;
+use jr_kept::{Inbox, SubmitFault};
+use order_book::Book;
+use order_book_gate::BookDesk;
+use order_gate::{Desk, Desks, Form, Terms};
+use plan_values::Plan;
+use sbe_value::Payloads;
+use std::alloc::Global;
+use std::sync::Wait;
+use std::thread::Threads;
+
+/// Those who send at an end.
+pub enum Staff<J: Journal> {
+    /// Senders that have plans, and the passes that nobody has.
+    Senders {
+        senders: Vec<Sender<J>>,
+        passes: Passes<Kept<J>>,
+    },
+    /// So many desks.
+    Desks {
+        count: u16,
+        desks: Desks<J, OpenDoor>,
+    },
+    /// One desk that keeps a book.
+    Book {
+        book: BookDesk<J>,
+    },
+}
+
+/// A plan without messages for each of so many senders; none where memory runs out.
+fn empty_plans(alloc: Global, senders: u16) -> Option<Vec<Plan>>
+    requires { senders ≤ 16 }
+    ensures { IfSome result (λ plans. vec_len plans ≡ senders) }
+{
+    let mut plans = Vec::new(alloc);
+    for _ in 0..senders {
+        plans.push(Plan::new(alloc)).ok()?;
+    }
+    Some(plans)
+}
+
+/// Plans without messages, and room for so many senders.
+fn seats_for<J: Journal>(alloc: Global, senders: u16) -> Option<(Vec<Plan>, Vec<Sender<J>>)>
+    requires { senders ≤ 16 }
+    ensures plans { IfSome result (λ r. vec_len r.0 ≡ senders) }
+    ensures empty { IfSome result (λ r. r.1.items ≡ []) }
+    ensures room { IfSome result (λ r. vec_len r.0 ≤ vec_capacity r.1) }
+{
+    let plans = empty_plans(alloc, senders)?;
+    let seats = Vec::with_capacity(alloc, plans.len()).ok()?;
+    Some((plans, seats))
+}
+
+/// Says of a type that its values may go to another thread. Said of each part apart, since all of a desk is too much for one search.
+fn sends<T: Send>()
+    ensures { IsSend T.row }
+{}
+
+/// The form of orders may go to another thread.
+fn form_sends()
+    ensures { IsSend form.the_row }
+{
+    sends::<Form>();
+}
+
+/// An order book may go to another thread.
+fn book_sends()
+    ensures { IsSend book.the_row }
+{
+    sends::<Book>();
+}
+
+/// A door that lets all pass may go to another thread.
+fn door_sends()
+    ensures { IsSend open_door.the_row }
+{
+    sends::<OpenDoor>();
+}
+
+/// One desk may go to another thread.
+fn desk_sends<J: Journal + Send>()
+    ensures { IsSend (desk.the_row J.row J.Journal) }
+{
+    sends::<Desk<J>>();
+}
+
+/// Has a business answer messages that were applied.
+fn answer_by<J: Journal + Send, B: Business<J> + Send, R: Threads + Wait + Sync>(
+    business: &mut B,
+    payloads: &Payloads,
+    finished: bool,
+    gate: &Gate<J>,
+    rt: &R,
+) -> Result<(), SubmitFault>
+    requires has { B.has business.old (lock_of gate.now) }
+    requires few { B.count business.old ≤ senders_of gate.now }
+    requires most { length payloads.now ≤ 512 }
+    ensures has { B.has business.new (lock_of gate.now) }
+    ensures count { B.count business.new ≡ B.count business.old }
+    ensures made { (n : ℕ) → In (B.count business.old) n → (B.part business.new n).made ≡ (B.part business.old n).made }
+{
+    business.on_applied(payloads, finished, gate, rt)
+}
+
+/// Has a business take its place behind the messages of an inbox.
+fn resume_by<J: Journal + Send, I: Journal, B: Business<J> + Send, R: Threads + Wait + Sync>(
+    alloc: Global,
+    business: &mut B,
+    inbox: &mut Inbox<I>,
+    gate: &Gate<J>,
+    rt: &R,
+) -> Result<(), ResumeFault>
+    requires has { B.has business.old (lock_of gate.now) }
+    requires few { B.count business.old ≤ senders_of gate.now }
+    requires sound { is_broken inbox.old ≡ false }
+    ensures has { B.has business.new (lock_of gate.now) }
+    ensures count { B.count business.new ≡ B.count business.old }
+    ensures made { (n : ℕ) → In (B.count business.old) n → (B.part business.new n).made ≡ (B.part business.old n).made }
+    ensures content { SameContent inbox.old inbox.new }
+    ensures kind { (limits_of inbox.new ≡ limits_of inbox.old) × (flow_of inbox.new ≡ flow_of inbox.old) }
+{
+    business.resume(alloc, inbox, gate, rt)
+}
+
+/// The passes of a business of so many, with the connection's: all of the gate.
+fn passes_by<J: Journal + Send, B: Business<J, Held = Kept<J>>>(
+    business: B,
+    count: u16,
+    gate: &Gate<J>,
+    pass: Pass<Kept<J>>,
+) -> Passes<Kept<J>>
+    requires has { B.has business (lock_of gate.now) }
+    requires count { B.count business ≡ count }
+    requires few { count ≤ 16 }
+    requires first { 0 < count → (B.part business 1).made ≡ count + 1 }
+    requires own { IsPassAt gate.now pass }
+    requires free { IsFree pass }
+    requires number { (known pass).number ≡ count + 1 }
+    requires alone { count ≡ 0 → (known pass).made ≡ 1 }
+    ensures back { AllBackAt gate.now result }
+    ensures first { 0 < count → (known_at result 1).made ≡ count + 1 }
+    ensures last { known_at result (count + 1) ≡ known pass }
+{
+    let mut passes = business.end();
+    give_connection(gate, &mut passes, count, pass);
+    passes
+}
+
+impl<J: Journal + Send> Staff<J> {
+    ghost use Rattle.order_staff.specs.Staffs.{count_of, posts_of, sent_in, HasMade, HasStaff, IsSeatedAt, MayBe};
+
+    /// Those who are to send, with the passes of a gate that was made for so many, and the connection's pass. Senders have empty plans, and no
+    /// business has taken its place.
+    ///
+    /// # Errors
+    /// All passes, for want of memory.
+    pub fn new(
+        alloc: Global,
+        gate: &Gate<J>,
+        passes: Passes<Kept<J>>,
+        posts: Posts,
+    ) -> Result<(Staff<J>, Pass<Kept<J>>), Passes<Kept<J>>>
+        requires able { MayBe posts }
+        requires senders { senders_of gate.now ≡ posts_of posts }
+        requires made { MadeAt gate.now passes (posts_of posts + 1) }
+        ensures staff { IfOk result (λ r. HasStaff gate.now r.0 r.1) }
+        ensures count { IfOk result (λ r. count_of r.0 ≡ posts_of posts) }
+        ensures known { IfOk result (λ r. known r.1 ≡ known_at passes (posts_of posts + 1)) }
+        ensures back { IfErr result (AllBackAt gate.now) }
+    {
+        match posts {
+            Posts::Senders { count } => Staff::seated(alloc, gate, passes, count),
+            Posts::Desks { terms } => Staff::desks(alloc, gate, passes, terms),
+            Posts::Book { version } => Staff::book(alloc, gate, passes, version),
+        }
+    }
+
+    /// So many senders.
+    fn seated(
+        alloc: Global,
+        gate: &Gate<J>,
+        passes: Passes<Kept<J>>,
+        count: u16,
+    ) -> Result<(Staff<J>, Pass<Kept<J>>), Passes<Kept<J>>>
+        requires few { count ≤ 16 }
+        requires senders { senders_of gate.now ≡ count }
+        requires made { MadeAt gate.now passes (count + 1) }
+        ensures staff { IfOk result (λ r. HasStaff gate.now r.0 r.1) }
+        ensures count { IfOk result (λ r. count_of r.0 ≡ count) }
+        ensures known { IfOk result (λ r. known r.1 ≡ known_at passes (count + 1)) }
+        ensures back { IfErr result (AllBackAt gate.now) }
+    {
+        let Some((plans, seats)) = seats_for(alloc, count) else {
+            return Err(passes);
+        };
+        let mut passes = passes;
+        let senders = seat(gate, &mut passes, plans, seats);
+        let pass = take_last(gate, &mut passes, count);
+        Ok((Staff::Senders { senders, passes }, pass))
+    }
+
+    /// Desks on these terms.
+    fn desks(
+        alloc: Global,
+        gate: &Gate<J>,
+        passes: Passes<Kept<J>>,
+        terms: Terms,
+    ) -> Result<(Staff<J>, Pass<Kept<J>>), Passes<Kept<J>>>
+        requires version { IsVersion terms.version }
+        requires some { 0 < terms.desks }
+        requires few { terms.desks ≤ 16 }
+        requires senders { senders_of gate.now ≡ terms.desks }
+        requires made { MadeAt gate.now passes (terms.desks + 1) }
+        ensures staff { IfOk result (λ r. HasStaff gate.now r.0 r.1) }
+        ensures count { IfOk result (λ r. count_of r.0 ≡ terms.desks) }
+        ensures known { IfOk result (λ r. known r.1 ≡ known_at passes (terms.desks + 1)) }
+        ensures back { IfErr result (AllBackAt gate.now) }
+    {
+        let mut passes = passes;
+        let pass = take_connection(gate, &mut passes, terms.desks);
+        match Desks::new(alloc, passes, terms, OpenDoor) {
+            Ok(desks) => {
+                let count = terms.desks;
+                Ok((Staff::Desks { count, desks }, pass))
+            }
+            Err(passes) => {
+                let mut passes = passes;
+                give_connection(gate, &mut passes, terms.desks, pass);
+                Err(passes)
+            }
+        }
+    }
+
+    /// One desk that keeps a book.
+    fn book(
+        alloc: Global,
+        gate: &Gate<J>,
+        passes: Passes<Kept<J>>,
+        version: u16,
+    ) -> Result<(Staff<J>, Pass<Kept<J>>), Passes<Kept<J>>>
+        requires version { IsVersion version }
+        requires senders { senders_of gate.now ≡ 1 }
+        requires made { MadeAt gate.now passes 2 }
+        ensures staff { IfOk result (λ r. HasStaff gate.now r.0 r.1) }
+        ensures count { IfOk result (λ r. count_of r.0 ≡ 1) }
+        ensures known { IfOk result (λ r. known r.1 ≡ known_at passes 2) }
+        ensures back { IfErr result (AllBackAt gate.now) }
+    {
+        let mut passes = passes;
+        let pass = take_connection(gate, &mut passes, 1);
+        match BookDesk::new(alloc, passes, version) {
+            Ok(book) => Ok((Staff::Book { book }, pass)),
+            Err(passes) => {
+                let mut passes = passes;
+                give_connection(gate, &mut passes, 1, pass);
+                Err(passes)
+            }
+        }
+    }
+
+    /// All passes of the gate, with the connection's.
+    pub fn close(self, gate: &Gate<J>, pass: Pass<Kept<J>>) -> Passes<Kept<J>>
+        requires { HasStaff gate.now self pass }
+        ensures back { AllBackAt gate.now result }
+        ensures first { (known_at result 1).made ≡ count_of self + 1 }
+        ensures last { known_at result (count_of self + 1) ≡ known pass }
+        ensures sent { (counts : List ℕ) → sent_in self ≡ Some counts → HasMade result counts }
+    {
+        form_sends();
+        door_sends();
+        desk_sends::<J>();
+        match self {
+            Staff::Senders { senders, passes } => {
+                let mut passes = passes;
+                let count = senders.len() as u16;
+                give_last(gate, &mut passes, count, pass);
+                unseat(gate, senders, &mut passes);
+                passes
+            }
+            Staff::Desks { count, desks } => passes_by(desks, count, gate, pass),
+            Staff::Book { book } => passes_by(book, 1, gate, pass),
+        }
+    }
+
+    /// How many send.
+    pub fn count(&self) -> u16
+        requires { count_of self.now ≤ 16 }
+        ensures { result ≡ count_of self.now }
+    {
+        match self {
+            Staff::Senders { senders, .. } => senders.len() as u16,
+            Staff::Desks { count, .. } => *count,
+            Staff::Book { .. } => 1,
+        }
+    }
+
+    /// Has those who answer do so for messages that were applied, and, where `finished` says that the peer's finish is recorded, add the mark once
+    /// all is sent; senders do nothing. They are called behind each turn with what that applied, at most 512 messages.
+    ///
+    /// # Errors
+    /// The refusal of a message or of the mark; that the mark stands already is none.
+    pub fn answer<R: Threads + Wait + Sync>(
+        &mut self,
+        payloads: &Payloads,
+        finished: bool,
+        gate: &Gate<J>,
+        rt: &R,
+    ) -> Result<(), SubmitFault>
+        requires seated { IsSeatedAt gate.now self.old }
+        requires most { length payloads.now ≤ 512 }
+        ensures seated { IsSeatedAt gate.now self.new }
+        ensures count { count_of self.new ≡ count_of self.old }
+    {
+        form_sends();
+        book_sends();
+        door_sends();
+        desk_sends::<J>();
+        match self {
+            Staff::Senders { .. } => Ok(()),
+            Staff::Desks { desks, .. } => answer_by(desks, payloads, finished, gate, rt),
+            Staff::Book { book } => answer_by(book, payloads, finished, gate, rt),
+        }
+    }
+
+    /// Has those who answer take their place behind the messages of the inbox, before the first connection of a life; senders do nothing.
+    ///
+    /// # Errors
+    /// As those of `Business::resume`.
+    pub fn resume<I: Journal, R: Threads + Wait + Sync>(
+        &mut self,
+        alloc: Global,
+        inbox: &mut Inbox<I>,
+        gate: &Gate<J>,
+        rt: &R,
+    ) -> Result<(), ResumeFault>
+        requires seated { IsSeatedAt gate.now self.old }
+        requires sound { is_broken inbox.old ≡ false }
+        ensures seated { IsSeatedAt gate.now self.new }
+        ensures count { count_of self.new ≡ count_of self.old }
+        ensures content { SameContent inbox.old inbox.new }
+        ensures kind { (limits_of inbox.new ≡ limits_of inbox.old) × (flow_of inbox.new ≡ flow_of inbox.old) }
+    {
+        form_sends();
+        book_sends();
+        door_sends();
+        desk_sends::<J>();
+        match self {
+            Staff::Senders { .. } => Ok(()),
+            Staff::Desks { desks, .. } => resume_by(alloc, desks, inbox, gate, rt),
+            Staff::Book { book } => resume_by(alloc, book, inbox, gate, rt),
+        }
+    }
+}
