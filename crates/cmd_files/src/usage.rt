@@ -120,7 +120,7 @@ for INBOX. The first byte of NEW is written last: cut off at any moment, it leav
 
 const REHEARSE: &str = "usage: fixpgw rehearse CONFIG OUT
 
-Runs two ends of a session in memory, an initiator whose senders send orders, and an acceptor that may have desks or a book, as a
+Runs two ends of a session in memory, an initiator whose senders send orders, and an acceptor that may have desks, as a
 script says: when messages are submitted, how many rounds run, when the connection is cut, when an end is stopped. Behind the last
 step it goes on until both ends have finished, and prints what their journals hold. No file is touched but these two, and no address is
 opened.

@@ -4,7 +4,11 @@ use Rattle.std.specs.Io.KnownBytes.{Appends, Keeps}
 use Rattle.gw_outside.specs.Faults.{TakesFront}
 use Rattle.schema_toml.specs.declared.fault.ConfigFault.{ConfigFault}
 use Rattle.cmd_script.specs.declared.script.Script.{Script}
-use Rattle.gw_rehearse.specs.declared.summary.EndSummary.{EndSummary}
+use Rattle.cmd_script.specs.declared.script.Load.{Load}
+use Rattle.gw_rehearse.specs.declared.rehearsal.Rehearsal.{Rehearsal}
+use Rattle.gw_rehearse.specs.Summaries.{summary_of}
+use Rattle.gw_rehearse.specs.Together.{StoppedAt}
+use Rattle.gw_rehearse.specs.Totals.{AreRecoverable, IsRehearsed, acceptor_total, initiator_total}
 use Rattle.cmd_rehearse.specs.declared.outcome.Outcome.{Outcome}
 use Rattle.cmd_rehearse.specs.declared.outcome.Outcome.TheVariants as outcomes
 use Rattle.cmd_rehearse.specs.Lines.{summary_lines}
@@ -27,16 +31,25 @@ Judges (outcomes.Undrained initiator acceptor) told = IsOk told
 Judges outcomes.InputFault told = Unit {0}
 Judges outcomes.Memory told = Unit {0}
 
--- these are the lines of two ends, where the initiator's outbox has so many messages of each sender
-abbrev pub AreLines : List ℕ → List ℕ → Type 0
-AreLines messages lines =
-    (initiator : EndSummary) × (acceptor : EndSummary) × (initiator.entries ≡ messages) × (lines ≡ summary_lines initiator acceptor)
+-- the lines that a script comes to, where both flows are recoverable
+abbrev pub total_lines : Load → List ℕ
+total_lines load = summary_lines (initiator_total load) (acceptor_total load)
 
--- OUT gained such lines; a front of such lines, or nothing, where it failed; and else nothing
-abbrev pub Gave : List ℕ → Option (List ℕ) → Option (List ℕ) → Outcome → Type 0
-Gave messages before after outcomes.Done = (lines : List ℕ) × AreLines messages lines × Appends before after lines
-Gave messages before after outcomes.OutputFault = Keeps before after ⊎ ((lines : List ℕ) × AreLines messages lines × TakesFront before after lines)
-Gave messages before after _ = Keeps before after
+-- these are the lines of what both ends hold behind a rehearsal of a script
+pub record AreLines (script : Script) (lines : List ℕ) : Type 0 where
+  pub rehearsal : Rehearsal
+  pub rehearsed : IsRehearsed script rehearsal
+  pub are : lines ≡ summary_lines (summary_of rehearsal.initiator) (summary_of rehearsal.acceptor)
+  pub totals : AreRecoverable script.link → lines ≡ total_lines script.load
+
+-- OUT gained such lines; a front of such lines, or nothing, where it failed; and else nothing. Where the rounds did not suffice both ends kept the
+-- session guarantee, and wait for these numbers
+abbrev pub Gave : Script → Option (List ℕ) → Option (List ℕ) → Outcome → Type 0
+Gave script before after outcomes.Done = (lines : List ℕ) × AreLines script lines × Appends before after lines
+Gave script before after outcomes.OutputFault = Keeps before after ⊎ ((lines : List ℕ) × AreLines script lines × TakesFront before after lines)
+Gave script before after (outcomes.Undrained initiator acceptor) =
+    Keeps before after × ∥ StoppedAt script.link.client_flow script.link.server_flow initiator acceptor ∥₁
+Gave script before after _ = Keeps before after
 
 -- the outcomes of a text that gives no script
 abbrev pub IsRefusal : Outcome → Type 0

@@ -6,9 +6,11 @@ ghost use Rattle.schema_toml.specs.Faults.{text_limit};
 ghost use Rattle.schema_toml.specs.declared.fault.ConfigFault.{ConfigFault};
 ghost use Rattle.cmd_base.specs.Texts.{ReadsWithin};
 ghost use Rattle.cmd_script.specs.Script.{IsScript, script_of_text};
-ghost use Rattle.cmd_rehearse.specs.Promise.{AreLines, Gave, IsEnd, IsRefusal, Judges};
+ghost use Rattle.cmd_rehearse.specs.Promise.{Gave, IsEnd, IsRefusal, Judges};
 ghost use Rattle.cmd_script.specs.declared.script.Script.{Script};
-ghost use Rattle.gw_rehearse.specs.Summaries.{sent_in};
+ghost use Rattle.cmd_rehearse.specs.Lines.{summary_lines};
+ghost use Rattle.gw_rehearse.specs.Summaries.{summary_of};
+ghost use Rattle.gw_rehearse.specs.Totals.{IsRehearsed};
 
 use crate::lines::summary_lines;
 use crate::outcome::Outcome;
@@ -57,17 +59,18 @@ fn script_from<S: Source>(alloc: Global, config: &mut S) -> Result<Script, Outco
 /// # Errors
 /// Want of memory.
 fn lines_of(alloc: Global, rehearsal: &Rehearsal) -> Result<Vec<u8>, AllocError>
-    ensures { IfOk result (λ lines. AreLines (sent_in rehearsal.now) lines.items) }
+    ensures { IfOk result (λ lines. lines.items ≡ summary_lines (summary_of rehearsal.now.initiator) (summary_of rehearsal.now.acceptor)) }
 {
     let initiator = rehearsal.initiator.summary(alloc)?;
     let acceptor = rehearsal.acceptor.summary(alloc)?;
     summary_lines(alloc, &initiator, &acceptor)
 }
 
-/// Gives the lines of what stands behind a rehearsal.
+/// Gives the lines of what stands behind a rehearsal of a script.
 #[tactic(auto, using(crate::proofs::Giving::keeps_self))]
-fn give<K: Sink>(alloc: Global, rehearsal: &Rehearsal, out: &mut K) -> Outcome
-    ensures gave { Gave (sent_in rehearsal.now) (K.taken out.old) (K.taken out.new) result }
+fn give<K: Sink>(alloc: Global, script: &Script, rehearsal: &Rehearsal, out: &mut K) -> Outcome
+    requires rehearsed { IsRehearsed script.now rehearsal.now }
+    ensures gave { Gave script.now (K.taken out.old) (K.taken out.new) result }
     ensures ends { IsEnd result }
     ensures never_falls { K.faults out.old ≤ K.faults out.new }
     ensures unwritten { result ≡ Outcome.OutputFault → HasRisen (K.faults out.old) (K.faults out.new) }
@@ -90,13 +93,13 @@ pub(crate) fn run_script<R: Threads + Wait + Sync, K: Sink>(
     out: &mut K,
 ) -> Outcome
     requires { IsScript script.now }
-    ensures gave { Gave script.now.load.messages (K.taken out.old) (K.taken out.new) result }
+    ensures gave { Gave script.now (K.taken out.old) (K.taken out.new) result }
     ensures ends { IsEnd result }
     ensures never_falls { K.faults out.old ≤ K.faults out.new }
     ensures unwritten { result ≡ Outcome.OutputFault → HasRisen (K.faults out.old) (K.faults out.new) }
 {
     match rehearse(alloc, script, rt) {
-        Ok(rehearsal) => give(alloc, &rehearsal, out),
+        Ok(rehearsal) => give(alloc, script, &rehearsal, out),
         Err(
             RehearseFault::Undrained {
                 initiator_next,
@@ -119,7 +122,7 @@ pub fn run_rehearsal<R: Threads + Wait + Sync, S: Source, K: Sink>(
     devices: &mut RehearseDevices<S, K>,
 ) -> Outcome
     ensures verdict { (text : List ℕ) → S.left devices.old.config ≡ Some text → Judges result (script_of_text text) }
-    ensures gave { (text : List ℕ) → S.left devices.old.config ≡ Some text → (script : Script) → script_of_text text ≡ Ok script → Gave script.load.messages (K.taken devices.old.out) (K.taken devices.new.out) result }
+    ensures gave { (text : List ℕ) → S.left devices.old.config ≡ Some text → (script : Script) → script_of_text text ≡ Ok script → Gave script (K.taken devices.old.out) (K.taken devices.new.out) result }
     ensures refused { (fault : ConfigFault) → result ≡ Outcome.Config fault → devices.new.out ≡ devices.old.out }
     ensures left { result ≡ Outcome.InputFault → devices.new.out ≡ devices.old.out }
     ensures within { ReadsWithin (S.left devices.old.config) (S.left devices.new.config) (text_limit + 1) }

@@ -2,7 +2,7 @@
 
 ghost use Rattle.std.specs.Prelude.{◌≡◌, ◌≤◌};
 ghost use Rattle.gw_outside.specs.Faults.{HasRisen};
-ghost use Rattle.cmd_soak.specs.Soak.{soak_messages};
+ghost use Rattle.cmd_soak.specs.Soak.{soak_script};
 ghost use Rattle.cmd_rehearse.specs.Promise.{Gave, IsEnd};
 
 use crate::command::run_script;
@@ -24,7 +24,7 @@ pub fn run_soak<R: Threads + Wait + Sync, K: Sink>(
     out: &mut K,
 ) -> Outcome
     requires range { (4 ≤ messages) × (messages ≤ 100000) }
-    ensures gave { Gave (soak_messages messages) (K.taken out.old) (K.taken out.new) result }
+    ensures gave { Gave (soak_script messages) (K.taken out.old) (K.taken out.new) result }
     ensures ends { IsEnd result }
     ensures never_falls { K.faults out.old ≤ K.faults out.new }
     ensures unwritten { result ≡ Outcome.OutputFault → HasRisen (K.faults out.old) (K.faults out.new) }

@@ -1,5 +1,5 @@
 -- The script of a rehearsal as a TOML table: its keys in the order in which they are visited (this project's profile).
-use Rattle.std.specs.Prelude.{ℕ, ◌*◌, ◌^◌, ◌==◌, ◌≡◌, ◌≤◌, Bool, false, not, nat_le, if◌then◌else◌, List, [], ◌∷◌, length, replicate, All, Result, Ok, IsTrue, codes}
+use Rattle.std.specs.Prelude.{ℕ, ◌*◌, ◌^◌, ◌==◌, ◌≡◌, ◌≤◌, Bool, false, not, nat_le, if◌then◌else◌, List, [], ◌∷◌, length, replicate, All, Result, Ok, codes}
 use Rattle.toml.specs.Data.{Data}
 use Rattle.fixp_msgs.specs.declared.flow.Flow.{Flow}
 use Rattle.toml_walk.specs.Reading.{Read, ◌>>=◌}
@@ -13,7 +13,7 @@ use Rattle.fixp_shake.specs.declared.config.Role.TheVariants as roles
 use Rattle.gw_fakes.specs.declared.disk.Pick.{Pick}
 use Rattle.gw_fakes.specs.declared.disk.Pick.TheVariants as picks
 use Rattle.cmd_config.specs.declared.configuration.Link.{Link}
-use Rattle.cmd_config.specs.Settings.{IsLinkInRange, session_of, flow_of, credentials_of, switch_of, allows_book, ensure_in_range, is_none}
+use Rattle.cmd_config.specs.Settings.{IsLinkInRange, session_of, flow_of, credentials_of, ensure_in_range, is_none}
 use Rattle.cmd_script.specs.declared.script.Script.{Script}
 use Rattle.cmd_script.specs.declared.script.Load.{Load}
 use Rattle.cmd_script.specs.declared.steps.Action.{Action}
@@ -103,14 +103,7 @@ messages_of keys =
     ensure_in_range (codes "messages") (allows_messages senders messages) >>= λ _.
     Ok (replicate senders messages)
 
--- {.., book?, ..}: a book is that of one desk
-abbrev pub book_of : ℕ → Data → Read Bool
-book_of desks keys =
-    get_or_default (codes "book") false switch_of keys >>= λ book.
-    ensure_in_range (codes "book") (allows_book desks book) >>= λ _.
-    Ok book
-
--- {.., desks, initiator_version, desk_version, reference?, book?, ..}, behind those
+-- {.., desks, initiator_version, desk_version, reference?, ..}, behind those
 abbrev pub load_of : Flow → Data → Read Load
 load_of server keys =
     messages_of keys >>= λ messages.
@@ -119,12 +112,11 @@ load_of server keys =
     required (codes "initiator_version") (natural_of 1 2) keys >>= λ initiator_version.
     required (codes "desk_version") (natural_of 1 2) keys >>= λ desk_version.
     get_or_default (codes "reference") 1000000 (natural_of 1 (10 ^ 15)) keys >>= λ reference.
-    book_of desks keys >>= λ book.
-    Ok (record { messages = messages; desks = desks; initiator_version = initiator_version; desk_version = desk_version; reference = reference; book = book })
+    Ok (record { messages = messages; desks = desks; initiator_version = initiator_version; desk_version = desk_version; reference = reference })
 
 abbrev pub known_keys : List (List ℕ)
 known_keys = codes "session" ∷ codes "keepalive" ∷ codes "client_flow" ∷ codes "server_flow" ∷ codes "credentials" ∷ codes "senders" ∷ codes "messages"
-    ∷ codes "desks" ∷ codes "initiator_version" ∷ codes "desk_version" ∷ codes "reference" ∷ codes "book" ∷ codes "step" ∷ []
+    ∷ codes "desks" ∷ codes "initiator_version" ∷ codes "desk_version" ∷ codes "reference" ∷ codes "step" ∷ []
 
 -- {.., step?}
 abbrev pub steps_of : Data → Read (List Step)
@@ -152,7 +144,7 @@ script_of_text = limited (λ text. of_text (script_of_document text))
 abbrev pub IsCount : ℕ → Type 0
 IsCount count = count ≤ 100000
 
--- some senders, 16 at most, and as many desks at most; versions of the order schema that there are; and a book only where there is one desk
+-- some senders, 16 at most, and as many desks at most; and versions of the order schema that there are
 pub record IsLoadInRange (l : Load) : Type 0 where
   pub some : 1 ≤ length l.messages
   pub few : length l.messages ≤ 16
@@ -161,7 +153,6 @@ pub record IsLoadInRange (l : Load) : Type 0 where
   pub initiator_version : (1 ≤ l.initiator_version) × (l.initiator_version ≤ 2)
   pub desk_version : (1 ≤ l.desk_version) × (l.desk_version ≤ 2)
   pub reference : (1 ≤ l.reference) × (l.reference ≤ 10 ^ 15)
-  pub book : IsTrue (allows_book l.desks l.book)
 
 -- the initiator sends
 pub record IsScript (s : Script) : Type 0 where

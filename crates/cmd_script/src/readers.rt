@@ -83,23 +83,3 @@ impl Reader for Credentials {
         }
     }
 }
-
-/// Whether something is so.
-pub struct Switches;
-
-impl Reader for Switches {
-    type Parent = ();
-
-    type Made = bool;
-
-    ghost use Rattle.cmd_config.specs.Settings.{switch_of};
-
-    ghost spelled = { λ _. switch_of };
-
-    fn read(alloc: Global, _parent: (), value: &Value) -> Result<bool, TomlFault> {
-        match value {
-            Value::Boolean(is_so) => Ok(*is_so),
-            _ => Err(TomlFault::WrongKind(Path::new(alloc))),
-        }
-    }
-}

@@ -1,14 +1,14 @@
 //! The script itself: its keys, with what is asked of several of them.
 
-ghost use Rattle.std.specs.Prelude.{◌≡◌, ◌<◌, ◌≤◌, codes, [], length, replicate, All, IfOk, Err, IsTrue, false};
+ghost use Rattle.std.specs.Prelude.{◌≡◌, ◌<◌, ◌≤◌, codes, [], length, replicate, All, IfOk, Err, false};
 ghost use Rattle.toml.specs.View.{view};
 ghost use Rattle.toml_walk.specs.Keys.{get_or_default};
 ghost use Rattle.toml_walk.specs.Reading.{Reads};
 ghost use Rattle.schema_toml.specs.Faults.{Tells, text_limit};
-ghost use Rattle.cmd_config.specs.Settings.{IsLinkInRange, allows_book, credentials_of, ensure_in_range, is_none};
-ghost use Rattle.cmd_script.specs.Script.{IsCount, IsLoadInRange, IsScript, allows_desks, allows_messages, book_of, link_of, load_of, messages_of, script_of, script_of_document, script_of_text, steps_of};
+ghost use Rattle.cmd_config.specs.Settings.{IsLinkInRange, credentials_of, ensure_in_range, is_none};
+ghost use Rattle.cmd_script.specs.Script.{IsCount, IsLoadInRange, IsScript, allows_desks, allows_messages, link_of, load_of, messages_of, script_of, script_of_document, script_of_text, steps_of};
 
-use crate::readers::{Credentials, Flows, Sessions, Switches};
+use crate::readers::{Credentials, Flows, Sessions};
 use crate::steps::{StepReader, Steps};
 use cmd_config::{DESKS, KEEPALIVE, Link, ORDER_VERSION, REFERENCE, Range, SENDERS};
 use fixp_msgs::Flow;
@@ -44,8 +44,6 @@ pub struct Load {
     pub desk_version: u8,
     /// The mantissa of the reference price, 1 to 10^15.
     pub reference: u64,
-    /// Whether the desk, of which there is one then, keeps a book.
-    pub book: bool,
 }
 
 /// A script: the values of all its keys.
@@ -98,23 +96,6 @@ fn allows_desks(server: Flow, desks: u64) -> bool
     } else {
         !is_none(server)
     }
-}
-
-/// Whether so many desks may keep a book, where one is asked for.
-fn allows_book(desks: u64, book: bool) -> bool
-    ensures { result ≡ allows_book desks book }
-{
-    !book || desks == 1
-}
-
-/// Whether the desk keeps a book.
-fn read_book(alloc: Global, desks: u64, keys: &Value) -> Result<bool, TomlFault>
-    ensures value { Reads result (book_of desks (view keys.now)) }
-    ensures range { IfOk result (λ book. IsTrue (allows_book desks book)) }
-{
-    let book = get_or_default::<Switches>(alloc, (), keys, "book", false)?;
-    ensure_in_range(alloc, "book", allows_book(desks, book))?;
-    Ok(book)
 }
 
 /// The credentials, none where the key is absent.
@@ -187,14 +168,12 @@ fn read_load(alloc: Global, server: Flow, keys: &Value) -> Result<Load, TomlFaul
     let desk_version = natural_at(alloc, keys, "desk_version", least, greatest)?;
     let (least, greatest) = (REFERENCE.least, REFERENCE.greatest);
     let reference = natural_or(alloc, keys, "reference", least, greatest, 1_000_000)?;
-    let book = read_book(alloc, desks, keys)?;
     Ok(Load {
         messages,
         desks: desks as u8,
         initiator_version: initiator_version as u8,
         desk_version: desk_version as u8,
         reference,
-        book,
     })
 }
 
@@ -227,7 +206,6 @@ fn read_table(alloc: Global, keys: &Value) -> Result<Script, TomlFault>
             "initiator_version",
             "desk_version",
             "reference",
-            "book",
             "step",
         ],
     )?;

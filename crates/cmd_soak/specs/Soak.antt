@@ -1,5 +1,5 @@
 -- The script of a soak of a number of messages (this project's profile).
-use Rattle.std.specs.Prelude.{ℕ, ◌+◌, ◌/◌, ◌%◌, ◌==◌, false, List, [], ◌∷◌}
+use Rattle.std.specs.Prelude.{ℕ, ◌+◌, ◌/◌, ◌%◌, ◌==◌, List, [], ◌∷◌}
 use Rattle.std.specs.List.{count_by, repeat}
 use Rattle.session_model.specs.Journal.{counts_from}
 use Rattle.fixp_msgs.specs.declared.flow.Flow.TheVariants as flows
@@ -29,7 +29,7 @@ soak_messages messages = dealt messages 1 ∷ dealt messages 2 ∷ dealt message
 
 -- three desks of version 1 answer senders of version 2
 abbrev pub soak_load : ℕ → Load
-soak_load messages = record { messages = soak_messages messages; desks = 3; initiator_version = 2; desk_version = 1; reference = 1000000; book = false }
+soak_load messages = record { messages = soak_messages messages; desks = 3; initiator_version = 2; desk_version = 1; reference = 1000000 }
 
 -- a burst of 1,250 messages of each sender with 500 rounds, and a cut, for each 5,000 messages or a part of them
 abbrev pub soak_steps : ℕ → List Step

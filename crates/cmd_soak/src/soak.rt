@@ -83,7 +83,6 @@ fn soak_load(alloc: Global, messages: u32) -> Result<Load, AllocError>
         initiator_version: 2,
         desk_version: 1,
         reference: 1_000_000,
-        book: false,
     })
 }
 

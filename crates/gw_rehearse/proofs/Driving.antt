@@ -307,7 +307,6 @@ module _ {J : Type 0} {G : Ghosts J} where
 pub few_posts : (p : Posts) → MayBe p → posts_of p ≤ 16
 few_posts (posts.Senders count) may = may
 few_posts (posts.Desks terms) may = may.1
-few_posts (posts.Book version) may = omega arith
 
 -- ---- who has the passes
 

@@ -9,3 +9,4 @@ mod Arriving
 mod Outboxes
 mod Stopping
 mod Staying
+mod Coming

@@ -4,3 +4,4 @@ pub mod Standing
 pub mod Stopped
 pub mod Summaries
 pub mod Together
+pub mod Totals

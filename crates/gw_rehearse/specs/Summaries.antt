@@ -1,12 +1,12 @@
 -- What is told of the two journals of an end (this project's profile).
-use Rattle.std.specs.Prelude.{◌≡◌, ℕ, zero, suc, ◌+◌, ◌-◌, ◌*◌, ◌/◌, ◌%◌, nat_le, if◌then◌else◌, false, List, [], ◌∷◌, ◌++◌, length}
+use Rattle.std.specs.Prelude.{◌≡◌, ℕ, zero, suc, ◌+◌, ◌-◌, ◌*◌, ◌/◌, ◌%◌, nat_le, if◌then◌else◌, List, [], ◌∷◌, ◌++◌, length}
 use Rattle.cmd_script.specs.declared.script.Load.{Load}
 use Rattle.session_model.specs.Journal.{History, entries_of}
 use Rattle.session_model.specs.Inbox.{InboxRecord, applied, next_number}
 use Rattle.jr_dated.specs.declared.journal.Journal.{Ghosts}
 use Rattle.jr_kept.specs.declared.outbox.Outbox.{Outbox}
 use Rattle.jr_kept.specs.Outbox.{mine_of}
-use Rattle.jr_kept.specs.Inbox.{count_of}
+use Rattle.jr_kept.specs.Inbox.{count_of, next_of}
 use Rattle.gw_rehearse.specs.declared.journals.Journals.{Journals}
 use Rattle.gw_rehearse.specs.declared.rehearsal.Rehearsal.{Rehearsal}
 use Rattle.gw_rehearse.specs.declared.summary.EndSummary.{EndSummary}
@@ -34,9 +34,10 @@ abbrev pub reports_to : (messages desks : ℕ) → ℕ → List ℕ
 reports_to messages desks zero = []
 reports_to messages desks (suc n) = reports_to messages desks n ++ 2 * share_of messages desks (n + 1) ∷ []
 
--- each desk has so many in the acceptor's outbox, of the messages that were applied there; of a book nothing is said
+-- the acceptor has the desks of a load, and each has so many in its outbox, of the messages that were applied there
 abbrev pub HasReported : Load → Journals → Type 0
-HasReported load acceptor = load.book ≡ false → counts_to acceptor.outbox load.desks ≡ reports_to (count_of acceptor.inbox) load.desks load.desks
+HasReported load acceptor =
+    (acceptor.senders ≡ load.desks) × (counts_to acceptor.outbox load.desks ≡ reports_to (count_of acceptor.inbox) load.desks load.desks)
 
 -- how many numbers were passed over: those before the awaited one under which no message was applied
 abbrev pub passed_over : List InboxRecord → ℕ
@@ -47,3 +48,7 @@ pub record IsSummaryOf (h : History) (i : List InboxRecord) (senders : ℕ) (s :
   pub entries : s.entries ≡ entries_to h senders
   pub delivered : s.delivered ≡ length (applied i)
   pub skipped : s.skipped ≡ passed_over i
+
+-- what the journals of an end come to, as they count it themselves
+abbrev pub summary_of : Journals → EndSummary
+summary_of j = record { entries = counts_to j.outbox j.senders; delivered = count_of j.inbox; skipped = next_of j.inbox - 1 - count_of j.inbox }

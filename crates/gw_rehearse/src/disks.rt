@@ -82,6 +82,7 @@ impl Journals {
             outbox,
             inbox,
             senders: _,
+            lives: _,
         } = self;
         Disks {
             outbox: outbox.into_journal().close(),

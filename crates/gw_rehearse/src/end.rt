@@ -50,6 +50,15 @@ const TURNS: u64 = 1 << 40;
 /// The most messages that are answered at once.
 const ANSWERED: usize = 512;
 
+/// What is kept of the lives of an end before the present one.
+#[derive(Clone, Copy)]
+pub(crate) struct Past {
+    /// Whether a connection has ended with both finishes exchanged.
+    finished: bool,
+    /// How many lives there were.
+    lives: u32,
+}
+
 /// An end of a session. Those who send have their passes, and the connection has its own.
 pub(crate) struct DrivenEnd {
     gate: Gate<Log>,
@@ -63,6 +72,8 @@ pub(crate) struct DrivenEnd {
     turns: u64,
     /// Whether a connection has ended with both finishes exchanged.
     finished: bool,
+    /// How many lives there were, the present one among them.
+    lives: u32,
 }
 
 /// What the journals record.
@@ -133,20 +144,24 @@ impl DrivenEnd {
         ensures first { IfSome result (λ end. ∥ BeginsOn config.own_flow config.peer_flow [] [] end ∥₁) }
     {
         let disks = Disks::formatted(alloc)?;
-        match DrivenEnd::reopen(alloc, config, disks, posts, false) {
+        let past = Past {
+            finished: false,
+            lives: 0,
+        };
+        match DrivenEnd::reopen(alloc, config, disks, posts, past) {
             Ok(end) => Some(end),
             Err(_) => None,
         }
     }
 
-    /// An end over the journals of these disks, with those who are to send, which has begun no connection, and which has finished in an earlier
-    /// life or not. The disks come back where a call of one failed; none do where memory runs out, or a journal has too many records.
+    /// An end over the journals of these disks, with those who are to send, which has begun no connection, behind its earlier
+    /// lives. The disks come back where a call of one failed; none do where memory runs out, or a journal has too many records.
     pub(crate) fn reopen(
         alloc: Global,
         config: EndConfig,
         disks: Disks,
         posts: Posts,
-        finished: bool,
+        past: Past,
     ) -> Result<DrivenEnd, Option<Disks>>
         requires keepalive { (100 ≤ config.keepalive) × (config.keepalive ≤ 60000) }
         requires credentials { length config.credentials ≤ 2048 }
@@ -172,7 +187,7 @@ impl DrivenEnd {
             }
             Err(None) => return Err(None),
         };
-        match DrivenEnd::over(alloc, config, outbox, inbox, posts, finished) {
+        match DrivenEnd::over(alloc, config, outbox, inbox, posts, past) {
             Some(end) => Ok(end),
             None => Err(None),
         }
@@ -187,7 +202,7 @@ impl DrivenEnd {
         outbox: Outbox<Log>,
         inbox: Inbox<Log>,
         posts: Posts,
-        finished: bool,
+        past: Past,
     ) -> Option<DrivenEnd>
         requires keepalive { (100 ≤ config.keepalive) × (config.keepalive ≤ 60000) }
         requires credentials { length config.credentials ≤ 2048 }
@@ -221,7 +236,8 @@ impl DrivenEnd {
                 news: News::new(alloc),
                 standing: Standing::Over,
                 turns: 0,
-                finished,
+                finished: past.finished,
+                lives: past.lives.saturating_add(1),
             }),
             Err(passes) => {
                 let _ = gate.close(passes);
@@ -464,12 +480,15 @@ impl DrivenEnd {
         ensures rests { IfSome result (λ r. IsResting r.0) }
         ensures next { IfSome result (λ r. GoesOnBehind (own_flow role script.now.link.client_flow script.now.link.server_flow) (peer_flow role script.now.link.client_flow script.now.link.server_flow) self r.0) }
     {
-        let finished = self.finished;
+        let past = Past {
+            finished: self.finished,
+            lives: self.lives,
+        };
         let journals = self.close();
         let disks = journals.into_disks();
         match fuse {
-            None => reopen_stopped(alloc, script, role, disks, pick, finished),
-            Some(after) => reopen_fused(alloc, script, role, disks, after, pick, finished),
+            None => reopen_stopped(alloc, script, role, disks, pick, past),
+            Some(after) => reopen_fused(alloc, script, role, disks, after, pick, past),
         }
     }
 
@@ -545,6 +564,7 @@ impl DrivenEnd {
             standing: _,
             turns: _,
             finished: _,
+            lives,
         } = self;
         let senders = staff.count();
         let passes = staff.close(&gate, pass);
@@ -552,6 +572,7 @@ impl DrivenEnd {
             outbox: gate.close(passes),
             inbox,
             senders,
+            lives,
         }
     }
 }
@@ -562,7 +583,7 @@ fn reopen_as(
     script: &Script,
     role: Role,
     disks: Disks,
-    finished: bool,
+    past: Past,
 ) -> Result<DrivenEnd, Option<Disks>>
     requires script { IsScript script.now }
     ensures driven { IfOk result (λ end. IsDriven end) }
@@ -574,7 +595,7 @@ fn reopen_as(
     let Ok(config) = config_of(alloc, script, role) else {
         return Err(None);
     };
-    DrivenEnd::reopen(alloc, config, disks, posts_of(script, role), finished)
+    DrivenEnd::reopen(alloc, config, disks, posts_of(script, role), past)
 }
 
 /// The end of a role over the journals of these disks, once they were stopped, which is not to be stopped again; none where memory runs out.
@@ -584,7 +605,7 @@ fn reopen_stopped(
     role: Role,
     disks: Disks,
     pick: Pick,
-    finished: bool,
+    past: Past,
 ) -> Option<(DrivenEnd, bool)>
     requires script { IsScript script.now }
     ensures driven { IfSome result (λ r. IsDriven r.0) }
@@ -593,7 +614,7 @@ fn reopen_stopped(
     ensures begins { IfSome result (λ r. ∥ BeginsOnLeft (own_flow role script.now.link.client_flow script.now.link.server_flow) (peer_flow role script.now.link.client_flow script.now.link.server_flow) disks r.0 ∥₁) }
 {
     let stopped = disks.stop(pick);
-    match reopen_as(alloc, script, role, stopped, finished) {
+    match reopen_as(alloc, script, role, stopped, past) {
         Ok(end) => Some((end, false)),
         Err(_) => None,
     }
@@ -608,7 +629,7 @@ fn reopen_fused(
     disks: Disks,
     after: u32,
     pick: Pick,
-    finished: bool,
+    past: Past,
 ) -> Option<(DrivenEnd, bool)>
     requires script { IsScript script.now }
     ensures driven { IfSome result (λ r. IsDriven r.0) }
@@ -617,9 +638,9 @@ fn reopen_fused(
     ensures begins { IfSome result (λ r. ∥ BeginsOnLeft (own_flow role script.now.link.client_flow script.now.link.server_flow) (peer_flow role script.now.link.client_flow script.now.link.server_flow) disks r.0 ∥₁) }
 {
     let fused = disks.fuse(u64::from(after));
-    match reopen_as(alloc, script, role, fused, finished) {
+    match reopen_as(alloc, script, role, fused, past) {
         Ok(end) => Some((end, true)),
-        Err(Some(failed)) => reopen_stopped(alloc, script, role, failed, pick, finished),
+        Err(Some(failed)) => reopen_stopped(alloc, script, role, failed, pick, past),
         Err(None) => None,
     }
 }

@@ -18,5 +18,7 @@ pub struct Journals {
     pub outbox: Outbox<Log>,
     pub inbox: Inbox<Log>,
     pub senders: u16,
+    /// How many lives the end had, the last one among them.
+    pub lives: u32,
     ghost few: { senders ≤ 16 },
 }

@@ -15,6 +15,7 @@ mod reports;
 mod senders;
 mod standing;
 mod summary;
+mod totals;
 mod turning;
 
 pub use journals::{Journals, Log};

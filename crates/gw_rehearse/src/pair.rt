@@ -252,11 +252,6 @@ impl Pair {
         self.initiator.has_sent(messages, rt)
     }
 
-    /// The numbers that the initiator and the acceptor wait for.
-    pub(crate) fn nexts(&self) -> (u64, u64) {
-        (self.initiator.next(), self.acceptor.next())
-    }
-
     /// A turn of each end over the connection that stands, or over a new one, where not all is over.
     ///
     /// # Errors

@@ -8,22 +8,18 @@ use fixp_shake::Role;
 use order_gate::Terms;
 use order_staff::Posts;
 
-/// Who sends at the acceptor: nobody, desks, or one with a book.
+/// Who sends at the acceptor: nobody, or desks.
 fn desks_of(load: &Load) -> Posts
     requires { IsLoadInRange load.now }
     ensures { MayBe result }
 {
-    let version = u16::from(load.desk_version);
     if load.desks == 0 {
         return Posts::Senders { count: 0 };
-    }
-    if load.book {
-        return Posts::Book { version };
     }
     Posts::Desks {
         terms: Terms {
             desks: u16::from(load.desks),
-            version,
+            version: u16::from(load.desk_version),
             reference: load.reference as i64,
         },
     }

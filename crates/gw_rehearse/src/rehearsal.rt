@@ -4,21 +4,17 @@ ghost use Rattle.std.specs.Prelude.{◌≡◌, ℕ, Err, IfOk, IsTrue, OnOk};
 ghost use Rattle.cmd_script.specs.Script.{IsScript};
 ghost use Rattle.gw_rehearse.specs.Together.{Arrives, CountsAll, IsPairOf, KeepsSession, StaysSound, StoppedAt};
 ghost use Rattle.gw_rehearse.specs.Summaries.{HasReported, counts_to, sent_in};
+ghost use Rattle.gw_rehearse.specs.Totals.{AreRecoverable, HaveTotals};
 ghost use Rattle.gw_rehearse.specs.declared.rehearsal.RehearseFault.TheVariants as faults;
 
 use crate::journals::Journals;
 use crate::pair::{Pair, Spent};
-use crate::reports::has_reported;
+use crate::totals::{has_come, rounds_behind};
 use cmd_script::Script;
 use fixp_msgs::Flow;
 use std::alloc::Global;
 use std::sync::Wait;
 use std::thread::Threads;
-
-/// The rounds behind the last step: so many, and so many for each message.
-const ROUNDS: u64 = 64;
-
-const ROUNDS_EACH: u64 = 16;
 
 /// Why a rehearsal did not come to its end.
 #[derive(Clone, Copy, Debug)]
@@ -40,15 +36,6 @@ pub struct Rehearsal {
     pub acceptor: Journals,
 }
 
-/// How many messages all senders send.
-fn total(messages: &[u64]) -> u64 {
-    let mut sum = 0u64;
-    for count in messages {
-        sum = sum.saturating_add(*count);
-    }
-    sum
-}
-
 /// Runs a script over two ends, which are not closed, and answers whether both have finished, with all messages sent.
 ///
 /// # Errors
@@ -61,8 +48,7 @@ fn run<R: Threads + Wait + Sync>(pair: Pair, script: &Script, rt: &R) -> Result<
     ensures stays { IfOk result (λ r. StaysSound pair r.0) }
 {
     let messages = script.load.messages.as_slice();
-    let total = total(messages);
-    let most = ROUNDS.saturating_add(total.saturating_mul(ROUNDS_EACH));
+    let most = rounds_behind(&script.load);
     let mut pair = pair.steps(script, rt)?;
     let Ok(()) = pair.drain(most, rt) else {
         return Err(pair.give_up());
@@ -88,6 +74,7 @@ fn has_arrived(flow: Flow, writer: &Journals, reader: &Journals) -> bool
 ///
 /// # Errors
 /// `Undrained` in any other case.
+#[tactic(auto, using(crate::proofs::Coming::have_totals))]
 fn judged(
     script: &Script,
     done: bool,
@@ -102,11 +89,12 @@ fn judged(
     ensures outward { IfOk result (λ r. Arrives script.now.link.client_flow r.initiator r.acceptor) }
     ensures homeward { IfOk result (λ r. Arrives script.now.link.server_flow r.acceptor r.initiator) }
     ensures reported { IfOk result (λ r. HasReported script.now.load r.acceptor) }
+    ensures totals { IfOk result (λ r. AreRecoverable script.now.link → HaveTotals script.now.load r.initiator r.acceptor) }
     ensures undrained { (m n : ℕ) → result ≡ Err (faults.Undrained m n) → ∥ StoppedAt script.now.link.client_flow script.now.link.server_flow m n ∥₁ }
 {
     let outward = has_arrived(script.link.client_flow, &initiator, &acceptor);
     let homeward = has_arrived(script.link.server_flow, &acceptor, &initiator);
-    let reported = has_reported(&script.load, &acceptor);
+    let reported = has_come(script, &initiator, &acceptor);
     if done && outward && homeward && reported {
         return Ok(Rehearsal {
             initiator,
@@ -119,7 +107,8 @@ fn judged(
     })
 }
 
-/// Runs a script over two new ends, and behind its last step rounds until both have finished: 64, and 16 for each message, at most.
+/// Runs a script over two new ends, and behind its last step rounds until both have finished: 64, and 16 for each message, at most, reports among
+/// them.
 ///
 /// # Errors
 /// `Undrained` where they have not finished then, with all messages sent, those of a recoverable flow applied, and all that were applied reported
@@ -135,6 +124,7 @@ pub fn rehearse<R: Threads + Wait + Sync>(
     ensures outward { IfOk result (λ r. Arrives script.now.link.client_flow r.initiator r.acceptor) }
     ensures homeward { IfOk result (λ r. Arrives script.now.link.server_flow r.acceptor r.initiator) }
     ensures reported { IfOk result (λ r. HasReported script.now.load r.acceptor) }
+    ensures totals { IfOk result (λ r. AreRecoverable script.now.link → HaveTotals script.now.load r.initiator r.acceptor) }
     ensures undrained { (m n : ℕ) → result ≡ Err (faults.Undrained m n) → ∥ StoppedAt script.now.link.client_flow script.now.link.server_flow m n ∥₁ }
 {
     let Some(pair) = Pair::open(alloc, script, rt) else {

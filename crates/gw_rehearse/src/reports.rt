@@ -28,14 +28,13 @@ fn has_twice(outbox: &Outbox<Log>, desk: u16, messages: u64) -> bool
     }
 }
 
-/// Whether each desk has in the acceptor's outbox two reports of each message of its share of those that were applied there; of a book nothing is
-/// asked.
+/// Whether the acceptor has the desks of a load, and each has in its outbox two reports of each message of its share of those that were applied there.
 pub(crate) fn has_reported(load: &Load, acceptor: &Journals) -> bool
     requires few { load.now.desks ≤ 16 }
     ensures reported { IsTrue result → HasReported load.now acceptor.now }
 {
-    if load.book {
-        return true;
+    if acceptor.senders != u16::from(load.desks) {
+        return false;
     }
     let desks = u64::from(load.desks);
     let applied = acceptor.inbox.count();

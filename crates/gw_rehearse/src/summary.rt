@@ -5,7 +5,7 @@ ghost use Rattle.session_model.specs.Journal.{History};
 ghost use Rattle.session_model.specs.Inbox.{InboxRecord};
 ghost use Rattle.jr_kept.specs.Outbox as outboxes;
 ghost use Rattle.jr_kept.specs.Inbox as inboxes;
-ghost use Rattle.gw_rehearse.specs.Summaries.{IsSummaryOf, counts_to, entries_to};
+ghost use Rattle.gw_rehearse.specs.Summaries.{IsSummaryOf, counts_to, entries_to, summary_of};
 
 use crate::journals::{Journals, Log};
 use cmd_script::Counts;
@@ -44,7 +44,7 @@ impl Journals {
     /// Want of memory.
     pub fn summary(&self, alloc: Global) -> Result<EndSummary, AllocError>
         ensures exact { IfOk result (λ s. (h : History) (i : List InboxRecord) → outboxes.StandsFor self.now.outbox h → inboxes.StandsFor self.now.inbox i → IsSummaryOf h i self.now.senders s) }
-        ensures entries { IfOk result (λ s. s.entries ≡ counts_to self.now.outbox self.now.senders) }
+        ensures value { IfOk result (λ s. s ≡ summary_of self.now) }
         ensures few { IfOk result (λ s. length s.entries ≤ 16) }
     {
         let entries = entries_of(alloc, &self.outbox, self.senders)?;

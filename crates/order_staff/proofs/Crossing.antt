@@ -1,4 +1,4 @@
--- Desks and a book may go to any thread where their parts may.
+-- Desks may go to any thread where their parts may.
 use denote.RattleType.{RattleType}
 use denote.Param.Send.{IsSend, sendable}
 use denote.Param.SendFields.{declared_send}
@@ -8,12 +8,6 @@ use Rattle.order_gate.specs.contracts.desk.Desk as Desk
 use Rattle.order_gate.specs.contracts.form.Form as Form
 use Rattle.order_gate.specs.contracts.hand.Hand as Hand
 use Rattle.order_gate.specs.contracts.desks.Desks as Desks
-use Rattle.order_book.specs.contracts.book.Book as Book
-use Rattle.order_book_gate.specs.contracts.book_desk.BookDesk as BookDesk
-
-module _ (J : RattleType) (g : Ghosts J.Denot) where
-  pub book_desk_send : IsSend (Desk.the_row J g) → IsSend Form.the_row → IsSend Book.the_row → IsSend (BookDesk.the_row J g)
-  book_desk_send d f b = declared_send (BookDesk.the_type J g) (search (sendable, crosses, d, f, b) depth 20)
 
 module _ (J D : RattleType) (g : Ghosts J.Denot) where
   pub hand_send : IsSend (Desk.the_row J g) → IsSend Form.the_row → IsSend D → IsSend (Hand.the_row J D g)

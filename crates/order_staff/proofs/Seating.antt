@@ -64,4 +64,3 @@ module _ {J : Type 0} {G : Ghosts J} where
       let same : sent_by senders.items ≡ counts = cc in
       ap (λ (xs : List ℕ). length xs) (sym same) ∙ (length-map senders.items made ∙ sym senders.ok.0)
   sent_long (staffs.Desks count desks) counts is = absurd (cc is)
-  sent_long (staffs.Book book) counts is = absurd (cc is)

@@ -15,7 +15,6 @@ use Rattle.gate_plans.specs.declared.sender.Sender.{Sender}
 use Rattle.gate_business.specs.Business.{lock_of}
 use Rattle.order_desk.specs.Schema.{IsVersion}
 use Rattle.order_gate.specs.Desks.{HasPasses, part_in}
-use Rattle.order_book_gate.specs.Desk.{HasPass, part_of}
 use Rattle.order_staff.specs.declared.posts.Posts.{Posts}
 use Rattle.order_staff.specs.declared.posts.Posts.TheVariants as posts
 use Rattle.order_staff.specs.declared.staff.Staff.{Staff}
@@ -25,20 +24,17 @@ use Rattle.order_staff.specs.declared.staff.Staff.TheVariants as staffs
 abbrev pub posts_of : Posts → ℕ
 posts_of (posts.Senders count) = count
 posts_of (posts.Desks terms) = terms.desks
-posts_of (posts.Book version) = 1
 
 -- 16 at most; desks are some, of a version that there is
 abbrev pub MayBe : Posts → Type 0
 MayBe (posts.Senders count) = count ≤ 16
 MayBe (posts.Desks terms) = (0 < terms.desks) × (terms.desks ≤ 16) × IsVersion terms.version
-MayBe (posts.Book version) = IsVersion version
 
 module _ {J : Type 0} {G : Ghosts J} where
   -- how many send
   abbrev pub count_of : Staff J G → ℕ
   count_of (staffs.Senders senders passes) = vec_len senders
   count_of (staffs.Desks count desks) = count
-  count_of (staffs.Book book) = 1
 
   -- so many who answer have their passes, which are the first ones of this gate
   pub record HasFirst (gate : Gate J G) (count : ℕ) (has : Type 0) (part : ℕ → Part) : Type 0 where
@@ -52,7 +48,6 @@ module _ {J : Type 0} {G : Ghosts J} where
   abbrev pub IsSeatedAt : Gate J G → Staff J G → Type 0
   IsSeatedAt gate (staffs.Senders senders passes) = Seated gate senders.items (vec_len senders + 1) × HasBehind gate passes (vec_len senders + 1) (vec_len senders + 1)
   IsSeatedAt gate (staffs.Desks count desks) = HasFirst gate count (HasPasses (lock_of gate) desks) (part_in desks.hands.items) × (desks.desks ≡ count)
-  IsSeatedAt gate (staffs.Book book) = HasFirst gate 1 (HasPass (lock_of gate) book) (part_of book)
 
   -- and the connection has the one behind them
   pub record HasStaff (gate : Gate J G) (staff : Staff J G) (p : Pass (Kept J G)) : Type 0 where
@@ -71,7 +66,6 @@ module _ {J : Type 0} {G : Ghosts J} where
   abbrev pub sent_in : Staff J G → Option (List ℕ)
   sent_in (staffs.Senders senders passes) = Some (sent_by senders.items)
   sent_in (staffs.Desks count desks) = None
-  sent_in (staffs.Book book) = None
 
   -- the passes of the first numbers made so many entries each
   pub record HasMade (passes : Passes (Kept J G)) (counts : List ℕ) : Type 0 where

@@ -1,5 +1,5 @@
-//! Who sends at an end: senders that have plans, or those who answer what the end applies, desks or one with a book; each has its passes of
-//! the gate. Relies on `gate_plans` for senders, on `order_gate` and `order_book_gate` for those who answer, and on `gate_business` for when.
+//! Who sends at an end: senders that have plans, or desks, which answer what the end applies; each has its pass of the gate. Relies on
+//! `gate_plans` for senders, on `order_gate` for desks, and on `gate_business` for when they answer.
 #![tactic(auto)]
 
 mod posts;

@@ -11,8 +11,6 @@ pub enum Posts {
     Senders { count: u16 },
     /// Desks, on these terms: 1 to 16.
     Desks { terms: Terms },
-    /// One desk that keeps a book, by this version of the order schema, 1 or 2.
-    Book { version: u16 },
 }
 
 impl Posts {
@@ -25,7 +23,6 @@ impl Posts {
         match self {
             Posts::Senders { count } => count,
             Posts::Desks { terms } => terms.desks,
-            Posts::Book { .. } => 1,
         }
     }
 }

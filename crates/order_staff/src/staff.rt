@@ -4,7 +4,6 @@ ghost use Rattle.std.specs.Prelude.{◌≡◌, ℕ, ◌+◌, ◌<◌, ◌≤◌,
 ghost use denote.Param.Send.{IsSend};
 ghost use Rattle.order_gate.specs.contracts.desk.Desk as desk;
 ghost use Rattle.order_gate.specs.contracts.form.Form as form;
-ghost use Rattle.order_book.specs.contracts.book.Book as book;
 ghost use Rattle.gate_plans.specs.contracts.door.OpenDoor as open_door;
 ghost use Rattle.jr_kept.specs.Inbox.{SameContent, is_broken, limits_of, flow_of};
 ghost use Rattle.gate_turn.specs.Places.{known};
@@ -22,8 +21,6 @@ use gate_senders::{Gate, Kept};
 use gate_turn::{Pass, Passes};
 use jr_dated::Journal;
 use jr_kept::{Inbox, SubmitFault};
-use order_book::Book;
-use order_book_gate::BookDesk;
 use order_gate::{Desk, Desks, Form, Terms};
 use plan_values::Plan;
 use sbe_value::Payloads;
@@ -42,10 +39,6 @@ pub enum Staff<J: Journal> {
     Desks {
         count: u16,
         desks: Desks<J, OpenDoor>,
-    },
-    /// One desk that keeps a book.
-    Book {
-        book: BookDesk<J>,
     },
 }
 
@@ -83,13 +76,6 @@ fn form_sends()
     ensures { IsSend form.the_row }
 {
     sends::<Form>();
-}
-
-/// An order book may go to another thread.
-fn book_sends()
-    ensures { IsSend book.the_row }
-{
-    sends::<Book>();
 }
 
 /// A door that lets all pass may go to another thread.
@@ -193,7 +179,6 @@ impl<J: Journal + Send> Staff<J> {
         match posts {
             Posts::Senders { count } => Staff::seated(alloc, gate, passes, count),
             Posts::Desks { terms } => Staff::desks(alloc, gate, passes, terms),
-            Posts::Book { version } => Staff::book(alloc, gate, passes, version),
         }
     }
 
@@ -253,33 +238,6 @@ impl<J: Journal + Send> Staff<J> {
         }
     }
 
-    /// One desk that keeps a book.
-    fn book(
-        alloc: Global,
-        gate: &Gate<J>,
-        passes: Passes<Kept<J>>,
-        version: u16,
-    ) -> Result<(Staff<J>, Pass<Kept<J>>), Passes<Kept<J>>>
-        requires version { IsVersion version }
-        requires senders { senders_of gate.now ≡ 1 }
-        requires made { MadeAt gate.now passes 2 }
-        ensures staff { IfOk result (λ r. HasStaff gate.now r.0 r.1) }
-        ensures count { IfOk result (λ r. count_of r.0 ≡ 1) }
-        ensures known { IfOk result (λ r. known r.1 ≡ known_at passes 2) }
-        ensures back { IfErr result (AllBackAt gate.now) }
-    {
-        let mut passes = passes;
-        let pass = take_connection(gate, &mut passes, 1);
-        match BookDesk::new(alloc, passes, version) {
-            Ok(book) => Ok((Staff::Book { book }, pass)),
-            Err(passes) => {
-                let mut passes = passes;
-                give_connection(gate, &mut passes, 1, pass);
-                Err(passes)
-            }
-        }
-    }
-
     /// All passes of the gate, with the connection's.
     pub fn close(self, gate: &Gate<J>, pass: Pass<Kept<J>>) -> Passes<Kept<J>>
         requires { HasStaff gate.now self pass }
@@ -300,7 +258,6 @@ impl<J: Journal + Send> Staff<J> {
                 passes
             }
             Staff::Desks { count, desks } => passes_by(desks, count, gate, pass),
-            Staff::Book { book } => passes_by(book, 1, gate, pass),
         }
     }
 
@@ -312,7 +269,6 @@ impl<J: Journal + Send> Staff<J> {
         match self {
             Staff::Senders { senders, .. } => senders.len() as u16,
             Staff::Desks { count, .. } => *count,
-            Staff::Book { .. } => 1,
         }
     }
 
@@ -334,13 +290,11 @@ impl<J: Journal + Send> Staff<J> {
         ensures count { count_of self.new ≡ count_of self.old }
     {
         form_sends();
-        book_sends();
         door_sends();
         desk_sends::<J>();
         match self {
             Staff::Senders { .. } => Ok(()),
             Staff::Desks { desks, .. } => answer_by(desks, payloads, finished, gate, rt),
-            Staff::Book { book } => answer_by(book, payloads, finished, gate, rt),
         }
     }
 
@@ -363,13 +317,11 @@ impl<J: Journal + Send> Staff<J> {
         ensures kind { (limits_of inbox.new ≡ limits_of inbox.old) × (flow_of inbox.new ≡ flow_of inbox.old) }
     {
         form_sends();
-        book_sends();
         door_sends();
         desk_sends::<J>();
         match self {
             Staff::Senders { .. } => Ok(()),
             Staff::Desks { desks, .. } => resume_by(alloc, desks, inbox, gate, rt),
-            Staff::Book { book } => resume_by(alloc, book, inbox, gate, rt),
         }
     }
 }

@@ -314,12 +314,6 @@ pub fn asked_by_script(key: &str, found: Option<&Value>) -> Option<Asked> {
             "",
         )),
         "desks" => Some(asked_of_desks(found)),
-        "book" => Some(Asked {
-            by: "rehearse",
-            value: "false",
-            condition: " where desks is not 1",
-            default: "",
-        }),
         _ => None,
     }
 }

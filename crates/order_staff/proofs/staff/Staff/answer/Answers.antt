@@ -3,9 +3,8 @@ use denote.Param.Send.{IsSend, param_send}
 use Rattle.order_gate.specs.contracts.desk.Desk as Desk
 use Rattle.order_gate.specs.contracts.hand.Hand as Hand
 use Rattle.order_gate.specs.contracts.desks.Desks as Desks
-use Rattle.order_book_gate.specs.contracts.book_desk.BookDesk as BookDesk
 use Rattle.gate_plans.specs.contracts.door.OpenDoor as open_door
-use Rattle.order_staff.proofs.Crossing.{hand_send, desks_send, book_desk_send}
+use Rattle.order_staff.proofs.Crossing.{hand_send, desks_send}
 use Rattle.order_staff.proofs.staff.Staff.answer.Goals as goal
 
 pub answer_by-requires-send-B : goal.answer_by-requires-send-B
@@ -22,10 +21,3 @@ answer_by-requires-send-B-Hand g c κs within =
     let desk : IsSend (Desk.the_row o g.J.Journal) = c.desk_sends.ensures in
     let hand : IsSend (Hand.the_row o open_door.the_row g.J.Journal) = hand_send o open_door.the_row g.J.Journal desk c.form_sends.ensures c.door_sends.ensures in
     record { owned = hand.owned; leaving = (param_send 4 (Hand.the_row o open_door.the_row g.J.Journal) hand).leaving }
-
-pub answer_by-requires-in-Book-send-B : goal.answer_by-requires-in-Book-send-B
-answer_by-requires-in-Book-send-B g c κs within =
-    let o = param 0 g.row.J in
-    let desk : IsSend (Desk.the_row o g.J.Journal) = c.desk_sends.ensures in
-    let all : IsSend (BookDesk.the_row o g.J.Journal) = book_desk_send o g.J.Journal desk c.form_sends.ensures c.book_sends.ensures in
-    record { owned = all.owned; leaving = (param_send 1 (BookDesk.the_row o g.J.Journal) all).leaving }
