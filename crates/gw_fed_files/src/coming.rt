@@ -36,10 +36,15 @@ pub struct ComingFile<'a, R> {
     faults: u64,
 }
 
-/// Opens the file at a path.
+/// Opens the file at a path. Of standard input no writer is held: it has one, or is at its end.
 fn opened<R: Net + Files<File = File>>(rt: &R, alloc: Global, path: &str) -> io::Result<Input> {
-    let writer = writer_of(rt, path)?;
+    let held = writer_of(rt, path)?;
     let file = fs::open(rt, path)?;
+    let writer = if path == STANDARD_INPUT {
+        None
+    } else {
+        held
+    };
     match poll_of(rt, &file) {
         Some(poll) => Ok(Input::Waited(Waited::new(alloc, file, writer, poll)?)),
         None => Ok(Input::Plain(file)),
@@ -79,6 +84,15 @@ impl<'a, R> ComingFile<'a, R> {
 }
 
 impl<R: Net + Files<File = File>> ComingFile<'_, R> {
+    /// Opens the file before the first read, so that whoever writes to a FIFO need not wait for that. Where it fails, the first read opens it again.
+    pub fn open(&mut self)
+        ensures faults { self.new.faults ≡ self.old.faults }
+    {
+        if self.input.is_none() {
+            self.input = opened(self.rt, self.alloc, self.path).ok();
+        }
+    }
+
     /// Opens the file where it is not open, and reads from it.
     fn read(&mut self, into: &mut [u8]) -> io::Result<usize>
         ensures count { IfOk result (λ n. n ≤ length into.new) }
