@@ -13,7 +13,7 @@ use gw_fed_files::ComingFile;
 use gw_real::{FileDisk, Opening};
 use rehearsals::{RehearsalFiles, rehearse_over_files};
 use session_files::Session;
-use sessions::{SessionFiles, out_of, run_over_sockets};
+use sessions::{SessionFiles, hold_stream, out_of, run_over_sockets};
 use std::fs::File;
 use std::io;
 use std::process::ExitCode;
@@ -102,7 +102,10 @@ fn main(rt: HostRuntime) -> ExitCode {
     };
     let over = AtomicBool::new(false);
     let mut input = ComingFile::new(&rt, rt.alloc(), session.input.path, &over);
+    // It would take the number of a standard stream that is closed.
+    let held = (hold_stream(&rt), hold_stream(&rt), hold_stream(&rt));
     input.open();
+    drop(held);
     let feeds = Feeds {
         input,
         accepted: out_of(&rt, accepted, &others),
