@@ -1,14 +1,14 @@
 pub mod Reading
 pub mod Verdicts
 mod Counting
-mod Opened
-mod Kept
+pub mod Opened
+pub mod Kept
 mod GoingOn
-mod Served
-mod Over
-mod Given
+pub mod Served
+pub mod Over
+pub mod Given
 pub mod Histories
 mod Opening
-mod Later
+pub mod Later
 pub mod Parted
 pub mod Crossing

@@ -37,13 +37,13 @@ use std::sync::Wait;
 use std::thread::Threads;
 
 /// The outbox and the inbox of a session on one kind of disk.
-type Boxes<D> = (Outbox<SegJournal<D>>, Inbox<SegJournal<D>>);
+pub type Boxes<D> = (Outbox<SegJournal<D>>, Inbox<SegJournal<D>>);
 
 /// Opens the boxes on their disks, the outbox first.
 ///
 /// # Errors
 /// The status, and both disks.
-fn open_boxes<D: Disk>(
+pub fn open_boxes<D: Disk>(
     alloc: Global,
     flow: Flow,
     out_disk: D,

@@ -198,6 +198,7 @@ module _ (n : ℕ) (start now next : Point) (piece : Messages) (number : ℕ) (l
         given = subst (λ (ls : List (List ℕ)). AreGiven n ls (gifts_to q.number ps)) (sym lines_are) (subst (λ (k : ℕ). AreGiven n s.held (gifts_to k ps)) (sym sender_is) s.given);
         few = few;
         loses = m.this.lost e;
+        unmarked = m.this.unmarked e;
       }
 
   clear : All IsClear (s.words ++ acc)

@@ -1,10 +1,12 @@
 mod Texts
-mod Coming
-mod Making
+pub mod Coming
+pub mod Making
 mod Ending
 mod Lines
 mod Seats
-mod Moving
+pub mod Moving
 mod Feeders
 mod Feeds
 mod Counts
+mod Marks
+pub mod Nothing

@@ -40,6 +40,7 @@ pub record Submits (p q : Part) (ps : List (List ℕ)) (r : Submission) : Type 0
   pub fault : r.refused ≡ Some submit.Fault → HasFailed p.faults q.faults
   pub broken : r.refused ≡ Some submit.Broken → HasFailed q.opening.faults q.faults
   pub lost : r.refused ≡ Some submit.Fault → LosesAll q ps
+  pub unmarked : r.refused ≡ Some submit.Fault → q.seen.finished ≢ true
   pub unlost : (r.refused ≡ Some submit.Fault → ⊥) → q.lost ≡ p.lost
 
 module _ {J : Type 0} {G : Ghosts J} where

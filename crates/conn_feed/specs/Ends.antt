@@ -7,6 +7,8 @@ use Rattle.jr_boxes.specs.declared.faults.SubmitFault.{SubmitFault}
 use Rattle.jr_boxes.specs.declared.faults.SubmitFault.TheVariants as submit
 use Rattle.gate_turn.specs.Views.{HasFailed, Part}
 use Rattle.gate_turn.specs.Rule.{In}
+use Rattle.conn_door.specs.declared.answer.ServeFault.{ServeFault}
+use Rattle.conn_door.specs.Senders.{Finishes}
 use Rattle.gate_senders.specs.Shown.{IsFullBehind}
 use Rattle.conn_accepted.specs.declared.why.Why.{Why}
 use Rattle.conn_accepted.specs.declared.why.Why.TheVariants as whys
@@ -114,3 +116,9 @@ pub record Feeding (start now : Point) (left_before left_behind : Option (List �
   pub consumed : Consumes left_before left_behind read
   pub answered : Answered (length start.parts) start now (lines_in read) end
   pub whole : end ≡ ends.Ended → (answered.behind ≡ []) × IsAtEnd left_behind
+
+-- the first pass was used for the mark, which was added or refused so, and no other did anything
+pub record FinishedBy (start now : List Part) (refused : Option ServeFault) : Type 0 where
+  pub long : length now ≡ length start
+  pub first : Finishes (part_at start 1) (part_at now 1) refused
+  pub others : (s : ℕ) → s ≢ 1 → part_at now s ≡ part_at start s

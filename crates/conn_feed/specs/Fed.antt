@@ -1,5 +1,5 @@
 -- What the passes of the senders know once lines were fed (this project's profile).
-use Rattle.std.specs.Prelude.{⊤, ◌≡◌, ℕ, zero, suc, ◌+◌, ◌-◌, ◌≤◌, All, List, ◌++◌, length, map, slice_get, slice_index_or, Some}
+use Rattle.std.specs.Prelude.{⊤, ◌≡◌, ◌≢◌, true, ℕ, zero, suc, ◌+◌, ◌-◌, ◌≤◌, All, List, ◌++◌, length, map, slice_get, slice_index_or, Some}
 use Rattle.session_model.specs.Journal.{Entry, payloads, entries_of}
 use Rattle.jr_dated.specs.declared.journal.Journal.{Ghosts}
 use Rattle.gate_turn.specs.Views.{Part, new_part, nothing}
@@ -62,9 +62,10 @@ pub record Fed (start now : List Part) (words : List Word) : Type 0 where
 abbrev pub gifts_to : ℕ → List (List ℕ) → List Gift
 gifts_to sender payloads = map (λ payload. record { sender = sender; payload = payload }) payloads
 
--- behind a failed call a pass was to add its next entries, of the first of these lines, a piece at most, and adds nothing any more
+-- behind a failed call a pass was to add its next entries, of the first of these lines, a piece at most, where no mark stood; and adds nothing any more
 pub record LosesLines (senders : ℕ) (q : Part) (lines : List (List ℕ)) : Type 0 where
   pub payloads : List (List ℕ)
   pub given : AreGiven senders lines (gifts_to q.number payloads)
   pub few : length payloads ≤ 64
   pub loses : LosesAll q payloads
+  pub unmarked : q.seen.finished ≢ true

@@ -34,12 +34,19 @@ const MOST_OWN: u64 = u64::MAX - 64;
 #[derive(Drop)]
 pub struct Feeder<J: Journal, K> {
     alloc: Global,
-    senders: Vec<Sender<J>>,
+    pub(crate) senders: Vec<Sender<J>>,
     accepted: K,
     /// The messages that wait to be submitted.
     piece: Piece,
     /// The number of the line that gives the first of them.
     number: u64,
+}
+
+/// Tells a door of a piece of which so many messages were accepted.
+fn tell_door<D: Door>(door: &D, count: u64) {
+    if count > 0 {
+        door.accepted();
+    }
 }
 
 impl<J: Journal, K: Sink> Feeder<J, K> {
@@ -122,7 +129,7 @@ impl<J: Journal, K: Sink> Feeder<J, K> {
     }
 
     /// Submits the piece by the pass of its sender, which has so many messages.
-    fn submit<R: Wait>(&mut self, own: u64, gate: &Gate<J>, rt: &R) -> Submission
+    fn submit<D: Door, R: Wait>(&mut self, own: u64, gate: &Gate<J>, door: &D, rt: &R) -> Submission
         requires seats { AtSeats gate.now self.old.senders.items }
         requires sender { In (length self.old.senders.items) self.old.piece.sender }
         requires own { (d : Sender _ _) → own ≡ (slice_index_or self.old.senders.items (self.old.piece.sender - 1) d).done }
@@ -139,6 +146,7 @@ impl<J: Journal, K: Sink> Feeder<J, K> {
         let seat = &mut self.senders[self.piece.sender() as usize - 1];
         let submission = gate.submit_all(&mut seat.pass, self.piece.payloads(), rt);
         seat.done = own + submission.count;
+        tell_door(door, submission.count);
         submission
     }
 
@@ -189,7 +197,7 @@ impl<J: Journal, K: Sink> Feeder<J, K> {
     }
 
     /// Submits the piece, and tells what came of its lines.
-    fn send<R: Wait>(&mut self, gate: &Gate<J>, rt: &R) -> Result<(), FeedEnd>
+    fn send<D: Door, R: Wait>(&mut self, gate: &Gate<J>, door: &D, rt: &R) -> Result<(), FeedEnd>
         requires sound { IsSound gate.now self.old }
         requires some { self.old.piece.payloads ≢ [] }
         ensures sound { IsSound gate.now self.new }
@@ -206,14 +214,19 @@ impl<J: Journal, K: Sink> Feeder<J, K> {
         if own > MOST_OWN {
             return Err(FeedEnd::Memory);
         }
-        let submission = self.submit(own, gate, rt);
+        let submission = self.submit(own, gate, door, rt);
         let told = self.tell_piece(own, submission);
         self.piece.clear(self.alloc);
         ended_by(submission.refused, told)
     }
 
     /// Submits the piece, if it has messages.
-    pub(crate) fn flush<R: Wait>(&mut self, gate: &Gate<J>, rt: &R) -> Result<(), FeedEnd>
+    pub(crate) fn flush<D: Door, R: Wait>(
+        &mut self,
+        gate: &Gate<J>,
+        door: &D,
+        rt: &R,
+    ) -> Result<(), FeedEnd>
         requires sound { IsSound gate.now self.old }
         ensures sound { IsSound gate.now self.new }
         ensures long { length self.new.senders.items ≡ length self.old.senders.items }
@@ -228,7 +241,7 @@ impl<J: Journal, K: Sink> Feeder<J, K> {
         if self.piece.is_empty() {
             return Ok(());
         }
-        self.send(gate, rt)
+        self.send(gate, door, rt)
     }
 
     /// Tells that the line of this number was refused.
@@ -293,7 +306,7 @@ impl<J: Journal, K: Sink> Feeder<J, K> {
         {
             return Ok(());
         }
-        self.flush(gate, rt)?;
+        self.flush(gate, door, rt)?;
         if door.before(sender, self.next_of(sender), rt) {
             Ok(())
         } else {
@@ -363,11 +376,12 @@ impl<J: Journal, K: Sink> Feeder<J, K> {
     }
 
     /// Submits the piece, and tells that the line of this number, which comes behind it, was refused.
-    fn pass_over<R: Wait>(
+    fn pass_over<D: Door, R: Wait>(
         &mut self,
         number: u64,
         why: Why,
         gate: &Gate<J>,
+        door: &D,
         rt: &R,
     ) -> Result<(), FeedEnd>
         requires sound { IsSound gate.now self.old }
@@ -381,7 +395,7 @@ impl<J: Journal, K: Sink> Feeder<J, K> {
         ensures risen { IsErrOf result ends.Accepted → HasRisen (K.faults self.old.accepted) (K.faults self.new.accepted) }
         ensures counted { K.faults self.old.accepted ≤ K.faults self.new.accepted }
     {
-        match self.flush(gate, rt) {
+        match self.flush(gate, door, rt) {
             Ok(()) => self.refuse(number, why),
             Err(end) => Err(end),
         }
@@ -411,7 +425,7 @@ impl<J: Journal, K: Sink> Feeder<J, K> {
             Ok(Fed::Payload { sender, payload }) => {
                 self.add(number, sender, payload, gate, door, rt)
             }
-            Ok(Fed::Wrong(wrong)) => self.pass_over(number, Why::Wrong(wrong), gate, rt),
+            Ok(Fed::Wrong(wrong)) => self.pass_over(number, Why::Wrong(wrong), gate, door, rt),
             Err(_) => Err(FeedEnd::Memory),
         }
     }
@@ -438,7 +452,7 @@ impl<J: Journal, K: Sink> Feeder<J, K> {
     {
         match found {
             Found::Whole => self.take_whole(line, number, gate, door, rt),
-            Found::TooLong => self.pass_over(number, Why::TooLong, gate, rt),
+            Found::TooLong => self.pass_over(number, Why::TooLong, gate, door, rt),
         }
     }
 }

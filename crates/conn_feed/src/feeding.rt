@@ -47,7 +47,7 @@ impl<J: Journal, K: Sink> Feeder<J, K> {
                 return Err(end);
             }
         }
-        self.flush(gate, rt)
+        self.flush(gate, door, rt)
     }
 
     /// Reads INPUT once, and takes the lines that this gave. Answers whether there may be more.
@@ -130,7 +130,7 @@ impl<J: Journal, K: Sink> Feeder<J, K> {
         ensures counted { K.faults self.old.accepted ≤ K.faults self.new.accepted }
     {
         match self.take_last(reader, gate, door, rt) {
-            Ok(()) => self.flush(gate, rt),
+            Ok(()) => self.flush(gate, door, rt),
             Err(end) => Err(end),
         }
     }

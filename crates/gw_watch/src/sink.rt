@@ -3,6 +3,7 @@
 ghost use Rattle.std.specs.Prelude.{◌≡◌};
 
 use crate::ear::{Ear, Heard};
+use gw_appended::Appended;
 use gw_outside::{Failed, Sink};
 
 /// How much of a line is kept.
@@ -32,8 +33,8 @@ impl Front {
     }
 }
 
-/// A sink of which an ear is told that it is begun, which its first push does, and each line as soon as it is taken. All that is promised of
-/// it is what the sink inside promises.
+/// A sink of which an ear is told that it is begun, which its first push of nothing does, and from then on each line as soon as it is taken. All that is
+/// promised of it is what the sink inside promises.
 pub struct WatchedSink<'e, K, E> {
     inner: K,
     ear: &'e E,
@@ -95,13 +96,30 @@ impl<K: Sink, E: Ear> Sink for WatchedSink<'_, K, E> {
     fn push(&mut self, bytes: &[u8]) -> Result<usize, Failed> {
         let taken = self.inner.push(bytes);
         if let Ok(count) = taken {
-            if !self.has_begun {
+            if self.has_begun {
+                let (lines, _) = bytes.split_at(count);
+                follow(&mut self.front, lines, self.ear);
+            } else if bytes.is_empty() {
                 self.has_begun = true;
                 self.ear.hear(Heard::Begun);
             }
-            let (lines, _) = bytes.split_at(count);
-            follow(&mut self.front, lines, self.ear);
         }
         taken
+    }
+}
+
+impl<K: Appended, E: Ear> Appended for WatchedSink<'_, K, E> {
+    ghost keeps = { K.keeps };
+
+    fn length(&mut self) -> Result<Option<u64>, Failed> {
+        self.inner.length()
+    }
+
+    fn read_at(&mut self, at: u64, into: &mut [u8]) -> Result<usize, Failed> {
+        self.inner.read_at(at, into)
+    }
+
+    fn cut(&mut self, size: u64) -> Result<(), Failed> {
+        self.inner.cut(size)
     }
 }

@@ -12,7 +12,7 @@ use fixp_msgs::{
 use gw_watch::{Ear, Heard};
 use say_faults::push_rejected;
 use say_words::push_file;
-use session_files::{Outlook, Session, Walked, push_place, text_of_file, walk_journal};
+use session_files::{Outlook, Session, Walked, is_file, push_place, text_of_file, walk_journal};
 use std::alloc::{AllocError, Global};
 use std::cell::Cell;
 use std::fs::File;
@@ -196,6 +196,42 @@ impl<'a, R: Clock + Eprint + Files<File = File>> Teller<'a, R> {
         Ok(line)
     }
 
+    /// Whether OUT goes on with what earlier runs told.
+    fn is_gone_on(&self) -> bool {
+        let out = self.session.out.path;
+        out != "-" && is_file(self.rt, out)
+    }
+
+    /// What OUT tells of INBOX, where it is not begun anew at each run.
+    fn told(&self, inbox: &Walked) -> Result<String, AllocError> {
+        let mut line = self.begun()?;
+        push_place(&mut line, self.session.out)?;
+        let (last, next) = (inbox.last, inbox.last.saturating_add(1));
+        if self.is_gone_on() {
+            write!(line, "it tells all messages of INBOX, up to number {last}")?;
+        } else {
+            write!(
+                line,
+                "it tells messages from number {next} on; fixpgw journal OUTBOX INBOX - prints those of earlier runs"
+            )?;
+        }
+        Ok(line)
+    }
+
+    /// Says what OUT tells of the messages of earlier runs, where there are any.
+    fn look_at_inbox(&self) {
+        let Some(inbox) = walk_journal(self.rt, self.alloc, self.session.inbox.path) else {
+            return;
+        };
+        if inbox.applied == 0 {
+            return;
+        }
+        match self.session.accepted {
+            Some(_) => self.say(self.told(&inbox)),
+            None => self.say(self.untold(&inbox)),
+        }
+    }
+
     /// OUT is begun, and nothing is added to either journal yet.
     fn begin(&self) {
         let mut heed = self.heed.get();
@@ -208,11 +244,7 @@ impl<'a, R: Clock + Eprint + Files<File = File>> Teller<'a, R> {
         if let Some(warning) = self.readable() {
             self.say(warning);
         }
-        if let Some(inbox) = walk_journal(self.rt, self.alloc, self.session.inbox.path) {
-            if inbox.applied > 0 {
-                self.say(self.untold(&inbox));
-            }
-        }
+        self.look_at_inbox();
     }
 
     /// A connection is there.

@@ -30,15 +30,16 @@ fn has_length<D: Disk>(disk: &mut D, bytes: u64) -> bool {
 }
 
 /// Adds which journal is full: the one whose file is as long as the full journal.
-fn push_full<R, D: Disk, N>(
+pub(crate) fn push_full<D: Disk>(
     line: &mut String,
     session: Session<'_>,
-    outside: &mut Said<'_, R, D, N>,
+    out_disk: &mut D,
+    in_disk: &mut D,
     entries: u64,
     bytes: u64,
 ) -> Result<(), AllocError> {
-    let is_out = has_length(&mut outside.out_disk, bytes);
-    let is_in = has_length(&mut outside.in_disk, bytes);
+    let is_out = has_length(out_disk, bytes);
+    let is_in = has_length(in_disk, bytes);
     match (is_out, is_in) {
         (true, false) => push_place(line, session.outbox)?,
         (false, true) => push_place(line, session.inbox)?,
@@ -78,7 +79,14 @@ fn push_line<R: Files<File = File>, D: Disk + SaysWhy, N: SaysWhy>(
         Status::DialFault => push_undialed(line, session, &outside.dialer, outlook),
         Status::Unfinished { .. } => push_unfinished(line, session.most, outlook),
         Status::Rejected { template, code } => push_reject(line, session, *template, *code),
-        Status::Full { entries, bytes } => push_full(line, session, outside, *entries, *bytes),
+        Status::Full { entries, bytes } => push_full(
+            line,
+            session,
+            &mut outside.out_disk,
+            &mut outside.in_disk,
+            *entries,
+            *bytes,
+        ),
         Status::Message(bad) => push_plans(
             rt,
             alloc,

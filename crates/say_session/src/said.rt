@@ -5,7 +5,9 @@ use crate::missing::push_missing;
 use crate::plans::{PlanLine, plan_line};
 use cmd_base::{Bad, JournalCause, Which};
 use cmd_config::{Purpose, Role, read_configuration};
-use gw_real::{FileDisk, Kept, Named, Reason};
+use gw_appended_files::AppendedFile;
+use gw_fed_files::ComingFile;
+use gw_real::{FileDisk, FileSink, Kept, Named, Reason};
 use gw_sockets::{AcceptDialer, ConnectDialer, SocketReason};
 use say_config::{Wanted, push_config_fault};
 use say_faults::{push_plan_fault, push_rejected};
@@ -13,7 +15,7 @@ use schema_toml::ConfigFault;
 use session_files::{AtPlace, Outlook, Session, entry_at, named, push_place, text_of_file};
 use std::alloc::{AllocError, Global};
 use std::fs::File;
-use std::io::{self, ErrorKind};
+use std::io::{self, ErrorKind, Printer};
 use std::net::{Net, TcpListener, TcpStream};
 use std::rt::Files;
 use std::time::Clock;
@@ -180,6 +182,36 @@ impl<R: Net<Listener = TcpListener, Stream = TcpStream> + Clock> SaysWhy for Con
             return Ok(false);
         };
         push_dial(line, name, reason)?;
+        Ok(true)
+    }
+}
+
+impl<R> SaysWhy for ComingFile<'_, R> {
+    fn push_why(&self, line: &mut String, name: Named<'_>) -> Result<bool, AllocError> {
+        let Some(reason) = self.reason() else {
+            return Ok(false);
+        };
+        push_source(line, name, reason)?;
+        Ok(true)
+    }
+}
+
+impl<R> SaysWhy for FileSink<'_, R, File, Printer<'_, R>> {
+    fn push_why(&self, line: &mut String, _name: Named<'_>) -> Result<bool, AllocError> {
+        let Some(reason) = self.reason() else {
+            return Ok(false);
+        };
+        push_sink(line, self.name(), reason)?;
+        Ok(true)
+    }
+}
+
+impl<R> SaysWhy for AppendedFile<'_, R, Printer<'_, R>> {
+    fn push_why(&self, line: &mut String, _name: Named<'_>) -> Result<bool, AllocError> {
+        let Some(reason) = self.reason() else {
+            return Ok(false);
+        };
+        push_sink(line, self.name(), reason)?;
         Ok(true)
     }
 }

@@ -9,6 +9,6 @@ mod walk;
 
 pub use outlook::Outlook;
 pub use place::{push_name, push_place};
-pub use session::{Session, named, role_of};
+pub use session::{Session, are_both_standard, named, role_of};
 pub use text::{is_file, text_of_file};
 pub use walk::{AtPlace, Walked, entry_at, walk_journal};

@@ -21,7 +21,15 @@ pub struct Session<'a> {
     pub outbox: Named<'a>,
     pub inbox: Named<'a>,
     pub out: Named<'a>,
+    /// What is told what became of the lines of INPUT, where that is read as it comes.
+    pub accepted: Option<Named<'a>>,
 }
+
+/// The path of standard input.
+const STANDARD_INPUT: &str = "/dev/stdin";
+
+/// The path that stands for standard input or output, where one of these may be meant.
+const STANDARD: &str = "-";
 
 /// The role of a command, if it runs a session over connections.
 pub fn role_of(command: &str) -> Option<Role> {
@@ -32,14 +40,43 @@ pub fn role_of(command: &str) -> Option<Role> {
     }
 }
 
+/// Whether OUT and ACCEPTED would both be standard output.
+pub fn are_both_standard(out: &str, accepted: &str) -> bool {
+    out == STANDARD && accepted == STANDARD
+}
+
 impl<'a> Session<'a> {
-    /// The session of words that are one of its two forms.
+    /// The session of words that are one of its four forms.
     pub fn of(words: &'a [String]) -> Option<Session<'a>> {
-        let [command, address, most, config, input, outbox, inbox, out] = words else {
-            return None;
-        };
+        match words {
+            [command, address, most, config, input, outbox, inbox, out] => {
+                Session::by_plans(command, address, most, [config, input, outbox, inbox, out])
+            }
+            [command, address, most, config, input, outbox, inbox, out, accepted] => {
+                if are_both_standard(out.as_str(), accepted.as_str()) {
+                    return None;
+                }
+                let files = [config, input, outbox, inbox, out];
+                let session = Session::by_plans(command, address, most, files)?;
+                Some(Session {
+                    accepted: Some(named("ACCEPTED", accepted.as_str())),
+                    ..session
+                })
+            }
+            _ => None,
+        }
+    }
+
+    /// The session of these words, whose INPUT is read before it begins.
+    fn by_plans(
+        command: &'a String,
+        address: &'a String,
+        most: &'a String,
+        files: [&'a String; 5],
+    ) -> Option<Session<'a>> {
         let role = role_of(command.as_str())?;
         let most = positive(most.as_str().as_bytes())?;
+        let [config, input, outbox, inbox, out] = files;
         Some(Session {
             role,
             address: address.as_str(),
@@ -49,15 +86,25 @@ impl<'a> Session<'a> {
             outbox: named("OUTBOX", outbox.as_str()),
             inbox: named("INBOX", inbox.as_str()),
             out: named("OUT", out.as_str()),
+            accepted: None,
         })
     }
 
-    /// The files that OUT must not be the same as.
-    pub fn others(&self) -> [Named<'a>; 6] {
+    /// INPUT, as a file that an output must not be: `-` is standard input where INPUT is read as it comes.
+    fn input_file(&self) -> Named<'a> {
+        match self.accepted {
+            Some(_) if self.input.path == STANDARD => named(self.input.role, STANDARD_INPUT),
+            _ => self.input,
+        }
+    }
+
+    /// The files that OUT and ACCEPTED must not be the same as, each but itself.
+    pub fn others(&self) -> [Named<'a>; 7] {
         [
             self.config,
-            self.input,
+            self.input_file(),
             self.out,
+            self.accepted.unwrap_or(self.out),
             self.outbox,
             self.inbox,
             STANDARD_OUTPUT,

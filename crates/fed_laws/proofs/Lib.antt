@@ -1,0 +1,5 @@
+pub mod Gifts
+pub mod Parts
+pub mod Fed
+pub mod Served
+pub mod Told
