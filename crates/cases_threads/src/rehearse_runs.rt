@@ -94,7 +94,13 @@ pub fn print<R: Threads + Wait + Sync + Print + AllocGlobal>(rt: &R) -> io::Resu
     let Ok(script) = read_script(alloc, SCRIPT) else {
         return rt.println("the script is none");
     };
-    let Ok(Rehearsal { initiator, acceptor }) = rehearse(alloc, &script, rt) else {
+    let Ok(
+        Rehearsal {
+            initiator,
+            acceptor,
+        },
+    ) = rehearse(alloc, &script, rt)
+    else {
         return rt.println("it came to no end");
     };
     let lives = [initiator.lives > 1, acceptor.lives > 1];
