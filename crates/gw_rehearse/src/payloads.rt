@@ -53,12 +53,7 @@ fn push_account(bytes: &mut Bytes, version: u8, sender: u16) -> Result<(), Alloc
 }
 
 /// Adds the fields of an order.
-fn push_root(
-    bytes: &mut Bytes,
-    version: u8,
-    sender: u16,
-    number: u64,
-) -> Result<(), AllocError>
+fn push_root(bytes: &mut Bytes, version: u8, sender: u16, number: u64) -> Result<(), AllocError>
     requires sender { sender ≤ 16 }
     requires number { number < 2 ^ 32 }
     ensures { OnOk result (bytes.new ≡ bytes.old ++ root_of version sender number) }

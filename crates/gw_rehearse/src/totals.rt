@@ -76,10 +76,10 @@ fn have_all(load: &Load, initiator: &Journals, acceptor: &Journals) -> bool
 fn are_recoverable(link: &Link) -> bool
     ensures { AreRecoverable link.now → IsTrue result }
 {
-    match (link.client_flow, link.server_flow) {
-        (Flow::Recoverable, Flow::Recoverable) => true,
-        _ => false,
-    }
+    matches!(
+        (link.client_flow, link.server_flow),
+        (Flow::Recoverable, Flow::Recoverable),
+    )
 }
 
 /// Whether each desk has reported on its share of what the acceptor applied, and each inbox has all that the script comes to, where both
