@@ -1,5 +1,5 @@
 -- What a pass sends, put together from parts.
-use Rattle.std.proofs.Common.{◌≡◌, ℕ, zero, suc, ◌+◌, ◌-◌, ◌<◌, ◌≤◌, List, [], ◌∷◌, ◌++◌, length, take, drop, slice_get, take-append-drop, Option, Some, None, Result, Ok, Err, OnOk, refl, sym, ap, subst, ◌∙◌, arith, append-nil, append_assoc, length-append}
+use Rattle.std.proofs.Common.{◌≡◌, ◌≢◌, true, ℕ, zero, suc, ◌+◌, ◌-◌, ◌<◌, ◌≤◌, List, [], ◌∷◌, ◌++◌, length, take, drop, slice_get, take-append-drop, Option, Some, None, Result, Ok, Err, OnOk, refl, sym, ap, subst, ◌∙◌, arith, append-nil, append_assoc, length-append}
 use Rattle.std.specs.List.{AllByRecursion}
 use Rattle.std.proofs.lemmas.List.{drop_all}
 use Rattle.std.proofs.lemmas.Option.{same_Some, slice_get_within}
@@ -8,14 +8,13 @@ use Rattle.session_model.proofs.Lists.{all_append}
 use Rattle.jr_kept.specs.Entries.{entries_made}
 use Rattle.jr_boxes.specs.declared.faults.SubmitFault.{SubmitFault}
 use Rattle.jr_boxes.specs.declared.faults.SubmitFault.TheVariants as submit
-use Rattle.gate_turn.specs.Views.{Part}
+use Rattle.gate_turn.specs.Views.{Part, HasFailed}
 use Rattle.gate_turn.proofs.Histories.{begins_self, begins_on}
 use Rattle.gate_turn.proofs.Failing.{failed_before}
 use Rattle.gate_senders.specs.Kept.{next_entry, IsFullAt}
-use Rattle.gate_senders.specs.Shown.{TakesTurn, entries_after}
+use Rattle.gate_senders.specs.Shown.{TakesTurn, SubmittedAll, IsFullBehind, LosesAll, entries_after}
 use Rattle.gate_senders.specs.declared.submission.Submission.{Submission}
 use Rattle.gate_plans.specs.Sent.{entries_behind, GoesOn, IsShown, HasLost}
-use Rattle.gate_plans.proofs.Piece.{Answered}
 use Rattle.gate_business.specs.Made.{IsAmong, SeesOwn}
 use Rattle.gate_business.proofs.Resuming.{take_on}
 use Rattle.gate_business.proofs.Seeing.{sees_still, among_on}
@@ -100,7 +99,23 @@ reported_nothing p next = record {
   unlost = λ _. refl;
 }
 
--- ---- a piece, of which the gate answered this
+-- ---- a piece
+
+-- what the gate answers of these payloads, of a pass that knew p and knows q
+pub record Said (p q : Part) (ps : List (List ℕ)) (r : Submission) : Type 0 where
+  pub turn : TakesTurn p q
+  pub ended : q.ended ≡ p.ended
+  pub within : r.count ≤ length ps
+  pub added : SubmittedAll p q (take r.count ps)
+  pub whole : r.refused ≡ None → r.count ≡ length ps
+  pub none : (f : SubmitFault) → r.refused ≡ Some f → ((entries bytes : ℕ) → f ≡ submit.Full entries bytes → ⊥) → r.count ≡ 0
+  pub closed : r.refused ≡ Some submit.Closed → q.seen.finished ≡ true
+  pub full : (entries bytes : ℕ) → r.refused ≡ Some (submit.Full entries bytes) → IsFullBehind q ps r.count entries bytes
+  pub fault : r.refused ≡ Some submit.Fault → HasFailed p.faults q.faults
+  pub broken : r.refused ≡ Some submit.Broken → HasFailed q.opening.faults q.faults
+  pub lost : r.refused ≡ Some submit.Fault → LosesAll q ps
+  pub unlost : (r.refused ≡ Some submit.Fault → ⊥) → q.lost ≡ p.lost
+  pub unended : r.refused ≡ Some submit.Fault → q.seen.finished ≢ true
 
 -- the entries at the end of a history are among it
 all_last : (before es : List Entry) → AllByRecursion (IsAmong (before ++ es)) es
@@ -132,7 +147,7 @@ stands_at n [] few = absurd (omega (arith, few))
 stands_at zero (x ∷ xs) few = record { it = x; more = xs; found = refl; behind = refl }
 stands_at (suc n) (x ∷ xs) few = let r = stands_at n xs (omega (arith, few)) in record { it = r.it; more = r.more; found = r.found; behind = r.behind }
 
-module _ (p q : Part) (ps : List (List ℕ)) (r : Submission) (some : 0 < length ps) (few : length ps ≤ 64) (a : Answered p q ps r) where
+module _ (p q : Part) (ps : List (List ℕ)) (r : Submission) (some : 0 < length ps) (few : length ps ≤ 64) (a : Said p q ps r) where
   -- where one was refused, it is one of the piece
   short : (f : SubmitFault) → r.refused ≡ Some f → r.count < length ps
   short submit.Broken e = omega (arith, some, a.none submit.Broken e (λ n b x. cc x))

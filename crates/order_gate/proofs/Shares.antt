@@ -1,5 +1,6 @@
 -- A share of some messages, by its places.
-use Rattle.std.proofs.Common.{◌≡◌, ℕ, zero, suc, ◌+◌, ◌-◌, ◌<◌, ◌≤◌, ◌==◌, cond, Bool, true, false, List, [], ◌∷◌, ◌++◌, length, slice_get, slice_index_or, flat_map, option_to_list, Some, None, refl, sym, ap, subst, ◌∙◌, arith, append-nil, append_assoc, length-append, ℤ}
+use Rattle.std.proofs.Common.{◌≡◌, ℕ, zero, suc, ◌+◌, ◌-◌, ◌<◌, ◌≤◌, ◌==◌, cond, Bool, true, false, List, [], ◌∷◌, ◌++◌, length, slice_get, slice_index_or, flat_map, option_to_list, Some, None, refl, sym, ap, subst, ◌∙◌, arith, append-nil, append_assoc, length-append, ℤ, Result, Ok, Err}
+use Rattle.std.specs.Prelude.{IfOk}
 use Rattle.std.proofs.lemmas.Grind.{flat_map-append}
 use Rattle.std.proofs.lemmas.Option.{slice_get-get_or}
 use Rattle.sbe_layout.specs.declared.plan.Plan.{Plan}
@@ -99,3 +100,8 @@ module _ (F : List ℕ → List (List ℕ)) (payloads : List (List ℕ)) where
 pub due_of : (plan : Plan) (reference : ℤ) (d turn : ℕ) (payloads : List (List ℕ)) (s : ℕ) (all : List ℕ) → all ≡ places d s (turn + 1) 0 (length payloads)
     → flat_map (answers plan s reference) (at_places payloads all) ≡ due plan reference d turn payloads s
 due_of plan reference d turn payloads s all e = ap (λ l. flat_map (answers plan s reference) (at_places payloads l)) e ∙ ap (λ l. flat_map (answers plan s reference) l) (shared d s (turn + 1) payloads)
+
+-- of an answer that has one thing and another
+pub both_ok : {X E : Type 0} (r : Result X E) (P Q R : X → Type 0) → ((x : X) → P x → Q x → R x) → IfOk r P → IfOk r Q → IfOk r R
+both_ok (Ok x) P Q R f p q = f x p q
+both_ok (Err e) P Q R f p q = tt

@@ -1,7 +1,6 @@
 use Rattle.std.proofs.Common.{◌+◌, Ok, Err, Some, None, refl, ap, ◌∙◌}
 use Rattle.gate_turn.specs.Places.{known}
-use Rattle.gate_plans.proofs.Piece.{Answered}
-use Rattle.order_gate.proofs.Parts.{reported_at}
+use Rattle.order_gate.proofs.Parts.{Said, reported_at}
 use Rattle.order_gate.proofs.Sending.{ready_again, reported_by, its_made, made_more}
 use Rattle.order_gate.proofs.desk.Desk.send_piece.Goals as goal
 
@@ -32,7 +31,7 @@ returns-in-None-clause-reported g c =
     let e = c.submit_all-submission.ensures in
     let q = c.submit_all-submission.new.pass in
     let r = c.submit_all-submission.result in
-    let a : Answered (known p) (known q) c.args.reports.now r = record {
+    let a : Said (known p) (known q) c.args.reports.now r = record {
       turn = e.turn;
       ended = e.ended;
       within = e.within;
@@ -57,7 +56,7 @@ returns-in-Some-refused-clause-reported g c =
     let e = c.submit_all-submission.ensures in
     let q = c.submit_all-submission.new.pass in
     let r = c.submit_all-submission.result in
-    let a : Answered (known p) (known q) c.args.reports.now r = record {
+    let a : Said (known p) (known q) c.args.reports.now r = record {
       turn = e.turn;
       ended = e.ended;
       within = e.within;
