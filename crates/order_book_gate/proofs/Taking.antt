@@ -6,6 +6,7 @@ use Rattle.atomic_table.specs.Seated.{TableId}
 use Rattle.jr_dated.specs.declared.journal.Journal.{Ghosts}
 use Rattle.jr_boxes.specs.declared.faults.SubmitFault.{SubmitFault}
 use Rattle.jr_boxes.specs.declared.faults.SubmitFault.TheVariants as submit
+use Rattle.std.specs.Prelude.{IfOk}
 use Rattle.std.specs.List.{AllByRecursion}
 use Rattle.std.specs.Result.{result_ok}
 use Rattle.order_desk.specs.declared.order.Order.{Order}
@@ -47,6 +48,16 @@ module _ (p : Plan) (rs : List BookOrder) (xs : List (List ℕ)) (i : ℕ) (x : 
 
   pub resting_next : resting_behind p (resting_behind p rs (take i xs)) (x ∷ []) ≡ resting_behind p rs (take (i + 1) xs)
   resting_next = sym (resting_on p rs (take i xs) (x ∷ [])) ∙ ap (resting_behind p rs) taken
+
+-- whatever it answers
+pub any_ok : {X E : Type 0} (r : Result X E) {A : Type 0} → A → IfOk r (λ x. A)
+any_ok (Ok x) a = a
+any_ok (Err e) a = tt
+
+-- where it answers Ok, of what it gives
+pub ok_of : {X E : Type 0} (r : Result X E) (P Q : X → Type 0) → ((x : X) → P x → Q x) → IfOk r P → IfOk r Q
+ok_of (Ok x) P Q f p = f x p
+ok_of (Err e) P Q f p = tt
 
 module _ {J : Type 0} {G : Ghosts J} (lock : TableId) (senders : ℕ) where
   -- memory ran out: nothing was sent, whatever rests
