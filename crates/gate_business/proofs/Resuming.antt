@@ -11,18 +11,20 @@ use Rattle.jr_dated.specs.declared.journal.Journal.{Ghosts}
 use Rattle.jr_dated.specs.declared.faults.FetchFault.{FetchFault}
 use Rattle.jr_kept.specs.Inbox.{SameContent}
 use Rattle.jr_kept.specs.declared.inbox.Inbox.{Inbox}
+use Rattle.jr_kept.specs.Entries.{entries_made}
 use Rattle.jr_boxes.specs.Inboxes.{peer_last_in}
 use Rattle.jr_boxes.specs.declared.faults.SubmitFault.{SubmitFault}
 use Rattle.jr_boxes.specs.declared.faults.SubmitFault.TheVariants as submit
 use Rattle.gate_turn.specs.Views.{Part}
+use Rattle.gate_senders.specs.Shown.{entries_after}
 use Rattle.gate_turn.specs.Rule.{In}
 use Rattle.gate_turn.proofs.Histories.{begins_self, begins_on}
 use Rattle.gate_turn.proofs.Failing.{failed_before}
-use Rattle.gate_business.specs.Made.{LosesMessage, SeesMark, MetFull}
+use Rattle.gate_business.specs.Made.{LosesMessages, SeesMark, MetFull}
 use Rattle.gate_business.specs.Business.{StaysPass, AllStay, AllMade, Loses, Grew, Whole, ShownByOne, StandsOn, StandsOnResume, LoseNothing, SendNothing, Answered, Resumed}
 use Rattle.gate_business.specs.declared.business.ResumeFault.{ResumeFault}
 use Rattle.gate_business.specs.declared.business.ResumeFault.TheVariants as resuming
-use Rattle.gate_business.proofs.Making.{Makes, makes, made_of, over_longer, makes_on, all_made_on}
+use Rattle.gate_business.proofs.Making.{prefix_drop, Makes, makes, made_of, over_longer, makes_on, all_made_on}
 
 pub stays_self : (p : Part) → StaysPass p p
 stays_self p = record { seen = begins_self p.seen; own = λ own. own; faults = omega arith; number = refl; made = refl; opening = refl }
@@ -75,8 +77,8 @@ module _ (count : ℕ) (p r : ℕ → Part) where
       loses_on : (n : ℕ) → Loses longer count r q finished n → Loses longer count p q finished n
       loses_on n l = record { broken = l.broken; unmarked = l.unmarked; unmade = λ m inside e. ended m inside (l.unmade m inside e); what = what l.what }
         where
-          what : LosesMessage (longer n) (q n) ⊎ (((q n).lost ≡ finish ∷ []) × (finished ≡ true) × AllMade longer count r q)
-              → LosesMessage (longer n) (q n) ⊎ (((q n).lost ≡ finish ∷ []) × (finished ≡ true) × AllMade longer count p q)
+          what : LosesMessages (longer n) (q n) ⊎ (((q n).lost ≡ finish ∷ []) × (finished ≡ true) × AllMade longer count r q)
+              → LosesMessages (longer n) (q n) ⊎ (((q n).lost ≡ finish ∷ []) × (finished ≡ true) × AllMade longer count p q)
           what (inl m) = inl m
           what (inr f) = inr (f.0, f.1, all_on f.2)
 
@@ -125,6 +127,21 @@ module _ (count : ℕ) (p r : ℕ → Part) where
     broken = s.broken;
   }
 
+-- what was lost of a plan was lost of a longer one
+take_begun : {A : Type 0} (n : ℕ) (xs ys : List A) → IsPrefix xs ys → n ≤ length xs → (n ≤ length ys) × (take n xs ≡ take n ys)
+take_begun zero xs ys p few = (omega arith, refl)
+take_begun (suc n) [] ys p few = absurd (omega (arith, few))
+take_begun (suc n) (x ∷ xs) [] p few = absurd (cc (p.1))
+take_begun (suc n) (x ∷ xs) (y ∷ ys) p few =
+    let first : x ≡ y = cc (p.1) in
+    let r = take_begun n xs ys (p.0, cc (p.1)) (omega (arith, few)) in
+    (omega (arith, r.0), ap (λ z. z ∷ take n xs) first ∙ ap (λ zs. y ∷ zs) r.1)
+
+loses_longer : (plan longer : List (List ℕ)) (q : Part) → IsPrefix plan longer → LosesMessages plan q → LosesMessages longer q
+loses_longer plan longer q wider m =
+    let t = take_begun m.count (drop (length q.mine) plan) (drop (length q.mine) longer) (prefix_drop (length q.mine) plan longer wider) m.within in
+    record { count = m.count; within = t.0; few = m.few; is = m.is ∙ ap (λ ps. entries_made (entries_after q ps)) t.1 }
+
 -- what calls leave up to some messages they leave of all of which these are the first
 module _ (count : ℕ) (p q : ℕ → Part) (plan longer : ℕ → List (List ℕ)) (wider : (n : ℕ) → IsPrefix (plan n) (longer n)) where
   pub grew_wider : (finished : Bool) → Grew plan count p q false → Grew longer count p q finished
@@ -143,9 +160,9 @@ module _ (count : ℕ) (p q : ℕ → Part) (plan longer : ℕ → List (List �
       lost n (inl e) = inl e
       lost n (inr l) = inr (record { broken = l.broken; unmarked = l.unmarked; unmade = l.unmade; what = what l.what })
         where
-          what : LosesMessage (plan n) (q n) ⊎ (((q n).lost ≡ finish ∷ []) × (false ≡ true) × AllMade plan count p q)
-              → LosesMessage (longer n) (q n) ⊎ (((q n).lost ≡ finish ∷ []) × (finished ≡ true) × AllMade longer count p q)
-          what (inl m) = inl (record { payload = m.payload; next = prefix_get (plan n) (longer n) (length (q n).mine) m.payload (wider n) m.next; is = m.is })
+          what : LosesMessages (plan n) (q n) ⊎ (((q n).lost ≡ finish ∷ []) × (false ≡ true) × AllMade plan count p q)
+              → LosesMessages (longer n) (q n) ⊎ (((q n).lost ≡ finish ∷ []) × (finished ≡ true) × AllMade longer count p q)
+          what (inl m) = inl (loses_longer (plan n) (longer n) (q n) (wider n) m)
           what (inr f) = absurd (true≢false (sym f.1))
 
   full_wider : (entries bytes : ℕ) → MetFull plan count q entries bytes → MetFull longer count q entries bytes

@@ -13,7 +13,7 @@ use Rattle.gate_turn.specs.Calls.{IsFree}
 use Rattle.gate_turn.specs.declared.pass.Pass.{Pass}
 use Rattle.gate_turn.specs.declared.passes.Passes.{Passes}
 use Rattle.gate_senders.specs.declared.gate.Gate.{Gate}
-use Rattle.gate_business.specs.Made.{SeesOwn, MadeOf, IsAllMade, LosesMessage, SeesMark, MetFull}
+use Rattle.gate_business.specs.Made.{SeesOwn, MadeOf, IsAllMade, LosesMessages, SeesMark, MetFull}
 use Rattle.gate_business.specs.declared.business.ResumeFault.{ResumeFault}
 use Rattle.gate_business.specs.declared.business.ResumeFault.TheVariants as resuming
 
@@ -44,13 +44,13 @@ AllStay count p q = (n : ℕ) → In count n → StaysPass (p n) (q n)
 abbrev pub AllMade : (plan : ℕ → List (List ℕ)) (count : ℕ) (p q : ℕ → Part) → Type 0
 AllMade plan count p q = (n : ℕ) → In count n → IsAllMade (p n).mine n (plan n) (q n).mine
 
--- What the pass of number n lost with a call of the disk that failed: the next message of its plan, or the mark, which only comes where the
--- peer's finish is recorded and each pass made all of its plan; and none of them made the mark in this call
+-- What the pass of number n lost with a call of the disk that failed: the next messages of its plan, a piece at most, or the mark, which only comes
+-- where the peer's finish is recorded and each pass made all of its plan; and none of them made the mark in this call
 pub record Loses (plan : ℕ → List (List ℕ)) (count : ℕ) (p q : ℕ → Part) (finished : Bool) (n : ℕ) : Type 0 where
   pub broken : (q n).broken ≡ true
   pub unmarked : (q n).seen.finished ≢ true
   pub unmade : (m : ℕ) → In count m → (q m).ended ≡ true → (p m).ended ≡ true
-  pub what : LosesMessage (plan n) (q n) ⊎ (((q n).lost ≡ finish ∷ []) × (finished ≡ true) × AllMade plan count p q)
+  pub what : LosesMessages (plan n) (q n) ⊎ (((q n).lost ≡ finish ∷ []) × (finished ≡ true) × AllMade plan count p q)
 
 -- Whatever the call answered: behind its own entries each pass made messages of its plan, from there on; it added the mark only where the
 -- peer's finish is recorded and each pass made all of its plan; and it lost nothing but what comes next

@@ -1,11 +1,12 @@
 -- What a pass makes of the plan of its sender, and what it loses of it with a failed call (this project's profile).
-use Rattle.std.specs.Prelude.{◌≡◌, ◌⊎◌, ℕ, true, List, [], ◌∷◌, ◌++◌, length, take, drop, slice_get, Some}
+use Rattle.std.specs.Prelude.{◌≡◌, ◌⊎◌, ℕ, ◌≤◌, true, List, ◌++◌, length, take, drop, slice_get, Some}
 use Rattle.std.specs.List.{AllByRecursion}
-use Rattle.session_model.specs.Journal.{Entry, entry}
+use Rattle.session_model.specs.Journal.{Entry}
+use Rattle.jr_kept.specs.Entries.{entries_made}
 use Rattle.gate_turn.specs.Views.{Part, HasFailed}
 use Rattle.gate_turn.specs.Rule.{In}
 use Rattle.gate_senders.specs.Kept.{next_entry, IsFullAt}
-use Rattle.gate_senders.specs.Shown.{entry_after}
+use Rattle.gate_senders.specs.Shown.{entries_after}
 use Rattle.gate_plans.specs.Sent.{entries_behind}
 
 -- an entry is among these
@@ -25,11 +26,12 @@ pub record MadeOf (had : List Entry) (sender : ℕ) (plan : List (List ℕ)) (mi
 abbrev pub IsAllMade : List Entry → ℕ → List (List ℕ) → List Entry → Type 0
 IsAllMade had sender plan mine = mine ≡ had ++ entries_behind sender (length had) (drop (length had) plan)
 
--- what a pass was to add by a call that failed: the message of its sender's plan behind those that it made
-pub record LosesMessage (plan : List (List ℕ)) (p : Part) : Type 0 where
-  pub payload : List ℕ
-  pub next : slice_get plan (length p.mine) ≡ Some payload
-  pub is : p.lost ≡ entry (entry_after p payload) ∷ []
+-- what a pass was to add by a call that failed: so many messages of its sender's plan, a piece at most, behind those that it made
+pub record LosesMessages (plan : List (List ℕ)) (p : Part) : Type 0 where
+  pub count : ℕ
+  pub within : count ≤ length (drop (length p.mine) plan)
+  pub few : count ≤ 64
+  pub is : p.lost ≡ entries_made (entries_after p (take count (drop (length p.mine) plan)))
 
 -- a pass of a number from 1 to the count has seen the mark that nothing more comes
 pub record SeesMark (count : ℕ) (q : ℕ → Part) : Type 0 where

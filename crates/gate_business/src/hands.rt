@@ -13,7 +13,10 @@ use std::sync::Wait;
 use std::thread;
 use std::thread::Threads;
 
-/// Has each hand do its part, all at once: each in a thread of its own where one can be made.
+/// The most threads in which the hands of a call do their parts.
+const THREADS: usize = 4;
+
+/// Has each hand do its part, at once in a few threads: no more than there are messages.
 fn run_each<J: Journal + Send, B: Business<J> + Send, R: Threads + Wait + Sync>(
     hands: &mut [B::Hand],
     payloads: &Payloads,
@@ -24,7 +27,7 @@ fn run_each<J: Journal + Send, B: Business<J> + Send, R: Threads + Wait + Sync>(
     requires most { length payloads.now ≤ 512 }
     ensures worked { WorkedEach (B.worked (lock_of gate.now) (senders_of gate.now) payloads.now) hands.old hands.new }
 {
-    let count = hands.len().max(1);
+    let count = payloads.len().min(THREADS).max(1);
     let work = |_: usize, hand: &mut B::Hand|
         requires { B.ready (lock_of gate.now) (senders_of gate.now) hand.old × (length payloads.now ≤ 512) }
         ensures { B.worked (lock_of gate.entry.now) (senders_of gate.entry.now) payloads.entry.now hand.old hand.new }

@@ -38,7 +38,7 @@ module _ (plan : ℕ → List (List ℕ)) (count : ℕ) (p q r t : ℕ → Part)
     unmarked = subst (λ (x : Part). x.seen.finished ≢ true) (behind n h) l.unmarked;
     unmade = λ m inside e. ap (λ (x : Part). x.ended) (sym (before m inside)) ∙ l.unmade m inside (ap (λ (x : Part). x.ended) (behind m inside) ∙ e);
     what = ⊎_elim
-        (λ m. inl (subst (λ (x : Part). made.LosesMessage (plan n) x) (behind n h) m))
+        (λ m. inl (subst (λ (x : Part). made.LosesMessages (plan n) x) (behind n h) m))
         (λ f. inr (ap (λ (x : Part). x.lost) (sym (behind n h)) ∙ f.0, f.1, all_same f.2))
         l.what;
   }

@@ -1,5 +1,5 @@
 -- The plans of a business over a life: those over what it answered are plans of senders, which do not look at what was applied.
-use Rattle.std.proofs.Common.{◌≡◌, ◌⊎◌, inl, inr, ⊎_elim, ℕ, zero, suc, ◌+◌, ◌<◌, ◌≤◌, Bool, true, false, true≢false, List, [], ◌∷◌, ◌++◌, map, length, take, drop, slice_get, slice_index_or, Some, refl, sym, ap, subst, ◌∙◌, arith, append-nil, append_assoc, length-append, drop-drop}
+use Rattle.std.proofs.Common.{◌≡◌, ◌⊎◌, inl, inr, ⊎_elim, ℕ, zero, suc, ◌+◌, ◌<◌, ◌≤◌, Bool, true, false, true≢false, List, [], ◌∷◌, ◌++◌, map, length, take, drop, slice_index_or, refl, sym, ap, subst, ◌∙◌, arith, append-nil, append_assoc, length-append, drop-drop}
 use Rattle.std.proofs.lemmas.Bool.{cases_lt}
 use Rattle.std.proofs.lemmas.List.{length-map, get_or_past}
 use mathlib.Core.List.{IsPrefix}
@@ -98,6 +98,11 @@ answering_goes_on plan count on s earlier later begun = ⊎_elim
     (λ (out : In count s → ⊥). (answering_plan plan count s later, ap (λ w. w ++ answering_plan plan count s later) (plan_else plan count earlier earlier s out)))
     (is_sender count s)
 
+-- the records of entries have no mark
+never_marks : (es : List Entry) → is_finished (entries_made es) ≡ false
+never_marks [] = refl
+never_marks (e ∷ es) = never_marks es
+
 -- ---- what the passes know
 
 module _ (opening now : Account) (plan : ℕ → List (List ℕ) → List (List ℕ)) (count : ℕ) (known : ℕ → Part) (messages : List (List ℕ)) (finished : Bool)
@@ -138,17 +143,6 @@ module _ (opening now : Account) (plan : ℕ → List (List ℕ) → List (List 
       (λ is. true≢false (sym (subst (λ k. (known k).ended ≡ true) is e) ∙ p.unmarked))
       (which m inside)
 
-  -- the next message of a plan, as the first of what is behind
-  one_behind : (ps : List (List ℕ)) (k : ℕ) (x : List ℕ) → slice_get ps k ≡ Some x → take 1 (drop k ps) ≡ x ∷ []
-  one_behind [] k x h = absurd (cc h)
-  one_behind (y ∷ ps) zero x h = ap (λ z. z ∷ []) (cc h)
-  one_behind (y ∷ ps) (suc k) x h = one_behind ps k x h
-
-  some_behind : (ps : List (List ℕ)) (k : ℕ) (x : List ℕ) → slice_get ps k ≡ Some x → 1 ≤ length (drop k ps)
-  some_behind [] k x h = absurd (cc h)
-  some_behind (y ∷ ps) zero x h = omega arith
-  some_behind (y ∷ ps) (suc k) x h = some_behind ps k x h
-
   loses_own : (n : ℕ) → In count n → business.Loses (λ k. plan k messages) count (made_part (count + 1) opening) known finished n → LosesOwn opening plans known n
   loses_own n h l = record {
     sender = record { from_one = h.from_one; up_to = omega (arith, h.up_to, many) };
@@ -160,13 +154,8 @@ module _ (opening now : Account) (plan : ℕ → List (List ℕ) → List (List 
         l.what;
   }
     where
-      next_messages : made.LosesMessage (plan n messages) (known n) → LosesMessages (plan_in plans n []) (known n)
-      next_messages m = subst (λ ps. LosesMessages ps (known n)) (sym (its n h)) (record {
-        count = 1;
-        within = some_behind (plan n messages) (length (known n).mine) m.payload m.next;
-        few = omega arith;
-        is = m.is ∙ ap (λ ps. entries_made (entries_after (known n) ps)) (sym (one_behind (plan n messages) (length (known n).mine) m.payload m.next));
-      })
+      next_messages : made.LosesMessages (plan n messages) (known n) → LosesMessages (plan_in plans n []) (known n)
+      next_messages m = subst (λ ps. LosesMessages ps (known n)) (sym (its n h)) (record { count = m.count; within = m.within; few = m.few; is = m.is })
 
   lost_by : (n : ℕ) → In (count + 1) n → ((known n).lost ≡ []) ⊎ (In count n × business.Loses (λ k. plan k messages) count (made_part (count + 1) opening) known finished n)
   lost_by n h = ⊎_elim
@@ -195,7 +184,7 @@ module _ (opening now : Account) (plan : ℕ → List (List ℕ) → List (List 
       (λ a. ⊎_elim
       (λ none. absurd (true≢false (sym late ∙ ap is_finished (sym a.2 ∙ none))))
       (λ l. ⊎_elim
-      (λ m. absurd (true≢false (sym late ∙ ap is_finished (sym a.2 ∙ m.is))))
+      (λ m. absurd (true≢false (sym late ∙ ap is_finished (sym a.2 ∙ m.is) ∙ never_marks (entries_after (known a.0) (take m.count (drop (length (known a.0).mine) (plan a.0 messages)))))))
       (λ f. f.1)
       l.1.what)
       (lost_by a.0 (inside a.0 a.1)))

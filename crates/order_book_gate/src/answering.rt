@@ -1,18 +1,16 @@
-//! How a book desk answers messages: it takes each as an order, and sends the book's reports on it.
-ghost use Rattle.std.specs.Prelude.{◌≡◌, ◌≢◌, ℕ, ◌≤◌, true, false, ◌↔◌, List, [], ◌∷◌, ◌++◌, Err, OnOk};
+//! How a book desk answers messages: it takes each as an order, and sends the book's reports on all of them.
+ghost use Rattle.std.specs.Prelude.{◌≡◌, ◌≢◌, ℕ, ◌≤◌, true, false, ◌↔◌, List, ◌++◌, Err, OnOk};
 ghost use Rattle.jr_boxes.specs.declared.faults.SubmitFault.{SubmitFault};
 ghost use Rattle.jr_boxes.specs.declared.faults.SubmitFault.TheVariants as submit;
 ghost use Rattle.gate_senders.specs.Gate.{senders_of};
 ghost use Rattle.gate_business.specs.Business.{lock_of, AllStay, Answered, ShownByOne, StandsOn};
 
 use crate::book_desk::BookDesk;
-use crate::writing::written;
+use crate::orders::take_orders;
 use gate_plans::OpenDoor;
 use gate_senders::Gate;
 use jr_boxes::SubmitFault;
 use jr_dated::Journal;
-use order_book::book_in_range;
-use order_desk::read_order;
 use sbe_value::{Bytes, Payloads};
 use std::sync::Wait;
 
@@ -34,23 +32,7 @@ impl<J: Journal> BookDesk<J> {
     ghost use Rattle.order_gate.specs.Desks.{known_of, IsReady};
     ghost use Rattle.order_book_gate.specs.Desk.{part_of, plan_of, HasPass, IsAble, SameBut, StandsBehind, Took};
 
-    /// Takes a message as an order, and sends the book's reports on it.
-    fn answer<R: Wait>(&mut self, payload: &[u8], gate: &Gate<J>, rt: &R) -> Result<(), SubmitFault>
-        requires able { IsAble (lock_of gate.now) (senders_of gate.now) self.old }
-        ensures took { Took (lock_of gate.now) (senders_of gate.now) (payload.now ∷ []) self.old self.new result }
-    {
-        book_in_range();
-        let order = read_order(&self.form.plan, payload);
-        let Ok(reports) = self.book.on_order(&order) else {
-            return Err(SubmitFault::Memory);
-        };
-        let Ok(list) = written(self.alloc, &self.form.plan, reports.as_slice()) else {
-            return Err(SubmitFault::Memory);
-        };
-        self.desk.send_all(gate, list.as_slice(), &OpenDoor, rt)
-    }
-
-    /// Takes messages as orders, one after another, and sends the book's reports on them. The first refusal stops it.
+    /// Takes messages as orders, one after another, and sends the book's reports on them, which are gathered first.
     fn answer_each<R: Wait>(
         &mut self,
         payloads: &[Bytes],
@@ -60,12 +42,12 @@ impl<J: Journal> BookDesk<J> {
         requires able { IsAble (lock_of gate.now) (senders_of gate.now) self.old }
         ensures took { Took (lock_of gate.now) (senders_of gate.now) payloads.now self.old self.new result }
     {
-        for payload in payloads {
-            if let Err(fault) = self.answer(payload.as_slice(), gate, rt) {
-                return Err(fault);
-            }
-        }
-        Ok(())
+        let taken = take_orders(self.alloc, &self.form.plan, &mut self.book, payloads);
+        let Ok(reports) = taken else {
+            return Err(SubmitFault::Memory);
+        };
+        self.desk
+            .send_all(gate, reports.as_slice(), &OpenDoor, rt)
     }
 
     /// Adds the Finish; where it stands already there is nothing to add.

@@ -4,6 +4,7 @@
 
 mod answering;
 mod book_desk;
+mod orders;
 mod passing;
 mod writing;
 

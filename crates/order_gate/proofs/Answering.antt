@@ -6,10 +6,10 @@ use Rattle.jr_boxes.specs.declared.faults.SubmitFault.{SubmitFault}
 use Rattle.jr_boxes.specs.declared.faults.SubmitFault.TheVariants as submit
 use Rattle.gate_turn.specs.Views.{Part}
 use Rattle.gate_turn.specs.Rule.{In}
-use Rattle.gate_plans.specs.Sent.{entries_behind, IsShown}
-use Rattle.gate_business.specs.Made.{MadeOf, IsAllMade, LosesMessage, SeesMark, MetFull}
+use Rattle.gate_plans.specs.Sent.{entries_behind, IsShown, HasLost}
+use Rattle.gate_business.specs.Made.{MadeOf, IsAllMade, LosesMessages, SeesMark, MetFull}
 use Rattle.gate_business.specs.Business.{StaysPass, AllMade, Loses, Grew, Whole, ShownByOne, StandsOn, LoseNothing, Answered}
-use Rattle.std.proofs.lemmas.List.{drop_all}
+use Rattle.std.proofs.lemmas.List.{drop_all, drop-drop}
 use Rattle.gate_business.proofs.Making.{made_of, length-entries}
 use Rattle.order_gate.specs.Reported.{RefusedAt, Reported, LosesFinish, Finishing}
 use Rattle.gate_turn.proofs.Failing.{failed_before}
@@ -91,11 +91,21 @@ module _ (plan : List (List ℕ)) (n : ℕ) (p m : Part) (answer : Result (Unit 
   pub next_is : (f : SubmitFault) → (r : RefusedAt p m s.reported.rest f) → slice_get plan (length m.mine) ≡ Some r.payload
   next_is f r = get_behind plan (length p.mine) (length m.mine) s.reported.sent r.more r.payload (s.reported.are ∙ ap (λ xs. s.reported.sent ++ xs) r.first) long
 
-  pub loses : answer ≡ Err submit.Fault → (m.broken ≡ true) × (m.seen.finished ≢ true) × LosesMessage plan m
+  -- what was not sent is what is behind it in the plan
+  rest_is : s.reported.rest ≡ drop (length m.mine) plan
+  rest_is =
+      sym (dropped s.reported.sent s.reported.rest) ∙ ap (λ xs. drop (length s.reported.sent) xs) (sym s.reported.are) ∙ drop-drop (length s.reported.sent) (length p.mine) plan
+      ∙ ap (λ k. drop k plan) (sym long)
+    where
+      dropped : (xs ys : List (List ℕ)) → drop (length xs) (xs ++ ys) ≡ ys
+      dropped [] ys = refl
+      dropped (x ∷ xs) ys = dropped xs ys
+
+  pub loses : answer ≡ Err submit.Fault → (m.broken ≡ true) × (m.seen.finished ≢ true) × LosesMessages plan m
   loses e =
       let r = s.reported.refused submit.Fault e (λ x. cc x) in
-      let l = r.lost refl in
-      (l.broken, l.unmarked, record { payload = r.payload; next = next_is submit.Fault r; is = l.lost })
+      let l = subst (λ xs. HasLost m xs) rest_is (r.lost refl) in
+      (l.broken, l.unmarked, record { count = l.count; within = l.within; few = l.few; is = l.lost })
 
 -- an answer is that of a failed call, or not
 pub is_fault : (r : Result (Unit {0}) SubmitFault) → (r ≡ Err submit.Fault) ⊎ (r ≡ Err submit.Fault → ⊥)

@@ -1,16 +1,25 @@
 -- What a pass sends, put together from parts.
-use Rattle.std.proofs.Common.{◌≡◌, ℕ, zero, suc, ◌+◌, ◌-◌, ◌<◌, ◌≤◌, List, [], ◌∷◌, ◌++◌, length, take, drop, slice_index_or, take-append-drop, Result, Ok, Err, refl, sym, ap, subst, ◌∙◌, arith, append-nil, append_assoc, length-append}
-use Rattle.std.proofs.lemmas.List.{drop_all, drop_more, take_more, length-take-le}
-use Rattle.session_model.specs.Journal.{Entry}
+use Rattle.std.proofs.Common.{◌≡◌, ◌≢◌, true, ℕ, zero, suc, ◌+◌, ◌-◌, ◌<◌, ◌≤◌, List, [], ◌∷◌, ◌++◌, length, take, drop, slice_get, take-append-drop, Option, Some, None, Result, Ok, Err, OnOk, refl, sym, ap, subst, ◌∙◌, arith, append-nil, append_assoc, length-append}
+use Rattle.std.specs.List.{AllByRecursion}
+use Rattle.std.proofs.lemmas.List.{drop_all}
+use Rattle.std.proofs.lemmas.Option.{same_Some, slice_get_within}
+use Rattle.session_model.specs.Journal.{Entry, BeginsHistory}
+use Rattle.session_model.proofs.Lists.{all_append}
+use Rattle.jr_kept.specs.Entries.{entries_made}
 use Rattle.jr_boxes.specs.declared.faults.SubmitFault.{SubmitFault}
 use Rattle.jr_boxes.specs.declared.faults.SubmitFault.TheVariants as submit
-use Rattle.gate_turn.specs.Views.{Part}
+use Rattle.gate_turn.specs.Views.{Part, HasFailed}
 use Rattle.gate_turn.proofs.Histories.{begins_self, begins_on}
 use Rattle.gate_turn.proofs.Failing.{failed_before}
-use Rattle.gate_senders.specs.Shown.{TakesTurn, Submitted, entry_after}
-use Rattle.gate_plans.specs.Sent.{entries_behind, GoesOn, IsShown}
-use Rattle.gate_business.proofs.Seeing.{sees_still, sees_last}
-use Rattle.order_gate.specs.Reported.{LosesNext, RefusedAt, Reported}
+use Rattle.gate_senders.specs.Kept.{next_entry, IsFullAt}
+use Rattle.gate_senders.specs.Shown.{TakesTurn, SubmittedAll, IsFullBehind, LosesAll, entries_after}
+use Rattle.gate_senders.specs.declared.submission.Submission.{Submission}
+use Rattle.gate_plans.specs.Sent.{entries_behind, GoesOn, IsShown, HasLost}
+use Rattle.gate_business.specs.Made.{IsAmong, SeesOwn}
+use Rattle.gate_business.proofs.Resuming.{take_on}
+use Rattle.gate_business.proofs.Seeing.{sees_still, among_on}
+use Rattle.order_gate.specs.Reported.{RefusedAt, Reported}
+use Rattle.order_gate.specs.Desks.{answer_of}
 
 pub drop_over : {A : Type 0} (n : ℕ) (xs ys : List A) → drop n (xs ++ ys) ≡ drop n xs ++ drop (n - length xs) ys
 drop_over n [] ys = let e : n ≡ n - 0 = omega arith in ap (λ k. drop k ys) e ∙ ap (λ zs. zs ++ drop (n - 0) ys) (sym (drop_all n [] (omega arith)))
@@ -90,32 +99,112 @@ reported_nothing p next = record {
   unlost = λ _. refl;
 }
 
-pub reported_one : (p q : Part) (payload : List ℕ) (n : ℕ) → TakesTurn p q → q.ended ≡ p.ended → Submitted p q payload n → q.lost ≡ p.lost → Reported p q (payload ∷ []) (Ok tt)
-reported_one p q payload n turn ended did lost = record {
-  pass = goes_turn p q turn ended;
-  own = sees_last p q did.before (entry_after p payload) turn.seen did.last did.mine;
-  sent = payload ∷ [];
-  rest = [];
-  are = refl;
-  mine = did.mine;
-  whole = refl;
-  refused = λ f e. absurd (cc e);
-  unlost = λ _. lost;
-}
+-- ---- a piece
 
-pub reported_refused : (p q : Part) (payload : List ℕ) (f : SubmitFault) → TakesTurn p q → q.ended ≡ p.ended → q.mine ≡ p.mine → IsShown p q payload f → (f ≡ submit.Fault → LosesNext q payload)
-    → ((f ≡ submit.Fault → ⊥) → q.lost ≡ p.lost) → Reported p q (payload ∷ []) (Err f)
-reported_refused p q payload f turn ended mine shown lost unlost = record {
-  pass = goes_turn p q turn ended;
-  own = sees_still p q turn.seen mine;
-  sent = [];
-  rest = payload ∷ [];
-  are = refl;
-  mine = mine ∙ sym (append-nil p.mine);
-  whole = tt;
-  refused = λ g e _. subst (λ x. RefusedAt p q (payload ∷ []) x) (cc e) (record { payload = payload; more = []; first = refl; shown = shown; lost = lost });
-  unlost = λ no. unlost (λ e. no (ap Err e));
-}
+-- what the gate answers of these payloads, of a pass that knew p and knows q
+pub record Said (p q : Part) (ps : List (List ℕ)) (r : Submission) : Type 0 where
+  pub turn : TakesTurn p q
+  pub ended : q.ended ≡ p.ended
+  pub within : r.count ≤ length ps
+  pub added : SubmittedAll p q (take r.count ps)
+  pub whole : r.refused ≡ None → r.count ≡ length ps
+  pub none : (f : SubmitFault) → r.refused ≡ Some f → ((entries bytes : ℕ) → f ≡ submit.Full entries bytes → ⊥) → r.count ≡ 0
+  pub closed : r.refused ≡ Some submit.Closed → q.seen.finished ≡ true
+  pub full : (entries bytes : ℕ) → r.refused ≡ Some (submit.Full entries bytes) → IsFullBehind q ps r.count entries bytes
+  pub fault : r.refused ≡ Some submit.Fault → HasFailed p.faults q.faults
+  pub broken : r.refused ≡ Some submit.Broken → HasFailed q.opening.faults q.faults
+  pub lost : r.refused ≡ Some submit.Fault → LosesAll q ps
+  pub unlost : (r.refused ≡ Some submit.Fault → ⊥) → q.lost ≡ p.lost
+  pub unended : r.refused ≡ Some submit.Fault → q.seen.finished ≢ true
+
+-- the entries at the end of a history are among it
+all_last : (before es : List Entry) → AllByRecursion (IsAmong (before ++ es)) es
+all_last before [] = tt
+all_last before (e ∷ es) = (
+  (length before, here before),
+  subst (λ (all : List Entry). AllByRecursion (IsAmong all) es) (append_assoc before (e ∷ []) es) (all_last (before ++ e ∷ []) es),
+)
+  where
+    here : (xs : List Entry) → slice_get (xs ++ e ∷ es) (length xs) ≡ Some e
+    here [] = refl
+    here (x ∷ xs) = here xs
+
+-- a pass that made the last entries of what it has seen
+sees_these : (p q : Part) (before es : List Entry) → BeginsHistory p.seen q.seen → q.seen.made ≡ before ++ es → q.mine ≡ p.mine ++ es → SeesOwn p → SeesOwn q
+sees_these p q before es seen last mine own =
+    subst (λ (all : List Entry). AllByRecursion (IsAmong q.seen.made) all) (sym mine)
+    (all_append (IsAmong q.seen.made) p.mine es (among_on p q p.mine seen own) (subst (λ (all : List Entry). AllByRecursion (IsAmong all) es) (sym last) (all_last before es)))
+
+-- what stands at a place, and behind it
+record StandsAt (n : ℕ) (xs : List (List ℕ)) : Type 0 where
+  it : List ℕ
+  more : List (List ℕ)
+  found : slice_get xs n ≡ Some it
+  behind : drop n xs ≡ it ∷ more
+
+stands_at : (n : ℕ) (xs : List (List ℕ)) → n < length xs → StandsAt n xs
+stands_at n [] few = absurd (omega (arith, few))
+stands_at zero (x ∷ xs) few = record { it = x; more = xs; found = refl; behind = refl }
+stands_at (suc n) (x ∷ xs) few = let r = stands_at n xs (omega (arith, few)) in record { it = r.it; more = r.more; found = r.found; behind = r.behind }
+
+module _ (p q : Part) (ps : List (List ℕ)) (r : Submission) (some : 0 < length ps) (few : length ps ≤ 64) (a : Said p q ps r) where
+  -- where one was refused, it is one of the piece
+  short : (f : SubmitFault) → r.refused ≡ Some f → r.count < length ps
+  short submit.Broken e = omega (arith, some, a.none submit.Broken e (λ n b x. cc x))
+  short submit.Closed e = omega (arith, some, a.none submit.Closed e (λ n b x. cc x))
+  short (submit.Full n b) e = let at = a.full n b e in slice_get_within ps r.count at.payload at.next
+  short submit.Memory e = omega (arith, some, a.none submit.Memory e (λ n b x. cc x))
+  short submit.Fault e = omega (arith, some, a.none submit.Fault e (λ n b x. cc x))
+
+  loses : r.refused ≡ Some submit.Fault → HasLost q (drop r.count ps)
+  loses e =
+      let l = a.lost e in
+      let within = l.within in
+      let none : 0 ≡ r.count = omega (arith, a.none submit.Fault e (λ n b x. cc x)) in
+      subst (λ k. HasLost q (drop k ps)) none
+      (record { count = l.count; within = within; few = omega (arith, within, few); lost = l.lost; broken = l.broken; unmarked = a.unended e })
+
+  refused_by : (f : SubmitFault) → r.refused ≡ Some f → RefusedAt p q (drop r.count ps) f
+  refused_by f e =
+      let at = stands_at r.count ps (short f e) in
+      record {
+        payload = at.it;
+        more = at.more;
+        first = at.behind;
+        shown = record {
+          closed = λ is. a.closed (e ∙ ap Some is);
+          full = λ n b is.
+              let full = a.full n b (e ∙ ap Some is) in
+              subst (λ payload. IsFullAt q.opening.limits q.seen (next_entry q.seen q.number payload) n b) (same_Some full.payload at.it (sym full.next ∙ at.found)) full.full;
+          failed = λ is. a.fault (e ∙ ap Some is);
+          broken = λ is. a.broken (e ∙ ap Some is);
+        };
+        lost = λ is. loses (e ∙ ap Some is);
+      }
+
+  reported_piece : Reported p q ps (answer_of r.refused)
+  reported_piece = record {
+    pass = goes_turn p q a.turn a.ended;
+    own = sees_these p q a.added.before (entries_after p (take r.count ps)) a.turn.seen a.added.last a.added.mine;
+    sent = take r.count ps;
+    rest = drop r.count ps;
+    are = sym (take-append-drop r.count ps);
+    mine = a.added.mine;
+    whole = all r.refused refl;
+    refused = λ f e ne. refused_by f (refusal_of r.refused f e);
+    unlost = λ no. a.unlost (λ e. no (ap answer_of e));
+  }
+    where
+      all : (o : Option SubmitFault) → o ≡ r.refused → OnOk (answer_of o) (drop r.count ps ≡ [])
+      all None e = let whole = a.whole (sym e) in drop_all r.count ps (omega (arith, whole))
+      all (Some f) e = tt
+
+      refusal_of : (o : Option SubmitFault) (f : SubmitFault) → answer_of o ≡ Err f → o ≡ Some f
+      refusal_of None f e = absurd (cc e)
+      refusal_of (Some g) f e = ap Some (cc e)
+
+  pub reported_at : (o : Option SubmitFault) → r.refused ≡ o → Reported p q ps (answer_of o)
+  reported_at o e = subst (λ x. Reported p q ps (answer_of x)) e reported_piece
 
 -- all of some, and then of more
 pub reported_on : (p r q : Part) (xs ys : List (List ℕ)) (result : Result (Unit {0}) SubmitFault) → Reported p r xs (Ok tt) → Reported r q ys result → Reported p q (xs ++ ys) result
@@ -153,6 +242,24 @@ reported_on p r q xs ys result a b = record {
       lost = x.lost;
     }
 
+-- what was lost of some is of more
+lost_more : (q : Part) (xs ys : List (List ℕ)) → HasLost q xs → HasLost q (xs ++ ys)
+lost_more q xs ys l =
+    let within = l.within in
+    record {
+      count = l.count;
+      within = omega (arith, within, length-append xs ys);
+      few = l.few;
+      lost = l.lost ∙ ap (λ ps. entries_made (entries_after q ps)) (front l.count xs within);
+      broken = l.broken;
+      unmarked = l.unmarked;
+    }
+  where
+    front : (n : ℕ) (zs : List (List ℕ)) → n ≤ length zs → take n zs ≡ take n (zs ++ ys)
+    front zero zs few = refl
+    front (suc n) [] few = absurd (omega (arith, few))
+    front (suc n) (z ∷ zs) few = ap (λ ws. z ∷ ws) (front n zs (omega (arith, few)))
+
 -- where one was refused, what is behind it was not sent either
 pub reported_more : (p q : Part) (xs ys : List (List ℕ)) (f : SubmitFault) → Reported p q xs (Err f) → Reported p q (xs ++ ys) (Err f)
 reported_more p q xs ys f a = record {
@@ -163,7 +270,7 @@ reported_more p q xs ys f a = record {
   are = ap (λ zs. zs ++ ys) a.are ∙ append_assoc a.sent a.rest ys;
   mine = a.mine;
   whole = tt;
-  refused = λ g e ne. let r = a.refused g e ne in record { payload = r.payload; more = r.more ++ ys; first = ap (λ zs. zs ++ ys) r.first; shown = r.shown; lost = r.lost };
+  refused = λ g e ne. let r = a.refused g e ne in record { payload = r.payload; more = r.more ++ ys; first = ap (λ zs. zs ++ ys) r.first; shown = r.shown; lost = λ is. lost_more q a.rest ys (r.lost is) };
   unlost = a.unlost;
 }
 
@@ -176,33 +283,20 @@ owed_on p r q owed left xs ys result a is b =
 pub owed_more : (p q : Part) (owed : ℕ) (xs ys : List (List ℕ)) (f : SubmitFault) → Reported p q (drop owed xs) (Err f) → Reported p q (drop owed (xs ++ ys)) (Err f)
 owed_more p q owed xs ys f a = subst (λ zs. Reported p q zs (Err f)) (sym (drop_over owed xs ys)) (reported_more p q (drop owed xs) (drop (owed - length xs) ys) f a)
 
--- what is owed of one more is counted
-pub owed_one : (p : Part) (owed : ℕ) (payload : List ℕ) → 0 < owed → Reported p p (drop owed (payload ∷ [])) (Ok tt)
-owed_one p owed payload some = subst (λ zs. Reported p p zs (Ok tt)) (sym (drop_all owed (payload ∷ []) (omega (arith, some)))) (reported_none p)
-
--- what is not owed is sent
-pub unowed : (p q : Part) (owed : ℕ) (next : List (List ℕ)) (result : Result (Unit {0}) SubmitFault) → owed ≤ 0 → Reported p q next result → Reported p q (drop owed next) result
-unowed p q owed next result none r = let e : 0 ≡ owed = omega (arith, none) in subst (λ k. Reported p q (drop k next) result) e r
-
 pub owed_none : (p : Part) (owed : ℕ) → Reported p p (drop owed []) (Ok tt)
 owed_none p owed = subst (λ zs. Reported p p zs (Ok tt)) (sym (drop_all owed [] (omega arith))) (reported_none p)
 
--- ---- the element at the place i of a list is answered, behind those before it
+-- all that comes next is owed
+pub owed_all : (p : Part) (owed : ℕ) (next : List (List ℕ)) → length next ≤ owed → Reported p p (drop owed next) (Ok tt)
+owed_all p owed next few = subst (λ zs. Reported p p zs (Ok tt)) (sym (drop_all owed next few)) (reported_none p)
 
-module _ (p r q : Part) (owed left : ℕ) (xs : List (List ℕ)) (i : ℕ) (x : List ℕ) (inside : i < length xs) (is : x ≡ slice_index_or xs i x) (before : Reported p r (drop owed (take i xs)) (Ok tt)) (counts : left ≡ owed - i) where
-  counts_taken : left ≡ owed - length (take i xs)
-  counts_taken = counts ∙ ap (λ k. owed - k) (sym (length-take-le i xs (omega (arith, inside))))
+-- ---- the first n of some were sent, and then the m behind them
 
-  taken : take (i + 1) xs ≡ take i xs ++ x ∷ []
-  taken = take_more xs i x inside ∙ ap (λ y. take i xs ++ y ∷ []) (sym is)
+module _ (p r q : Part) (xs : List (List ℕ)) (n m : ℕ) (before : Reported p r (take n xs) (Ok tt)) where
+  pub piece_sent : Reported r q (take m (drop n xs)) (Ok tt) → Reported p q (take (n + m) xs) (Ok tt)
+  piece_sent h = subst (λ ys. Reported p q ys (Ok tt)) (take_on n m xs) (reported_on p r q (take n xs) (take m (drop n xs)) (Ok tt) before h)
 
-  whole : xs ≡ take i xs ++ x ∷ drop (i + 1) xs
-  whole = sym (take-append-drop i xs) ∙ ap (λ ys. take i xs ++ ys) (drop_more xs i x inside ∙ ap (λ y. y ∷ drop (i + 1) xs) (sym is))
-
-  pub one_sent : Reported r q (drop left (x ∷ [])) (Ok tt) → Reported p q (drop owed (take (i + 1) xs)) (Ok tt)
-  one_sent h = subst (λ ys. Reported p q (drop owed ys) (Ok tt)) (sym taken) (owed_on p r q owed left (take i xs) (x ∷ []) (Ok tt) before counts_taken h)
-
-  pub one_refused : (f : SubmitFault) → Reported r q (drop left (x ∷ [])) (Err f) → Reported p q (drop owed xs) (Err f)
-  one_refused f h =
-      subst (λ ys. Reported p q (drop owed ys) (Err f)) (append_assoc (take i xs) (x ∷ []) (drop (i + 1) xs) ∙ sym whole)
-      (owed_more p q owed (take i xs ++ x ∷ []) (drop (i + 1) xs) f (owed_on p r q owed left (take i xs) (x ∷ []) (Err f) before counts_taken h))
+  pub piece_refused : (f : SubmitFault) → Reported r q (take m (drop n xs)) (Err f) → Reported p q xs (Err f)
+  piece_refused f h =
+      subst (λ ys. Reported p q ys (Err f)) (append_assoc (take n xs) (take m (drop n xs)) (drop m (drop n xs)) ∙ ap (λ ys. take n xs ++ ys) (take-append-drop m (drop n xs)) ∙ take-append-drop n xs)
+      (reported_more p q (take n xs ++ take m (drop n xs)) (drop m (drop n xs)) f (reported_on p r q (take n xs) (take m (drop n xs)) (Err f) before h))

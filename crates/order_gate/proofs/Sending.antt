@@ -1,8 +1,9 @@
 -- A desk that sends by its pass.
-use Rattle.std.proofs.Common.{◌≡◌, ℕ, ◌+◌, List, [], ◌∷◌, length, All, ℤ, to_z, of_z, w64, Some, Result, Ok, Err, OnOk, sym, ap, subst, ◌∙◌, arith, length-append}
+use Rattle.std.proofs.Common.{◌≡◌, ℕ, ◌+◌, ◌≤◌, List, [], ◌∷◌, length, take, flat_map, All, ℤ, to_z, of_z, w64, Some, Result, Ok, Err, OnOk, sym, ap, subst, ◌∙◌, arith, length-append}
 use Rattle.std.proofs.lemmas.Option.{same_Some}
 use Rattle.std.proofs.lemmas.Int.{ints, to_z-of_z}
-use Rattle.std.proofs.lemmas.List.Elements.{All-from_recursion}
+use Rattle.std.proofs.lemmas.List.{length-take-le}
+use Rattle.std.proofs.lemmas.List.Elements.{All-from_recursion, All-nil, All-append}
 use Rattle.sbe_layout.specs.declared.plan.Plan.{Plan}
 use Rattle.fixp_msgs.specs.Payload.{IsApplication}
 use Rattle.order_desk.specs.Schema.{IsOrderPlan, order_plan}
@@ -16,12 +17,13 @@ use Rattle.gate_turn.specs.Listed.{known_if}
 use Rattle.gate_turn.specs.Calls.{IsFree}
 use Rattle.gate_turn.specs.declared.pass.Pass.{Pass}
 use Rattle.gate_senders.specs.Gate.{IsPassAt, IsSenderAt}
-use Rattle.gate_senders.specs.Shown.{Submitted, entry_after}
+use Rattle.gate_senders.specs.Shown.{SubmittedAll, entries_after}
 use Rattle.gate_senders.specs.declared.gate.Gate.{Gate}
 use Rattle.gate_senders.specs.declared.kept.Kept.{Kept}
 use Rattle.order_gate.specs.declared.desk.Desk.{Desk}
 use Rattle.order_gate.specs.Reported.{IsPrice, Reported}
 use Rattle.order_gate.specs.Desks.{known_of, IsReady}
+use Rattle.order_gate.proofs.Parts.{length-entries}
 
 module _ {J : Type 0} {G : Ghosts J} (gate : Gate J G) (d : Desk J G) (p q : Pass (Kept J G)) (ready : IsReady gate d) (there : d.pass ≡ Some p) where
   -- the desk's pass is the one that is there
@@ -57,14 +59,22 @@ module _ {J : Type 0} {G : Ghosts J} (gate : Gate J G) (d : Desk J G) (p q : Pas
   pub reported_by : (next : List (List ℕ)) (result : Result (Unit {0}) SubmitFault) → Reported (known p) (known q) next result → Reported (known_of d) (known q) next result
   reported_by next result r = subst (λ k. Reported k (known q) next result) (sym (ap known_if there)) r
 
-pub one_longer : (p q : Part) (payload : List ℕ) (n : ℕ) → Submitted p q payload n → length q.mine ≡ length p.mine + 1
-one_longer p q payload n s = ap length s.mine ∙ length-append p.mine (entry_after p payload ∷ [])
+-- how many entries it has, once so many of a piece were added
+pub made_more : (p q : Part) (ps : List (List ℕ)) (count : ℕ) → count ≤ length ps → SubmittedAll p q (take count ps) → length q.mine ≡ length p.mine + count
+made_more p q ps count within did =
+    ap length did.mine ∙ length-append p.mine (entries_after p (take count ps))
+    ∙ ap (λ k. length p.mine + k) (length-entries p.number (length p.mine) (take count ps) ∙ length-take-le count ps within)
 
 -- what desks send may be submitted
-pub applications : AnswersAreApplication → (p : Plan) → IsOrderPlan p → (desk : ℕ) (reference : ℤ) (payload : List ℕ) (list : List (List ℕ)) → list ≡ answers p desk reference payload → All IsApplication list
-applications law p plan desk reference payload list e =
-    subst (λ l. All IsApplication l) (sym (e ∙ ap (λ q. answers q desk reference payload) plan.planned))
-    (All-from_recursion IsApplication (answers (order_plan plan.version) desk reference payload) (law plan.version desk reference payload))
+all_applications : (p : Plan) (desk : ℕ) (reference : ℤ) (payloads : List (List ℕ)) → ((payload : List ℕ) → All IsApplication (answers p desk reference payload)) → All IsApplication (flat_map (answers p desk reference) payloads)
+all_applications p desk reference [] each = All-nil IsApplication
+all_applications p desk reference (x ∷ xs) each =
+    All-append IsApplication (answers p desk reference x) (flat_map (answers p desk reference) xs) (each x) (all_applications p desk reference xs each)
+
+pub applications : AnswersAreApplication → (p : Plan) → IsOrderPlan p → (desk : ℕ) (reference : ℤ) (payloads : List (List ℕ)) → All IsApplication (flat_map (answers p desk reference) payloads)
+applications law p plan desk reference payloads = all_applications p desk reference payloads
+    (λ payload. subst (λ q. All IsApplication (answers q desk reference payload)) (sym plan.planned)
+    (All-from_recursion IsApplication (answers (order_plan plan.version) desk reference payload) (law plan.version desk reference payload)))
 
 -- a price that is passed is the price
 pub passed_price : (z : ℤ) → IsPrice z → to_z w64 (of_z w64 z) ≡ z

@@ -1,15 +1,12 @@
 -- A share of some messages, by its places.
-use Rattle.std.proofs.Common.{◌≡◌, ℕ, zero, suc, ◌+◌, ◌-◌, ◌<◌, ◌≤◌, ◌==◌, cond, Bool, true, false, List, [], ◌∷◌, ◌++◌, length, slice_get, slice_index_or, flat_map, option_to_list, Some, None, refl, sym, ap, subst, ◌∙◌, arith, append-nil, append_assoc, length-append, drop, ℤ, Result, Ok, Err, OnOk}
+use Rattle.std.proofs.Common.{◌≡◌, ℕ, zero, suc, ◌+◌, ◌-◌, ◌<◌, ◌≤◌, ◌==◌, cond, Bool, true, false, List, [], ◌∷◌, ◌++◌, length, slice_get, slice_index_or, flat_map, option_to_list, Some, None, refl, sym, ap, subst, ◌∙◌, arith, append-nil, append_assoc, length-append, ℤ, Result, Ok, Err}
+use Rattle.std.specs.Prelude.{IfOk}
 use Rattle.std.proofs.lemmas.Grind.{flat_map-append}
 use Rattle.std.proofs.lemmas.Option.{slice_get-get_or}
 use Rattle.sbe_layout.specs.declared.plan.Plan.{Plan}
 use Rattle.order_desk.specs.Plans.{answers, desk_at, share}
 use Rattle.order_gate.specs.Desks.{due}
-use Rattle.jr_boxes.specs.declared.faults.SubmitFault.{SubmitFault}
-use Rattle.gate_turn.specs.Views.{Part}
 use Rattle.order_gate.specs.Places.{places, at_places}
-use Rattle.order_gate.specs.Reported.{Reported}
-use Rattle.order_gate.proofs.Parts.{owed_on, owed_more}
 
 abbrev list_of_one : ℕ → List ℕ
 list_of_one i = i ∷ []
@@ -100,38 +97,11 @@ module _ (F : List ℕ → List (List ℕ)) (payloads : List (List ℕ)) where
   pub sent_one : (popped now : List ℕ) (place : ℕ) → now ≡ popped ++ place ∷ [] → sent_at now ≡ sent_at popped ++ flat_map F (option_to_list (slice_get payloads place))
   sent_one popped now place e = ap sent_at e ∙ sent_append popped (place ∷ []) ∙ ap (λ l. sent_at popped ++ flat_map F l) (append-nil (option_to_list (slice_get payloads place)))
 
-  module _ (p r q : Part) (owed left : ℕ) (popped now : List ℕ) (place : ℕ) (e : now ≡ popped ++ place ∷ []) (counts : left ≡ owed - length (sent_at popped)) where
-    pub next_sent : (result : Result (Unit {0}) SubmitFault) → Reported p r (drop owed (sent_at popped)) (Ok tt) → Reported r q (drop left (flat_map F (option_to_list (slice_get payloads place)))) result
-        → Reported p q (drop owed (sent_at now)) result
-    next_sent result a b =
-        subst (λ ys. Reported p q (drop owed ys) result) (sym (sent_one popped now place e))
-        (owed_on p r q owed left (sent_at popped) (flat_map F (option_to_list (slice_get payloads place))) result a counts b)
-
-    pub next_owed : (after : ℕ) → after ≡ left - length (flat_map F (option_to_list (slice_get payloads place))) → after ≡ owed - length (sent_at now)
-    next_owed after h =
-        let long : length (sent_at now) ≡ length (sent_at popped) + length (flat_map F (option_to_list (slice_get payloads place))) =
-        ap length (sent_one popped now place e) ∙ length-append (sent_at popped) (flat_map F (option_to_list (slice_get payloads place))) in
-        omega (arith, h, counts, long)
-
-  -- what was popped begins all places; at Ok it is all of them
-  pub line_sent : (p q : Part) (owed : ℕ) (all popped items : List ℕ) (result : Result (Unit {0}) SubmitFault) → all ≡ popped ++ items → OnOk result (length popped ≡ length all)
-      → Reported p q (drop owed (sent_at popped)) result → Reported p q (drop owed (sent_at all)) result
-  line_sent p q owed all popped items (Ok _) e long r = subst (λ l. Reported p q (drop owed (sent_at l)) (Ok tt)) (same_list all popped items e long) r
-  line_sent p q owed all popped items (Err f) e long r =
-      subst (λ ys. Reported p q (drop owed ys) (Err f)) (sym (ap sent_at e ∙ sent_append popped items)) (owed_more p q owed (sent_at popped) (sent_at items) f r)
-
-  pub line_owed : (owed left : ℕ) (all popped items : List ℕ) → all ≡ popped ++ items → length popped ≡ length all → left ≡ owed - length (sent_at popped) → left ≡ owed - length (sent_at all)
-  line_owed owed left all popped items e long h = h ∙ ap (λ l. owed - length (sent_at l)) (same_list all popped items e long)
-
-  pub line_owed_on : (owed left : ℕ) (all popped items : List ℕ) (result : Result (Unit {0}) SubmitFault) → all ≡ popped ++ items → OnOk result (length popped ≡ length all)
-      → OnOk result (left ≡ owed - length (sent_at popped)) → OnOk result (left ≡ owed - length (sent_at all))
-  line_owed_on owed left all popped items (Ok _) e long h = line_owed owed left all popped items e long h
-  line_owed_on owed left all popped items (Err f) e long h = tt
-
 pub due_of : (plan : Plan) (reference : ℤ) (d turn : ℕ) (payloads : List (List ℕ)) (s : ℕ) (all : List ℕ) → all ≡ places d s (turn + 1) 0 (length payloads)
     → flat_map (answers plan s reference) (at_places payloads all) ≡ due plan reference d turn payloads s
 due_of plan reference d turn payloads s all e = ap (λ l. flat_map (answers plan s reference) (at_places payloads l)) e ∙ ap (λ l. flat_map (answers plan s reference) l) (shared d s (turn + 1) payloads)
 
-pub on_same : (result : Result (Unit {0}) SubmitFault) (n a b : ℕ) → a ≡ b → OnOk result (n ≡ a) → OnOk result (n ≡ b)
-on_same (Ok _) n a b e h = h ∙ e
-on_same (Err f) n a b e h = tt
+-- of an answer that has one thing and another
+pub both_ok : {X E : Type 0} (r : Result X E) (P Q R : X → Type 0) → ((x : X) → P x → Q x → R x) → IfOk r P → IfOk r Q → IfOk r R
+both_ok (Ok x) P Q R f p q = f x p q
+both_ok (Err e) P Q R f p q = tt

@@ -2,10 +2,10 @@
 use Rattle.std.specs.Prelude.{◌≡◌, ◌≢◌, ◌⊎◌, ℕ, ◌-◌, ◌^◌, ℤ, pos, negsuc, ◌≤ℤ◌, ◌<ℤ◌, true, List, [], ◌∷◌, ◌++◌, length, Result, Err, OnOk}
 use Rattle.jr_boxes.specs.declared.faults.SubmitFault.{SubmitFault}
 use Rattle.jr_boxes.specs.declared.faults.SubmitFault.TheVariants as submit
-use Rattle.session_model.specs.Journal.{entry, finish}
+use Rattle.session_model.specs.Journal.{finish}
 use Rattle.gate_turn.specs.Views.{Part, HasFailed}
-use Rattle.gate_senders.specs.Shown.{TakesTurn, entry_after}
-use Rattle.gate_plans.specs.Sent.{entries_behind, GoesOn, IsShown}
+use Rattle.gate_senders.specs.Shown.{TakesTurn}
+use Rattle.gate_plans.specs.Sent.{entries_behind, GoesOn, IsShown, HasLost}
 use Rattle.gate_business.specs.Made.{SeesOwn}
 
 -- a number of 64 bits with a sign
@@ -13,22 +13,16 @@ pub record IsPrice (price : ℤ) : Type 0 where
   pub least : negsuc (2 ^ 63 - 1) ≤ℤ price
   pub most : price <ℤ pos (2 ^ 63)
 
--- the message was refused with a failed call, so a stop may leave its entry behind the history, which has no mark; and nothing is taken any more
-pub record LosesNext (q : Part) (payload : List ℕ) : Type 0 where
-  pub lost : q.lost ≡ entry (entry_after q payload) ∷ []
-  pub broken : q.broken ≡ true
-  pub unmarked : q.seen.finished ≢ true
-
--- the first of these was refused, as the pass shows
+-- the first of these was refused, as the pass shows; where a call failed, a stop may leave a beginning of the first of them, a piece at most
 pub record RefusedAt (p q : Part) (rest : List (List ℕ)) (f : SubmitFault) : Type 0 where
   pub payload : List ℕ
   pub more : List (List ℕ)
   pub first : rest ≡ payload ∷ more
   pub shown : IsShown p q payload f
-  pub lost : f ≡ submit.Fault → LosesNext q payload
+  pub lost : f ≡ submit.Fault → HasLost q rest
 
 -- the first of these were sent, in order, and the pass has seen them as it had its own; at Ok all of them, else the one behind was refused. Nothing
--- else was lost
+-- but of those behind was lost
 pub record Reported (p q : Part) (next : List (List ℕ)) (result : Result (Unit {0}) SubmitFault) : Type 0 where
   pub pass : GoesOn p q
   pub own : SeesOwn p → SeesOwn q

@@ -1,8 +1,7 @@
 //! One desk: it sends its reports by its own pass, behind those that the outbox has already.
-ghost use Rattle.std.specs.Prelude.{◌≡◌, ◌-◌, [], ◌∷◌, drop, length, All, OnOk, Ok};
+ghost use Rattle.std.specs.Prelude.{◌≡◌, ◌-◌, ◌<◌, ◌≤◌, [], drop, length, All, OnOk, Ok};
+ghost use Rattle.std.specs.List.{AllByRecursion};
 ghost use Rattle.fixp_msgs.specs.Payload.{IsApplication};
-ghost use Rattle.order_desk.specs.Schema.{IsOrderPlan};
-ghost use Rattle.order_desk.specs.Plans.{answers};
 ghost use Rattle.order_gate.specs.Reported.{Reported, Finishing};
 
 use gate_plans::Door;
@@ -10,11 +9,11 @@ use gate_senders::{Gate, Kept};
 use gate_turn::Pass;
 use jr_boxes::{CloseFault, SubmitFault};
 use jr_dated::Journal;
-use order_desk::answers_are_application;
-use sbe_layout::Plan;
 use sbe_value::Bytes;
-use std::alloc::Global;
 use std::sync::Wait;
+
+/// The most reports that a desk sends in one piece.
+const PIECE: usize = 64;
 
 /// A desk.
 #[derive(Drop)]
@@ -35,46 +34,91 @@ impl<J: Journal> Desk<J> {
     ghost use Rattle.gate_business.specs.Business.{lock_of};
     ghost use Rattle.order_gate.specs.Desks.{known_of, IsSeated, IsManned, IsReady};
 
-    /// Sends the report that comes next, or counts it where the outbox has it already.
+    /// How many of so many reports that come next go in one piece: those that the door lets in. It waits at the door for the first of them alone.
+    fn next_piece<G: Door, R: Wait>(&self, most: usize, door: &G, rt: &R) -> usize
+        requires some { 0 < most }
+        ensures some { 0 < result }
+        ensures within { result ≤ most }
+    {
+        // A desk has no answer for being turned away, so its door only makes it wait.
+        let _ = door.before(self.number, self.made.saturating_add(1), rt);
+        for count in 1..most {
+            let next = self.made.saturating_add(count as u64 + 1);
+            if !door.with_it(self.number, next, rt) {
+                return count;
+            }
+        }
+        most
+    }
+
+    /// Sends reports in one piece, under one commit: all of them, or those before the first for which there is no room.
     ///
     /// # Errors
-    /// Those of `submit`; `Memory` also where no number is left to count its entries by.
-    fn send<G: Door, R: Wait>(
+    /// Those of `submit_all`; `Memory` also where no numbers are left to count its entries by.
+    fn send_piece<R: Wait>(
         &mut self,
         gate: &Gate<J>,
-        payload: &[u8],
-        door: &G,
+        reports: &[Bytes],
         rt: &R,
     ) -> Result<(), SubmitFault>
         requires ready { IsReady gate.now self.old }
-        requires payload { IsApplication payload.now }
+        requires some { 0 < length reports.now }
+        requires few { length reports.now ≤ 64 }
+        requires applications { AllByRecursion IsApplication reports.now }
         ensures ready { IsReady gate.now self.new }
         ensures number { self.new.number ≡ self.old.number }
-        ensures reported { Reported (known_of self.old) (known_of self.new) (drop self.old.owed (payload.now ∷ [])) result }
-        ensures owed { OnOk result (self.new.owed ≡ self.old.owed - 1) }
+        ensures owed { self.new.owed ≡ self.old.owed }
+        ensures reported { Reported (known_of self.old) (known_of self.new) reports.now result }
     {
-        if self.owed > 0 {
-            self.owed -= 1;
-            return Ok(());
-        }
-        let Some(made) = self.made.checked_add(1) else {
+        let Some(_) = self.made.checked_add(reports.len() as u64) else {
             return Err(SubmitFault::Memory);
         };
         let Some(pass) = &mut self.pass else {
             unreachable!()
         };
-        // A desk has no answer for being turned away, so its door only makes it wait.
-        let _ = door.before(self.number, made, rt);
-        match gate.submit(pass, payload, rt) {
-            Ok(_) => {
-                self.made = made;
-                Ok(())
-            }
-            Err(fault) => Err(fault),
+        let submission = gate.submit_all(pass, reports, rt);
+        self.made += submission.count;
+        match submission.refused {
+            None => Ok(()),
+            Some(fault) => Err(fault),
         }
     }
 
-    /// Sends the reports that come next.
+    /// Sends the reports that come next, piece by piece. None of them is owed.
+    ///
+    /// # Errors
+    /// Those of `send_piece`.
+    fn send_rest<G: Door, R: Wait>(
+        &mut self,
+        gate: &Gate<J>,
+        reports: &[Bytes],
+        door: &G,
+        rt: &R,
+    ) -> Result<(), SubmitFault>
+        requires ready { IsReady gate.now self.old }
+        requires applications { All IsApplication reports.now }
+        ensures ready { IsReady gate.now self.new }
+        ensures number { self.new.number ≡ self.old.number }
+        ensures owed { self.new.owed ≡ self.old.owed }
+        ensures reported { Reported (known_of self.old) (known_of self.new) reports.now result }
+    {
+        let mut sent = 0;
+        'pieces: while sent < reports.len() {
+            let (_, rest) = reports.split_at(sent);
+            let count = self.next_piece(rest.len().min(PIECE), door, rt);
+            let (piece, _) = rest.split_at(count);
+            if let Err(fault) = self.send_piece(gate, piece, rt) {
+                return Err(fault);
+            }
+            sent += count;
+        }
+        Ok(())
+    }
+
+    /// Sends the reports that come next, piece by piece, at most 64 in each: those that it owes are counted, since the outbox has them already.
+    ///
+    /// # Errors
+    /// Those of `submit_all`; `Memory` also where no numbers are left to count its entries by.
     pub fn send_all<G: Door, R: Wait>(
         &mut self,
         gate: &Gate<J>,
@@ -89,40 +133,14 @@ impl<J: Journal> Desk<J> {
         ensures reported { Reported (known_of self.old) (known_of self.new) (drop self.old.owed reports.now) result }
         ensures owed { OnOk result (self.new.owed ≡ self.old.owed - length reports.now) }
     {
-        for report in reports {
-            if let Err(fault) = self.send(gate, report.as_slice(), door, rt) {
-                return Err(fault);
-            }
+        let count = reports.len() as u64;
+        if self.owed >= count {
+            self.owed -= count;
+            return Ok(());
         }
-        Ok(())
-    }
-
-    /// Answers a message.
-    ///
-    /// # Errors
-    /// Those of `submit`.
-    pub(crate) fn answer<G: Door, R: Wait>(
-        &mut self,
-        alloc: Global,
-        gate: &Gate<J>,
-        plan: &Plan,
-        reference: i64,
-        payload: &[u8],
-        door: &G,
-        rt: &R,
-    ) -> Result<(), SubmitFault>
-        requires plan { IsOrderPlan plan.now }
-        requires ready { IsReady gate.now self.old }
-        ensures ready { IsReady gate.now self.new }
-        ensures number { self.new.number ≡ self.old.number }
-        ensures reported { Reported (known_of self.old) (known_of self.new) (drop self.old.owed (answers plan.now self.old.number reference payload.now)) result }
-        ensures owed { OnOk result (self.new.owed ≡ self.old.owed - length (answers plan.now self.old.number reference payload.now)) }
-    {
-        answers_are_application();
-        let Ok(reports) = order_desk::answers(alloc, plan, self.number, reference, payload) else {
-            return Err(SubmitFault::Memory);
-        };
-        self.send_all(gate, reports.as_slice(), door, rt)
+        let (_, rest) = reports.split_at(self.owed as usize);
+        self.owed = 0;
+        self.send_rest(gate, rest, door, rt)
     }
 
     /// Adds the Finish; where it stands already there is nothing to add.

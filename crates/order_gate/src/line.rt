@@ -9,9 +9,6 @@ use std::collections::LinkedList;
 use std::sync::Wait;
 use std::thread;
 
-/// How many places a line takes: as many as a call has messages, so that who deals them out never waits.
-pub(crate) const CAPACITY: usize = 512;
-
 /// What a pass of a line may do, and what it has pushed and popped. No value of it is made.
 pub(crate) struct Log {
     pub(crate) pushes: bool,
