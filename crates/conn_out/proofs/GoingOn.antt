@@ -1,8 +1,8 @@
 -- A file of lines that is gone on with behind the last message of which it tells.
-use Rattle.std.proofs.Common.{◌≡◌, ◌⊎◌, inl, inr, ⊎_elim, ℕ, zero, suc, ◌+◌, ◌-◌, ◌<◌, ◌≤◌, ◌^◌, List, [], ◌∷◌, ◌++◌, length, take, drop, slice_get, slice_index_or, refl, sym, ap, subst, ◌∙◌, append_assoc, codes, decimal, arith}
-use Rattle.std.specs.Prelude.{All, Option, Some, None, MatchOption}
+use Rattle.std.proofs.Common.{◌≡◌, ◌⊎◌, inl, inr, ⊎_elim, ℕ, zero, suc, ◌+◌, ◌-◌, ◌<◌, ◌≤◌, ◌^◌, List, [], ◌∷◌, ◌++◌, length, take, drop, slice_get, slice_index_or, refl, sym, ap, subst, ◌∙◌, append-nil, append_assoc, codes, decimal, arith}
+use Rattle.std.specs.Prelude.{All, Option, Some, None, MatchOption, IsSomeAnd, Result, Ok, Err, OnErr}
 use Rattle.std.specs.Io.KnownBytes.{Appends}
-use Rattle.std.specs.Option.{ForSome}
+use Rattle.gw_outside.specs.Faults.{TakesFront}
 use Rattle.std.proofs.lemmas.List.{append_cancel_left, append_cancel_right}
 use Rattle.std.proofs.lemmas.List.Elements.{All-nil, All-cons, All-head, All-tail}
 use Rattle.hex.specs.Hex.{encode_lower}
@@ -10,15 +10,16 @@ use Rattle.text_words.proofs.Decimals.{no_end, same_halves, one_number}
 use Rattle.session_model.specs.Inbox.{Numbered}
 use Rattle.jr_dated.specs.Dated.{Dated}
 use Rattle.gw_lines.specs.Lines.{with_feeds}
-use Rattle.gw_lines.proofs.Steps.{more_behind}
+use Rattle.gw_lines.proofs.Steps.{more_behind, none_feedless}
 use Rattle.conn_lines.specs.Lines.{deliver_line}
 use Rattle.conn_tail.specs.Tails.{IsDeliver, TellsNothing, IsLastDeliver, HasTail}
-use Rattle.conn_out.specs.Telling.{number_of}
+use Rattle.conn_out.specs.declared.fault.OutFault.{OutFault}
 use Rattle.conn_out.specs.Messages.{messages_of, messages_in, deliver_lines, EndsUpTo, IsPlaceBehind}
-use Rattle.conn_out.specs.Projections.{IsOf, TellOf, Tells, Projects}
-use Rattle.conn_out.specs.Laws.{IsMessage, AreMessages, AreRising}
+use Rattle.conn_out.specs.Projections.{IsOf, TellOf, Tells, Projects, ProjectsOn, IsLastTold, number_of}
+use Rattle.conn_out.specs.Laws.{IsMessage, AreMessages, AreRising, FrontTells, LastIsTold, last_number}
 use Rattle.conn_out.proofs.Splits.{one_split}
-use Rattle.conn_out.proofs.Lines.{lines_tell_on}
+use Rattle.conn_out.proofs.Fronts.{fronts_project}
+use Rattle.conn_out.proofs.Lines.{lines_tell_on, lines_project, tells_on}
 
 -- ---- one number of a line
 
@@ -175,11 +176,24 @@ are_back ms zero are = are
 are_back [] (suc k) are = are
 are_back (m ∷ ms) (suc k) are = are_back ms k (All-tail IsMessage m ms are)
 
-module _ (content : List ℕ) (whole : ℕ) (last : Option ℕ) (t : HasTail content whole last) (h : List Dated) (k at : ℕ) (rising : AreRising 1 (messages_in h)) (are : AreMessages (messages_in h))
-    (p : Projects content (take k (messages_in h))) (place : IsPlaceBehind h at (number_of last)) where
-  abbrev ms : List Numbered
-  ms = messages_in h
+take_on : (ms : List Numbered) (k n : ℕ) → take k ms ++ take n (drop k ms) ≡ take (k + n) ms
+take_on ms zero n = let e : 0 + n ≡ n = omega arith in ap (λ (i : ℕ). take i ms) (sym e)
+take_on [] (suc k) zero = refl
+take_on [] (suc k) (suc n) = refl
+take_on (m ∷ ms) (suc k) n = let e : suc k + n ≡ suc (k + n) = omega arith in ap (λ (xs : List Numbered). m ∷ xs) (take_on ms k n) ∙ ap (λ (i : ℕ). take i (m ∷ ms)) (sym e)
 
+pub any_err : {T : Type 0} (r : Result T OutFault) {B : Type 0} → B → OnErr r B
+any_err (Ok x) b = tt
+any_err (Err fault) b = b
+
+-- where it holds what it held
+pub kept_on : (old new : Option (List ℕ)) (content : List ℕ) (k : ℕ) (ms : List Numbered) → old ≡ Some content → new ≡ old → Projects content (take k ms)
+    → IsSomeAnd new (λ text. ProjectsOn text k ms)
+kept_on old new content k ms is same p =
+    subst (λ (o : Option (List ℕ)). IsSomeAnd o (λ text. ProjectsOn text k ms)) (sym (same ∙ is)) (record { count = k; more = omega arith; projects = p })
+
+-- a content that projects messages, and its end
+module _ (content : List ℕ) (whole : ℕ) (last : Option ℕ) (t : HasTail content whole last) (ms : List Numbered) (p : Projects content ms) where
   split : with_feeds t.tells.lines t.rest ≡ with_feeds p.tells.lines p.rest
   split =
       sym (t.bytes ∙ ap (λ (bs : List ℕ). bs ++ t.rest) t.tells.bytes ∙ more_behind t.tells.lines [] t.rest)
@@ -188,22 +202,67 @@ module _ (content : List ℕ) (whole : ℕ) (last : Option ℕ) (t : HasTail con
   lines_are : t.tells.lines ≡ p.tells.lines
   lines_are = (one_split t.tells.lines p.tells.lines t.rest p.rest t.tells.each p.tells.each t.feedless p.feedless split).lines_are
 
-  told : TellOf t.tells.lines (take k ms)
-  told = subst (λ (ls : List (List ℕ)). TellOf ls (take k ms)) (sym lines_are) p.tells.told
+  told : TellOf t.tells.lines ms
+  told = subst (λ (ls : List (List ℕ)). TellOf ls ms) (sym lines_are) p.tells.told
+
+  -- its whole lines tell of all of them
+  text_tells : Tells t.text ms
+  text_tells = record { lines = t.tells.lines; each = t.tells.each; bytes = t.tells.bytes; told = told }
+
+  front_is : take whole content ≡ t.text
+  front_is = ap (λ (n : ℕ). take n content) t.size ∙ ap (take (length t.text)) t.bytes ∙ taken t.text t.rest
+    where
+      taken : (xs ys : List ℕ) → take (length xs) (xs ++ ys) ≡ xs
+      taken [] ys = refl
+      taken (x ∷ xs) ys = ap (λ (zs : List ℕ). x ∷ zs) (taken xs ys)
+
+  -- the last of which it tells is their last
+  none_or_last : (are : AreMessages ms) → MatchOption last (ms ≡ []) (EndsWith ms)
+  none_or_last are = by_last last t.tells.told
+    where
+      by_last : (o : Option ℕ) → MatchOption o (All TellsNothing t.tells.lines) (IsLastDeliver t.tells.lines) → MatchOption o (ms ≡ []) (EndsWith ms)
+      by_last None none = none_told t.tells.lines ms none are told
+      by_last (Some number) l = last_told l.before l.line l.behind ms number l.tells l.none are (subst (λ (ls : List (List ℕ)). TellOf ls ms) l.split told)
+
+last_behind : (before : List Numbered) (m : Numbered) → last_number (before ++ m ∷ []) ≡ m.number
+last_behind [] m = refl
+last_behind (b ∷ []) m = refl
+last_behind (b ∷ c ∷ before) m = last_behind (c ∷ before) m
+
+pub last_is_told : LastIsTold
+last_is_told content ms number are p l = l.is ∙ by_last l.last (none_or_last content l.whole l.last l.tail ms p are)
+  where
+    by_last : (o : Option ℕ) → MatchOption o (ms ≡ []) (EndsWith ms) → number_of o ≡ last_number ms
+    by_last None none = sym (ap last_number none)
+    by_last (Some n) e = sym (ap last_number e.are ∙ last_behind e.before e.last ∙ e.is)
+
+-- the first of the messages of an inbox, and an end that was cut off
+module _ (content : List ℕ) (whole : ℕ) (last : Option ℕ) (t : HasTail content whole last) (k : ℕ) (ms : List Numbered) (p : Projects content (take k ms)) where
+  pub cut_on : (old new : Option (List ℕ)) → old ≡ Some (take whole content) → new ≡ old → IsSomeAnd new (λ text. ProjectsOn text k ms)
+  cut_on old new is same = kept_on old new (take whole content) k ms is same (record {
+    text = t.text;
+    rest = [];
+    bytes = front_is content whole last t (take k ms) p ∙ sym (append-nil t.text);
+    feedless = none_feedless;
+    tells = text_tells content whole last t (take k ms) p;
+  })
+
+module _ (content : List ℕ) (whole : ℕ) (last : Option ℕ) (t : HasTail content whole last) (h : List Dated) (k at : ℕ) (rising : AreRising 1 (messages_in h)) (are : AreMessages (messages_in h))
+    (p : Projects content (take k (messages_in h))) (place : IsPlaceBehind h at (number_of last)) where
+  abbrev ms : List Numbered
+  ms = messages_in h
 
   -- what the file tells of are the messages up to the last one
   front_parts : UpTo (number_of last) (take k ms) × Past (number_of last) (drop k ms)
-  front_parts = by_last last t.tells.told
+  front_parts = by_last last (none_or_last content whole last t (take k ms) p (are_front ms k are))
     where
-      by_last : (o : Option ℕ) → MatchOption o (All TellsNothing t.tells.lines) (IsLastDeliver t.tells.lines) → UpTo (number_of o) (take k ms) × Past (number_of o) (drop k ms)
-      by_last None none =
-          let empty : take k ms ≡ [] = none_told t.tells.lines (take k ms) none (are_front ms k are) told in
+      by_last : (o : Option ℕ) → MatchOption o (take k ms ≡ []) (EndsWith (take k ms)) → UpTo (number_of o) (take k ms) × Past (number_of o) (drop k ms)
+      by_last None empty =
           let all : drop k ms ≡ ms = ap (λ (xs : List Numbered). xs ++ drop k ms) (sym empty) ∙ parted ms k in (
             subst (UpTo 0) (sym empty) (All-nil (λ (m : Numbered). m.number ≤ 0)),
             subst (Past 0) (sym all) (rising_from 1 0 ms (omega arith) rising),
           )
-      by_last (Some number) l =
-          let e : EndsWith (take k ms) number = last_told l.before l.line l.behind (take k ms) number l.tells l.none (are_front ms k are) (subst (λ (ls : List (List ℕ)). TellOf ls (take k ms)) l.split told) in
+      by_last (Some number) e =
           let all : ms ≡ e.before ++ e.last ∷ drop k ms = sym (parted ms k) ∙ ap (λ (xs : List Numbered). xs ++ drop k ms) e.are ∙ assoc e.before (e.last ∷ []) (drop k ms) in
           let r : AreRising 1 (e.before ++ e.last ∷ drop k ms) = subst (AreRising 1) all rising in (
             subst (λ (n : ℕ). UpTo n (take k ms)) e.is (subst (UpTo e.last.number) (sym e.are) (up_to_last 1 e.before e.last (drop k ms) r)),
@@ -214,20 +273,38 @@ module _ (content : List ℕ) (whole : ℕ) (last : Option ℕ) (t : HasTail con
   rest_is = one_part (number_of last) (take k ms) (drop k ms) (messages_in (take at h)) (messages_in (drop at h)) (parted ms k ∙ halves h at) front_parts.0 front_parts.1
       (before_place h at (number_of last) rising place) place.none
 
-  pub told_on : (new : Option (List ℕ)) → Appends (Some (take whole content)) new (deliver_lines (messages_in (drop at h))) → ForSome new (λ text. Tells text ms)
-  told_on None a = absurd a
-  told_on (Some text) a = λ is e.
-      let same : text ≡ is = cc e in
-      subst (λ (xs : List ℕ). Tells xs ms) same
-      (subst (λ (xs : List ℕ). Tells xs ms) (sym grown) (subst (Tells (t.text ++ deliver_lines (drop k ms))) (parted ms k)
-      (lines_tell_on t.text (take k ms) (drop k ms) (record { lines = t.tells.lines; each = t.tells.each; bytes = t.tells.bytes; told = told }) (are_back ms k are))))
-    where
-      front_is : take whole content ≡ t.text
-      front_is = ap (λ (n : ℕ). take n content) t.size ∙ ap (take (length t.text)) t.bytes ∙ taken t.text t.rest
-        where
-          taken : (xs ys : List ℕ) → take (length xs) (xs ++ ys) ≡ xs
-          taken [] ys = refl
-          taken (x ∷ xs) ys = ap (λ (zs : List ℕ). x ∷ zs) (taken xs ys)
+  text_is : take whole content ≡ t.text
+  text_is = front_is content whole last t (take k ms) p
 
+  tells : Tells t.text (take k ms)
+  tells = text_tells content whole last t (take k ms) p
+
+  pub told_on : (new : Option (List ℕ)) → Appends (Some (take whole content)) new (deliver_lines (messages_in (drop at h))) → IsSomeAnd new (λ text. Tells text ms)
+  told_on None a = absurd a
+  told_on (Some text) a = subst (λ (xs : List ℕ). Tells xs ms) (sym grown) (subst (Tells (t.text ++ deliver_lines (drop k ms))) (parted ms k)
+      (lines_tell_on t.text (take k ms) (drop k ms) tells (are_back ms k are)))
+    where
       grown : text ≡ t.text ++ deliver_lines (drop k ms)
-      grown = a ∙ ap (λ (bs : List ℕ). bs ++ deliver_lines (messages_in (drop at h))) front_is ∙ ap (λ (ns : List Numbered). t.text ++ deliver_lines ns) (sym rest_is)
+      grown = a ∙ ap (λ (bs : List ℕ). bs ++ deliver_lines (messages_in (drop at h))) text_is ∙ ap (λ (ns : List Numbered). t.text ++ deliver_lines ns) (sym rest_is)
+
+  -- and where a front of those lines was pushed
+  pub begun_on : (new : Option (List ℕ)) → TakesFront (Some (take whole content)) new (deliver_lines (messages_in (drop at h))) → IsSomeAnd new (λ text. ProjectsOn text k ms)
+  begun_on None f = absurd f.appended
+  begun_on (Some text) f = record {
+    count = k + c.count;
+    more = omega arith;
+    projects = record {
+      text = t.text ++ c.projects.text;
+      rest = c.projects.rest;
+      bytes = grown ∙ ap (λ (bs : List ℕ). t.text ++ bs) c.projects.bytes ∙ sym (append_assoc t.text c.projects.text c.projects.rest);
+      feedless = c.projects.feedless;
+      tells = subst (Tells (t.text ++ c.projects.text)) (take_on ms k c.count) (tells_on t.text c.projects.text (take k ms) (take c.count (drop k ms)) tells c.projects.tells);
+    };
+  }
+    where
+      c : FrontTells (take f.count (deliver_lines (drop k ms))) (drop k ms)
+      c = fronts_project (deliver_lines (drop k ms)) (drop k ms) f.count (lines_project (drop k ms) (are_back ms k are))
+
+      grown : text ≡ t.text ++ take f.count (deliver_lines (drop k ms))
+      grown = f.appended ∙ ap (λ (bs : List ℕ). bs ++ take f.count (deliver_lines (messages_in (drop at h)))) text_is
+          ∙ ap (λ (ns : List Numbered). t.text ++ take f.count (deliver_lines ns)) (sym rest_is)

@@ -11,7 +11,7 @@ use Rattle.gw_lines.proofs.Steps.{more_behind, none_feedless, feedless_append}
 use Rattle.conn_lines.specs.Lines.{deliver_line}
 use Rattle.conn_tail.specs.Tails.{TellsNothing}
 use Rattle.conn_out.specs.Messages.{deliver_lines}
-use Rattle.conn_out.specs.Projections.{IsOf, TellOf, Tells}
+use Rattle.conn_out.specs.Projections.{IsOf, TellOf, Tells, Projects}
 use Rattle.conn_out.specs.Laws.{IsMessage, LinesTellOn}
 use Rattle.conn_out.proofs.Fronts.{nothing_more}
 
@@ -103,3 +103,19 @@ lines_tell_on text ms more t all = record {
   bytes = ap (λ (bs : List ℕ). bs ++ deliver_lines more) t.bytes ∙ ap (λ (bs : List ℕ). with_feeds t.lines [] ++ bs) (all_lines more) ∙ joined t.lines (lines_of more);
   told = told_on t.lines (lines_of more) ms more t.told (all_told more);
 }
+
+-- two texts that tell of messages tell of all of them
+pub tells_on : (text more : List ℕ) (ms ns : List Numbered) → Tells text ms → Tells more ns → Tells (text ++ more) (ms ++ ns)
+tells_on text more ms ns t u = record {
+  lines = t.lines ++ u.lines;
+  each = All-append IsFeedless t.lines u.lines t.each u.each;
+  bytes = ap (λ (bs : List ℕ). bs ++ more) t.bytes ∙ ap (λ (bs : List ℕ). with_feeds t.lines [] ++ bs) u.bytes ∙ joined t.lines u.lines;
+  told = told_on t.lines u.lines ms ns t.told u.told;
+}
+
+no_line : Tells [] []
+no_line = record { lines = []; each = All-nil IsFeedless; bytes = refl; told = tt }
+
+-- the lines of messages, and no more, project them
+pub lines_project : (ms : List Numbered) → All IsMessage ms → Projects (deliver_lines ms) ms
+lines_project ms all = record { text = deliver_lines ms; rest = []; bytes = sym (append-nil (deliver_lines ms)); feedless = none_feedless; tells = lines_tell_on [] [] ms no_line all }

@@ -9,6 +9,7 @@ use native.Mathlib.Nat.{ℕ_set}
 use Rattle.session_model.specs.Inbox.{Numbered}
 use Rattle.jr_record.specs.declared.record.Record.{Record}
 use Rattle.jr_dated.specs.Dated.{Dated, undated}
+use Rattle.jr_dated.specs.Journals.{Unchanged}
 use Rattle.conn_out.specs.Messages.{messages_of, messages_in, TellsUpTo, EndsUpTo, IsPlaceBehind}
 
 record_set : IsSet Record
@@ -70,3 +71,15 @@ pub place_at : (h : List Dated) (at n last : ℕ) (r : Record) → at - 1 ≡ n 
 place_at h at n last r e is tells none =
     let s = standing h n r is in
     record { none = none; before = inr (record { record_before = s.this; there = ap (slice_get h) e ∙ s.there; tells = subst (λ (x : Record). TellsUpTo x last) (sym s.what) tells }) }
+
+-- ---- a journal that is only read
+
+pub same_still : {J : Type 0} (stands : J → List Dated → Type 0) (leaves : J → Option (List Dated) → Type 0) (j : J) → Unchanged stands leaves j j
+same_still stands leaves j = record { records = λ h. (λ s. s, λ s. s); images = λ image. (λ l. l, λ l. l) }
+
+pub same_on : {J : Type 0} (stands : J → List Dated → Type 0) (leaves : J → Option (List Dated) → Type 0) (i j k : J) → Unchanged stands leaves i j → Unchanged stands leaves j k
+    → Unchanged stands leaves i k
+same_on stands leaves i j k a b = record {
+  records = λ h. (λ s. (b.records h).0 ((a.records h).0 s), λ s. (a.records h).1 ((b.records h).1 s));
+  images = λ image. (λ l. (b.images image).0 ((a.images image).0 l), λ l. (a.images image).1 ((b.images image).1 l));
+}

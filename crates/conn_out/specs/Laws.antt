@@ -3,7 +3,7 @@ use Rattle.std.specs.Prelude.{⊤, ◌≡◌, ℕ, ◌+◌, ◌≤◌, ◌^◌, 
 use Rattle.hex.specs.Hex.{IsBytes}
 use Rattle.session_model.specs.Inbox.{Numbered}
 use Rattle.conn_out.specs.Messages.{deliver_lines}
-use Rattle.conn_out.specs.Projections.{Tells, Projects}
+use Rattle.conn_out.specs.Projections.{Tells, Projects, IsLastTold}
 
 -- a front of the messages of a projection is told by its front
 pub record FrontTells (content : List ℕ) (ms : List Numbered) : Type 0 where
@@ -32,3 +32,13 @@ AreRising n (m ∷ ms) = (n ≤ m.number) × AreRising (m.number + 1) ms
 -- messages as an inbox has them
 abbrev pub AreMessages : List Numbered → Type 0
 AreMessages ms = All IsMessage ms
+
+-- the number of the last of some messages, 0 where there is none
+abbrev pub last_number : List Numbered → ℕ
+last_number [] = 0
+last_number (m ∷ []) = m.number
+last_number (m ∷ n ∷ ms) = last_number (n ∷ ms)
+
+-- of a projection the last message that is told is the last of its messages
+abbrev pub LastIsTold : Type 0
+LastIsTold = (content : List ℕ) (ms : List Numbered) (number : ℕ) → AreMessages ms → Projects content ms → IsLastTold content number → number ≡ last_number ms

@@ -1,9 +1,9 @@
 -- OUT as a projection of an inbox: its lines that tell of an applied message tell of those of the inbox, each once and in order (this project's profile).
-use Rattle.std.specs.Prelude.{⊤, ◌≡◌, ◌⊎◌, ℕ, List, [], ◌∷◌, ◌++◌, All}
+use Rattle.std.specs.Prelude.{⊤, ◌≡◌, ◌⊎◌, ℕ, ◌≤◌, List, [], ◌∷◌, ◌++◌, take, All, Option, Some, None}
 use Rattle.session_model.specs.Inbox.{Numbered}
 use Rattle.gw_lines.specs.Lines.{IsFeedless, with_feeds}
 use Rattle.conn_lines.specs.Lines.{deliver_line}
-use Rattle.conn_tail.specs.Tails.{TellsNothing}
+use Rattle.conn_tail.specs.Tails.{TellsNothing, HasTail}
 
 -- a line, without its line feed, tells of this message
 abbrev pub IsOf : List ℕ → Numbered → Type 0
@@ -30,3 +30,21 @@ pub record Projects (content : List ℕ) (ms : List Numbered) : Type 0 where
   pub bytes : content ≡ text ++ rest
   pub feedless : IsFeedless rest
   pub tells : Tells text ms
+
+-- a content projects the first of some messages, so many of them at least, or all
+pub record ProjectsOn (content : List ℕ) (least : ℕ) (ms : List Numbered) : Type 0 where
+  pub count : ℕ
+  pub more : least ≤ count
+  pub projects : Projects content (take count ms)
+
+-- a number as it is answered, 0 where there is none
+abbrev pub number_of : Option ℕ → ℕ
+number_of None = 0
+number_of (Some number) = number
+
+-- the last whole line of a content that tells of a message tells of the one of this number; the number is 0 where none does
+pub record IsLastTold (content : List ℕ) (number : ℕ) : Type 0 where
+  pub whole : ℕ
+  pub last : Option ℕ
+  pub tail : HasTail content whole last
+  pub is : number ≡ number_of last

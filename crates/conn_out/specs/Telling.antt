@@ -1,5 +1,5 @@
 -- Lines that are told a piece at a time. These are steps of the proof: nothing that a user relies on needs them.
-use Rattle.std.specs.Prelude.{◌≡◌, ℕ, List, ◌++◌, Option, Some, None}
+use Rattle.std.specs.Prelude.{◌≡◌, ℕ, List, ◌++◌, Option}
 use Rattle.std.specs.Io.KnownBytes.{Appends}
 
 -- of a text all was told but what is held
@@ -7,8 +7,3 @@ pub record Written (old new : Option (List ℕ)) (held text : List ℕ) : Type 0
   pub sent : List ℕ
   pub appended : Appends old new sent
   pub split : text ≡ sent ++ held
-
--- the number of the last message of which a file tells, 0 where it tells of none
-abbrev pub number_of : Option ℕ → ℕ
-number_of None = 0
-number_of (Some number) = number

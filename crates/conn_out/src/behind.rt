@@ -5,6 +5,7 @@ ghost use Rattle.std.specs.Io.KnownBytes.{Appends};
 ghost use Rattle.gw_outside.specs.Faults.{HasRisen, TakesFront};
 ghost use Rattle.session_model.specs.Inbox.{Numbered};
 ghost use Rattle.jr_dated.specs.Dated.{Dated};
+ghost use Rattle.jr_dated.specs.Journals.{Unchanged};
 ghost use Rattle.conn_lines.specs.Lines.{deliver_line};
 ghost use Rattle.conn_out.specs.Messages.{deliver_lines, messages_of, messages_in, TellsUpTo, IsPlaceBehind};
 ghost use Rattle.conn_out.specs.Telling.{Written};
@@ -41,8 +42,9 @@ pub(crate) fn place_behind<J: Journal>(journal: &mut J, last: u64) -> Result<u64
     ensures behind { IfOk result (λ at. (h : List Dated) → J.is_told journal.old → J.stands journal.old h → IsPlaceBehind h at last) }
     ensures sound { OnOk result (J.is_broken journal.new ≡ false) }
     ensures told { J.is_told journal.old → J.is_told journal.new }
-    ensures records { (h : List Dated) → J.stands journal.old h → J.stands journal.new h }
-    ensures count { J.count journal.new ≡ J.count journal.old }
+    ensures unchanged { Unchanged J.stands J.leaves journal.old journal.new }
+    ensures sizes { (J.count journal.new ≡ J.count journal.old) × (J.size journal.new ≡ J.size journal.old) }
+    ensures same { (J.moment journal.new ≡ J.moment journal.old) × (J.limits journal.new ≡ J.limits journal.old) }
     ensures counted { J.faults journal.old ≤ J.faults journal.new }
     ensures journal { IsErrOf result faults.Journal → HasRisen (J.faults journal.old) (J.faults journal.new) }
     ensures output { IsErrOf result faults.Output → ⊥ }
@@ -68,8 +70,10 @@ fn tell_message<K: Sink>(
     number: u64,
     payload: &[u8],
 ) -> Result<(), OutFault>
-    ensures ok { OnOk result ((base : _) (text : List ℕ) → Written base (K.taken out.old) lines.old.items text → Written base (K.taken out.new) lines.new.items (text ++ deliver_line number payload.now)) }
-    ensures err { OnErr result ((base : _) (text : List ℕ) → Written base (K.taken out.old) lines.old.items text → TakesFront base (K.taken out.new) (text ++ deliver_line number payload.now)) }
+    ensures ok { OnOk result ((base : _) (text : List ℕ) → Written base (K.taken out.old) lines.old.items text
+        → Written base (K.taken out.new) lines.new.items (text ++ deliver_line number payload.now)) }
+    ensures err { OnErr result ((base : _) (text : List ℕ) → Written base (K.taken out.old) lines.old.items text
+        → TakesFront base (K.taken out.new) (text ++ deliver_line number payload.now)) }
     ensures counted { K.faults out.old ≤ K.faults out.new }
     ensures output { IsErrOf result faults.Output → HasRisen (K.faults out.old) (K.faults out.new) }
     ensures journal { IsErrOf result faults.Journal → ⊥ }
@@ -137,8 +141,15 @@ pub(crate) fn tell_from<J: Journal, K: Sink>(
 ) -> Result<(), OutFault>
     requires sound { J.is_broken journal.old ≡ false }
     requires within { from ≤ J.count journal.old }
-    ensures ok { OnOk result ((h : List Dated) → J.is_told journal.old → J.stands journal.old h → Appends (K.taken out.old) (K.taken out.new) (deliver_lines (messages_in (drop from h)))) }
-    ensures err { OnErr result ((h : List Dated) → J.is_told journal.old → J.stands journal.old h → TakesFront (K.taken out.old) (K.taken out.new) (deliver_lines (messages_in (drop from h)))) }
+    ensures ok { OnOk result ((h : List Dated) → J.is_told journal.old → J.stands journal.old h
+        → Appends (K.taken out.old) (K.taken out.new) (deliver_lines (messages_in (drop from h)))) }
+    ensures err { OnErr result ((h : List Dated) → J.is_told journal.old → J.stands journal.old h
+        → TakesFront (K.taken out.old) (K.taken out.new) (deliver_lines (messages_in (drop from h)))) }
+    ensures sound { OnOk result (J.is_broken journal.new ≡ false) }
+    ensures told { J.is_told journal.old → J.is_told journal.new }
+    ensures unchanged { Unchanged J.stands J.leaves journal.old journal.new }
+    ensures sizes { (J.count journal.new ≡ J.count journal.old) × (J.size journal.new ≡ J.size journal.old) }
+    ensures same { (J.moment journal.new ≡ J.moment journal.old) × (J.limits journal.new ≡ J.limits journal.old) }
     ensures counted { (K.faults out.old ≤ K.faults out.new) × (J.faults journal.old ≤ J.faults journal.new) }
     ensures output { IsErrOf result faults.Output → HasRisen (K.faults out.old) (K.faults out.new) }
     ensures journal { IsErrOf result faults.Journal → HasRisen (J.faults journal.old) (J.faults journal.new) }

@@ -1,6 +1,6 @@
 //! Laws of projections, which have empty bodies.
 
-ghost use Rattle.conn_out.specs.Laws.{FrontsProject, LinesTellOn};
+ghost use Rattle.conn_out.specs.Laws.{FrontsProject, LinesTellOn, LastIsTold};
 
 /// Wherever a projection is cut off, what is left projects the first of its messages.
 pub fn fronts_project()
@@ -10,4 +10,9 @@ pub fn fronts_project()
 /// A text that tells of some messages, and the lines of more behind it, tell of all of them.
 pub fn lines_tell_on()
     ensures law { LinesTellOn }
+{}
+
+/// The last message of which a projection tells is the last of its messages.
+pub fn last_is_told()
+    ensures law { LastIsTold }
 {}
