@@ -12,8 +12,9 @@ use Rattle.fixp_shake.specs.declared.config.Role.{Role}
 use Rattle.cmd_config.specs.declared.configuration.Configuration.{Configuration}
 use Rattle.jr_dated.specs.declared.journal.Journal.{Ghosts}
 use Rattle.jr_boxes.specs.Inboxes.{records_of_inbox}
-use Rattle.jr_boxes.specs.declared.faults.Which.TheVariants.{Inbox}
-use Rattle.jr_boxes.specs.declared.faults.JournalCause.TheVariants.{Changed}
+use Rattle.jr_kept.specs.declared.inbox.Inbox.{Inbox}
+use Rattle.jr_kept.specs.Inbox as inboxes
+use Rattle.jr_boxes.specs.declared.faults.Which.TheVariants.{Inbox as InboxOf}
 use Rattle.conn_out.specs.Messages.{messages_of}
 use Rattle.conn_out.specs.Projections.{Tells, Projects, ProjectsOn}
 use Rattle.cmd_base.specs.Texts.{IsUnconfigured, Refuses}
@@ -47,6 +48,10 @@ abbrev pub StillProjects : (told before after : Option (List ℕ)) → Type 0
 StillProjects told before after = ForSome told (λ content. (inbox : List InboxRecord) → IsJournal content (records_of_inbox inbox)
     → (text : List ℕ) (k : ℕ) → before ≡ Some text → Projects text (take k (messages_in inbox)) → IsSomeAnd after (λ now. ProjectsOn now k (messages_in inbox)))
 
+-- where a disk told a content, the journal of an inbox over it tells its own
+abbrev pub IsToldBy : {J : Type 0} {G : Ghosts J} → (told : Option (List ℕ)) → Inbox J G → Type 0
+IsToldBy {J} {G} told box = ForSome told (λ _. G.is_told (inboxes.journal_of box))
+
 module _ {S I K A D N C : Type 0} where
   -- CONFIG was refused, with its fault, or could not be read; all behind it is as it was
   pub record StopsAtConfig (sees : FeedSees S I K A D N C) (role : Role) (before after : FeedOutside S I K A D N C) (status : Status) : Type 0 where
@@ -74,7 +79,7 @@ module _ {S I K A D N C : Type 0} where
   abbrev pub RefusesOut : FeedSees S I K A D N C → (before after : FeedOutside S I K A D N C) → Status → Type 0
   RefusesOut sees before after OutputFault = HasRisen (sees.session.sink before.out) (sees.session.sink after.out) ⊎ (sees.session.taken before.out ≡ None)
   RefusesOut sees before after JournalFault = HasRisen (sees.session.disk before.in_disk) (sees.session.disk after.in_disk)
-  RefusesOut sees before after (JournalBad Inbox cause) = ForSome (sees.session.told before.in_disk) (λ _. ⊥)
+  RefusesOut sees before after (JournalBad InboxOf cause) = ForSome (sees.session.told before.in_disk) (λ _. ⊥)
   RefusesOut sees before after Memory = Unit {0}
   RefusesOut sees before after _ = ⊥
 
