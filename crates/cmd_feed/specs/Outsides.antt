@@ -1,5 +1,5 @@
 -- What the devices of a session that is fed tell, how often they failed, and which of them a run left as they were (this project's profile).
-use Rattle.std.specs.Prelude.{◌≡◌, ℕ, ◌≤◌, List, Option}
+use Rattle.std.specs.Prelude.{◌≡◌, ℕ, ◌≤◌, Bool, List, Option}
 use Rattle.gw_outside.specs.declared.streams.Source.{Ghosts as SourceGhosts}
 use Rattle.gw_outside.specs.declared.streams.Sink.{Ghosts as SinkGhosts}
 use Rattle.cmd_base.specs.Causes.{NoneFellInSession}
@@ -7,9 +7,11 @@ use Rattle.cmd_session.specs.Outsides.{Sees, counts_of}
 use Rattle.cmd_session.specs.declared.outside.SessionOutside.{SessionOutside}
 use Rattle.cmd_feed.specs.declared.outside.FeedOutside.{FeedOutside}
 
--- What devices of these kinds tell of themselves: those that any session has, and INPUT and ACCEPTED, with how often each of these has failed
+-- What devices of these kinds tell of themselves: those that any session has, and INPUT and ACCEPTED, with how often each of these has failed; and whether
+-- each OUT of its kind keeps what it takes
 pub record FeedSees (S I K A D N C : Type 0) : Type 1 where
   pub session : Sees S K D N C
+  pub keeps : Bool
   pub left : I → Option (List ℕ)
   pub taken : A → Option (List ℕ)
   pub input : I → ℕ
@@ -17,8 +19,15 @@ pub record FeedSees (S I K A D N C : Type 0) : Type 1 where
 
 module _ {S I K A D N C : Type 0} where
   -- as the contracts of the devices have it
-  abbrev pub feed_sees : Sees S K D N C → SourceGhosts I → SinkGhosts A → FeedSees S I K A D N C
-  feed_sees session source sink = record { session = session; left = source.left; taken = sink.taken; input = source.faults; accepted = sink.faults }
+  abbrev pub feed_sees : Sees S K D N C → (keeps : Bool) → SourceGhosts I → SinkGhosts A → FeedSees S I K A D N C
+  feed_sees session keeps source sink = record {
+    session = session;
+    keeps = keeps;
+    left = source.left;
+    taken = sink.taken;
+    input = source.faults;
+    accepted = sink.faults;
+  }
 
   -- the devices that any session has; what is said of a life over its disks is not about INPUT, in whose place CONFIG stands
   abbrev pub session_of : FeedOutside S I K A D N C → SessionOutside S K D N C

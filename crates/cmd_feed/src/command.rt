@@ -1,6 +1,15 @@
 //! The whole of `accept` and `connect` with ACCEPTED.
 
-ghost use Rattle.std.specs.Prelude.{◌≡◌, false};
+ghost use Rattle.std.specs.Prelude.{◌≡◌, ◌⊎◌, ◌+◌, ◌<◌, ◌≤◌, ◌^◌, false, [], ◌∷◌, length, IfErr, OnOk, OnErr};
+ghost use Rattle.fixp_msgs.specs.declared.flow.Flow.TheVariants as flows;
+ghost use Rattle.jr_kept.specs.Outbox as outboxes;
+ghost use Rattle.jr_kept.specs.Inbox as inboxes;
+ghost use Rattle.sbe_value.specs.declared.path.Step.TheVariants.{Key};
+ghost use Rattle.toml_walk.specs.declared.fault.TomlFault.TheVariants.{Range};
+ghost use Rattle.schema_toml.specs.declared.fault.ConfigFault.TheVariants.{Toml};
+ghost use Rattle.cmd_session.specs.Outsides.{sees};
+ghost use Rattle.cmd_feed.specs.Outsides.{feed_sees, NoneFellFed};
+ghost use Rattle.cmd_feed.specs.Steps.{Steps};
 
 use crate::going_on::out_on;
 use crate::life::live_feeding;
@@ -12,6 +21,7 @@ use fixp_shake::EndConfig;
 use gw_appended::Appended;
 use gw_links::{Clock, Dialer};
 use gw_outside::{Disk, Sink, Source};
+use jr_dated::Journal;
 use jr_kept::{Inbox, Outbox};
 use jr_segments::SegJournal;
 use schema_toml::ConfigFault;
@@ -24,14 +34,21 @@ use toml_walk::out_of_range;
 /// Refuses a configuration with desks: what is sent is what they answer, and nothing comes of INPUT.
 ///
 /// # Errors
-/// The key `desks` is out of range.
-fn without_desks(alloc: Global, trade: Trade) -> Result<(), Status> {
+/// The key `desks` is out of range; or `Memory`.
+fn without_desks(alloc: Global, trade: Trade) -> Result<(), Status>
+    ensures none { OnOk result (trade.desks ≡ 0) }
+    ensures has { OnErr result (0 < trade.desks) }
+    ensures refused { IfErr result (λ status. (status ≡ Status.Config (Toml (Range (Key "desks" ∷ [])))) ⊎ (status ≡ Status.Memory)) }
+{
     if trade.desks == 0 {
         return Ok(());
     }
-    Err(Status::Config(ConfigFault::Toml(out_of_range(
-        alloc, "desks",
-    ))))
+    let fault = ConfigFault::Toml(out_of_range(alloc, "desks"));
+    Err(if fault.is_memory() {
+        Status::Memory
+    } else {
+        Status::Config(fault)
+    })
 }
 
 /// Begins ACCEPTED, and lives over the boxes. ACCEPTED and the outbox come back with the status.
@@ -54,7 +71,23 @@ fn feed_over_boxes<
     accepted: A,
     outbox: Outbox<SegJournal<D>>,
     inbox: &mut Inbox<SegJournal<D>>,
-) -> (Status, A, Outbox<SegJournal<D>>) {
+) -> (Status, A, Outbox<SegJournal<D>>)
+    requires least { 100 ≤ end.keepalive }
+    requires greatest { end.keepalive ≤ 60000 }
+    requires credentials { length end.credentials ≤ 2048 }
+    requires few { senders ≤ 16 }
+    requires sound { outboxes.is_broken outbox ≡ false }
+    requires in_sound { inboxes.is_broken inbox.old ≡ false }
+    requires lent { N.lent devices.old.dialer ≡ false }
+    requires flow { inboxes.flow_of inbox.old ≡ end.peer_flow }
+    requires limit { (inboxes.limits_of inbox.old).entries ≡ 2 ^ 26 }
+    requires numbered { inboxes.flow_of inbox.old ≡ flows.Recoverable → inboxes.next_of inbox.old + 1 < 2 ^ 64 }
+    requires few_entries { outboxes.front_of outbox < 2 ^ 40 }
+    ensures lent { N.lent devices.new.dialer ≡ false }
+    ensures never_falls { (K.faults devices.old.out ≤ K.faults devices.new.out) × (N.faults devices.old.dialer ≤ N.faults devices.new.dialer) }
+    ensures boxes_never_fall { (outboxes.faults_of outbox ≤ outboxes.faults_of result.2) × (inboxes.faults_of inbox.old ≤ inboxes.faults_of inbox.new) }
+    ensures streams_never_fall { (A.faults accepted ≤ A.faults result.1) × (I.faults input.old ≤ I.faults input.new) }
+{
     let (mut accepted, mut outbox) = (accepted, outbox);
     match begin(&mut accepted) {
         Ok(()) => {}
@@ -88,7 +121,20 @@ fn feed_behind_out<
     accepted: A,
     outbox: Outbox<SegJournal<D>>,
     inbox: Inbox<SegJournal<D>>,
-) -> (Status, A, D, D) {
+) -> (Status, A, D, D)
+    requires least { 100 ≤ end.keepalive }
+    requires greatest { end.keepalive ≤ 60000 }
+    requires credentials { length end.credentials ≤ 2048 }
+    requires few { senders ≤ 16 }
+    requires sound { outboxes.is_broken outbox ≡ false }
+    requires in_sound { inboxes.is_broken inbox ≡ false }
+    requires lent { N.lent devices.old.dialer ≡ false }
+    requires few_entries { outboxes.front_of outbox < 2 ^ 40 }
+    ensures lent { N.lent devices.new.dialer ≡ false }
+    ensures never_falls { (K.faults devices.old.out ≤ K.faults devices.new.out) × (N.faults devices.old.dialer ≤ N.faults devices.new.dialer) }
+    ensures disks_never_fall { (outboxes.faults_of outbox ≤ D.faults result.2) × (inboxes.faults_of inbox ≤ D.faults result.3) }
+    ensures streams_never_fall { (A.faults accepted ≤ A.faults result.1) × (I.faults input.old ≤ I.faults input.new) }
+{
     let mut inbox = match out_on(alloc, end.peer_flow, &mut devices.out, inbox) {
         Ok(inbox) => inbox,
         Err((status, disk)) => return (status, accepted, close_outbox(outbox), disk),
@@ -116,7 +162,16 @@ fn feed_over_disks<
     senders: u8,
     outside: FeedOutside<S, I, K, A, D, N, C>,
     over: &AtomicBool,
-) -> (Status, FeedOutside<S, I, K, A, D, N, C>) {
+) -> (Status, FeedOutside<S, I, K, A, D, N, C>)
+    requires least { 100 ≤ end.keepalive }
+    requires greatest { end.keepalive ≤ 60000 }
+    requires credentials { length end.credentials ≤ 2048 }
+    requires few { senders ≤ 16 }
+    requires lent { N.lent outside.dialer ≡ false }
+    ensures config { result.1.config ≡ outside.config }
+    ensures lent { N.lent result.1.dialer ≡ false }
+    ensures none_fell { NoneFellFed (feed_sees (sees S.Source K.Sink D.Disk N.Dialer N.Link.Link C.Clock) K.keeps I.Source A.Sink) outside result.1 }
+{
     let FeedOutside {
         config,
         mut input,
@@ -180,6 +235,9 @@ pub fn run_feeding<
     over: &AtomicBool,
 ) -> (Status, FeedOutside<S, I, K, A, D, N, C>)
     requires lent { N.lent outside.dialer ≡ false }
+    ensures steps { Steps ⟦<SegJournal<D> as Journal>⟧ (feed_sees (sees S.Source K.Sink D.Disk N.Dialer N.Link.Link C.Clock) K.keeps I.Source A.Sink) role outside result.1 result.0 }
+    ensures lent { N.lent result.1.dialer ≡ false }
+    ensures none_fell { NoneFellFed (feed_sees (sees S.Source K.Sink D.Disk N.Dialer N.Link.Link C.Clock) K.keeps I.Source A.Sink) outside result.1 }
 {
     let mut outside = outside;
     let configuration = match read_config::<S, Configuration>(alloc, role, &mut outside.config) {

@@ -1,5 +1,13 @@
 //! OUT, gone on with over the inbox of a session.
 
+ghost use Rattle.std.specs.Prelude.{◌≡◌, ◌⊎◌, ◌+◌, ◌<◌, ◌≤◌, ◌^◌, ℕ, List, Option, false, IfOk, IfErr};
+ghost use Rattle.gw_outside.specs.Faults.{HasRisen};
+ghost use Rattle.fixp_msgs.specs.declared.flow.Flow.TheVariants as flows;
+ghost use Rattle.jr_kept.specs.Inbox as inboxes;
+ghost use Rattle.conn_out.specs.declared.fault.OutFault.TheVariants as out_faults;
+ghost use Rattle.cmd_session.specs.Lived.{OpensInbox};
+ghost use Rattle.cmd_feed.specs.Steps.{IsToldBy, WentOn, StillProjects};
+
 use cmd_base::{JournalCause, Status, Which, begin};
 use cmd_session::open_inbox;
 use conn_out::{OutFault, go_on};
@@ -11,7 +19,10 @@ use jr_segments::SegJournal;
 use std::alloc::Global;
 
 /// The status of an OUT that was not gone on with.
-fn not_gone_on(fault: OutFault) -> Status {
+fn not_gone_on(fault: OutFault) -> Status
+    ensures output { result ≡ Status.OutputFault → (fault ≡ out_faults.Output) ⊎ (fault ≡ out_faults.Short) }
+    ensures journal { result ≡ Status.JournalFault → fault ≡ out_faults.Journal }
+{
     match fault {
         OutFault::Output | OutFault::Short => Status::OutputFault,
         OutFault::Journal => Status::JournalFault,
@@ -33,7 +44,20 @@ pub(crate) fn out_on<K: Appended, D: Disk>(
     flow: Flow,
     out: &mut K,
     inbox: Inbox<SegJournal<D>>,
-) -> Result<Inbox<SegJournal<D>>, (Status, D)> {
+) -> Result<Inbox<SegJournal<D>>, (Status, D)>
+    requires in_sound { inboxes.is_broken inbox ≡ false }
+    ensures opened { (told : Option (List ℕ)) → OpensInbox told inbox → IsToldBy told inbox → IfOk result (OpensInbox told) }
+    ensures went { (told : Option (List ℕ)) → OpensInbox told inbox → IsToldBy told inbox → IfOk result (λ _. WentOn K.keeps told (K.taken out.old) (K.taken out.new)) }
+    ensures projects { (told : Option (List ℕ)) → OpensInbox told inbox → IsToldBy told inbox → IfErr result (λ _. StillProjects told (K.taken out.old) (K.taken out.new)) }
+    ensures in_sound { IfOk result (λ box. inboxes.is_broken box ≡ false) }
+    ensures flow { IfOk result (λ box. inboxes.flow_of box ≡ flow) }
+    ensures limit { IfOk result (λ box. ((inboxes.limits_of box).entries ≡ 2 ^ 26) × ((inboxes.limits_of box).bytes ≡ 2 ^ 33)) }
+    ensures numbered { IfOk result (λ box. flow ≡ flows.Recoverable → inboxes.next_of box + 1 < 2 ^ 64) }
+    ensures never_falls { IfOk result (λ box. inboxes.faults_of inbox ≤ inboxes.faults_of box) }
+    ensures refused_never_falls { IfErr result (λ e. inboxes.faults_of inbox ≤ D.faults e.1) }
+    ensures journal { IfErr result (λ e. e.0 ≡ Status.JournalFault → HasRisen (inboxes.faults_of inbox) (D.faults e.1)) }
+    ensures counted { K.faults out.old ≤ K.faults out.new }
+{
     let mut journal = inbox.into_journal();
     match go_on(alloc, &mut journal, out) {
         Ok(_) => {}
