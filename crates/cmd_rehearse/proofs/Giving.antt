@@ -5,6 +5,7 @@ use Rattle.std.proofs.KnownBytes.{Appends-trans}
 use Rattle.gw_outside.specs.Faults.{TakesFront}
 use Rattle.cmd_script.specs.declared.script.Script.{Script}
 use Rattle.gw_rehearse.specs.declared.rehearsal.Rehearsal.{Rehearsal}
+use Rattle.gw_rehearse.specs.declared.summary.EndSummary.{EndSummary}
 use Rattle.gw_rehearse.specs.Summaries.{summary_of}
 use Rattle.gw_rehearse.specs.Totals.{IsRehearsed, initiator_total}
 use Rattle.cmd_rehearse.specs.Lines.{summary_lines}
@@ -59,8 +60,9 @@ pub are_lines : (script : Script) (r : Rehearsal) → IsRehearsed script r → (
 are_lines script r rehearsed lines is = record {
   rehearsal = r;
   rehearsed = rehearsed;
-  are = is;
+  told = is;
   totals = λ both.
       let have = rehearsed.totals both in
-      is ∙ (ap (λ s. summary_lines s (summary_of r.acceptor)) have.initiator_has ∙ ap (λ s. summary_lines (initiator_total script.load) s) have.acceptor_has);
+      is ∙ (ap (λ (s : EndSummary). summary_lines s (summary_of r.acceptor)) have.initiator_has
+      ∙ ap (λ (s : EndSummary). summary_lines (initiator_total script.load) s) have.acceptor_has);
 }

@@ -39,7 +39,7 @@ total_lines load = summary_lines (initiator_total load) (acceptor_total load)
 pub record AreLines (script : Script) (lines : List ℕ) : Type 0 where
   pub rehearsal : Rehearsal
   pub rehearsed : IsRehearsed script rehearsal
-  pub are : lines ≡ summary_lines (summary_of rehearsal.initiator) (summary_of rehearsal.acceptor)
+  pub told : lines ≡ summary_lines (summary_of rehearsal.initiator) (summary_of rehearsal.acceptor)
   pub totals : AreRecoverable script.link → lines ≡ total_lines script.load
 
 -- OUT gained such lines; a front of such lines, or nothing, where it failed; and else nothing. Where the rounds did not suffice both ends kept the

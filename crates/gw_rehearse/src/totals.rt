@@ -78,7 +78,7 @@ fn are_recoverable(link: &Link) -> bool
 {
     matches!(
         (link.client_flow, link.server_flow),
-        (Flow::Recoverable, Flow::Recoverable),
+        (Flow::Recoverable, Flow::Recoverable)
     )
 }
 
