@@ -46,8 +46,7 @@ impl<J: Journal> BookDesk<J> {
         let Ok(reports) = taken else {
             return Err(SubmitFault::Memory);
         };
-        self.desk
-            .send_all(gate, reports.as_slice(), &OpenDoor, rt)
+        self.desk.send_all(gate, reports.as_slice(), &OpenDoor, rt)
     }
 
     /// Adds the Finish; where it stands already there is nothing to add.
