@@ -42,8 +42,8 @@ impl<J: Journal> BookDesk<J> {
         requires able { IsAble (lock_of gate.now) (senders_of gate.now) self.old }
         ensures took { Took (lock_of gate.now) (senders_of gate.now) payloads.now self.old self.new result }
     {
-        let taken = take_orders(self.alloc, &self.form.plan, &mut self.book, payloads);
-        let Ok(reports) = taken else {
+        let form = &self.form;
+        let Ok(reports) = take_orders(self.alloc, &form.plan, &mut self.book, payloads) else {
             return Err(SubmitFault::Memory);
         };
         self.desk.send_all(gate, reports.as_slice(), &OpenDoor, rt)
