@@ -1,15 +1,16 @@
 -- A projection that is cut off anywhere.
-use Rattle.std.proofs.Common.{◌≡◌, ◌⊎◌, inl, inr, ℕ, zero, suc, ◌+◌, ◌-◌, ◌<◌, ◌≤◌, List, [], ◌∷◌, ◌++◌, length, take, get_or, refl, ap, sym, subst, ◌∙◌, append_assoc, arith}
+use Rattle.std.proofs.Common.{◌≡◌, inl, inr, ℕ, zero, suc, ◌+◌, ◌-◌, ◌<◌, ◌≤◌, List, [], ◌∷◌, ◌++◌, length, take, get_or, refl, ap, sym, subst, ◌∙◌}
+use Rattle.std.proofs.Common.{arith}
 use Rattle.std.specs.Prelude.{All}
 use Rattle.std.proofs.lemmas.Bool.{cases_lt}
 use Rattle.std.proofs.lemmas.List.{get_or-take, length-take}
 use Rattle.std.proofs.lemmas.List.Elements.{All-nil, All-cons, All-head, All-tail}
 use Rattle.session_model.specs.Inbox.{Numbered}
 use Rattle.gw_lines.specs.Lines.{IsFeedless, with_feeds}
-use Rattle.gw_lines.proofs.Steps.{more_behind, none_feedless}
+use Rattle.gw_lines.proofs.Steps.{more_behind}
 use Rattle.conn_tail.specs.Tails.{TellsNothing}
-use Rattle.conn_out.specs.Projections.{IsOf, TellOf, Tells, Projects}
-use Rattle.conn_out.specs.Laws.{FrontTells, FrontsProject}
+use Rattle.conn_out.specs.Projections.{IsOf, TellOf, Tells}
+use Rattle.conn_out.specs.Laws.{FrontsProject}
 
 -- lines with their feeds and a rest, of which the lines tell of the first messages
 record Cut (bytes : List ℕ) (ms : List Numbered) : Type 0 where
@@ -79,13 +80,15 @@ behind_one line bytes m ms feedless is c = record {
   told = inr (is, c.told);
 }
 
-by_line : (line bytes : List ℕ) (lines : List (List ℕ)) (ms : List Numbered) → IsFeedless line → ((ns : List Numbered) → TellOf lines ns → Cut bytes ns) → TellOf (line ∷ lines) ms
+by_line : (line bytes : List ℕ) (lines : List (List ℕ)) (ms : List Numbered) → IsFeedless line → ((ns : List Numbered) → TellOf lines ns → Cut bytes ns)
+    → TellOf (line ∷ lines) ms
     → Cut (line ++ 10 ∷ bytes) ms
 by_line line bytes lines [] feedless rest t = behind_nothing line bytes [] feedless t.0 (rest [] t.1)
 by_line line bytes lines (m ∷ ms) feedless rest (inl t) = behind_nothing line bytes (m ∷ ms) feedless t.0 (rest (m ∷ ms) t.1)
 by_line line bytes lines (m ∷ ms) feedless rest (inr t) = behind_one line bytes m ms feedless t.0 (rest ms t.1)
 
-cut_off : (lines : List (List ℕ)) (rest : List ℕ) (ms : List Numbered) (n : ℕ) → All IsFeedless lines → IsFeedless rest → TellOf lines ms → Cut (take n (with_feeds lines rest)) ms
+cut_off : (lines : List (List ℕ)) (rest : List ℕ) (ms : List Numbered) (n : ℕ) → All IsFeedless lines → IsFeedless rest → TellOf lines ms
+    → Cut (take n (with_feeds lines rest)) ms
 cut_off [] rest [] n each feedless told =
     record { count = 0; lines = []; rest = take n rest; each = All-nil IsFeedless; feedless = front_feedless rest n feedless; is = refl; told = tt }
 cut_off [] rest (m ∷ ms) n each feedless told = absurd told

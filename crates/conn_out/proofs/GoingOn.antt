@@ -1,5 +1,6 @@
 -- A file of lines that is gone on with behind the last message of which it tells.
-use Rattle.std.proofs.Common.{◌≡◌, ◌⊎◌, inl, inr, ⊎_elim, ℕ, zero, suc, ◌+◌, ◌-◌, ◌<◌, ◌≤◌, ◌^◌, List, [], ◌∷◌, ◌++◌, length, take, drop, slice_get, slice_index_or, refl, sym, ap, subst, ◌∙◌, append-nil, append_assoc, codes, decimal, arith}
+use Rattle.std.proofs.Common.{◌≡◌, ◌⊎◌, inl, inr, ⊎_elim, ℕ, zero, suc, ◌+◌, ◌-◌, ◌<◌, ◌≤◌, List, [], ◌∷◌, ◌++◌, length, take, drop, slice_get}
+use Rattle.std.proofs.Common.{refl, sym, ap, subst, ◌∙◌, append-nil, append_assoc, codes, decimal, arith}
 use Rattle.std.specs.Prelude.{All, Option, Some, None, MatchOption, IsSomeAnd, Result, Ok, Err, OnErr}
 use Rattle.std.specs.Io.KnownBytes.{Appends}
 use Rattle.gw_outside.specs.Faults.{TakesFront}
@@ -15,7 +16,7 @@ use Rattle.conn_lines.specs.Lines.{deliver_line}
 use Rattle.conn_tail.specs.Tails.{IsDeliver, TellsNothing, IsLastDeliver, HasTail}
 use Rattle.conn_out.specs.declared.fault.OutFault.{OutFault}
 use Rattle.conn_out.specs.Messages.{messages_of, messages_in, deliver_lines, EndsUpTo, IsPlaceBehind}
-use Rattle.conn_out.specs.Projections.{IsOf, TellOf, Tells, Projects, ProjectsOn, IsLastTold, number_of}
+use Rattle.conn_out.specs.Projections.{IsOf, TellOf, Tells, Projects, ProjectsOn, number_of}
 use Rattle.conn_out.specs.Laws.{IsMessage, AreMessages, AreRising, FrontTells, LastIsTold, last_number}
 use Rattle.conn_out.proofs.Splits.{one_split}
 use Rattle.conn_out.proofs.Fronts.{fronts_project}
@@ -26,13 +27,16 @@ use Rattle.conn_out.proofs.Lines.{lines_tell_on, lines_project, tells_on}
 front : (line : List ℕ) (number : ℕ) → (h : IsDeliver line number) → line ≡ codes "deliver " ++ (decimal number ++ 32 ∷ encode_lower h.payload)
 front line number h =
     append_cancel_right line (codes "deliver " ++ decimal number ++ codes " " ++ encode_lower h.payload) (10 ∷ []) h.written
-    ∙ append_assoc (codes "deliver " ++ decimal number) (codes " ") (encode_lower h.payload) ∙ append_assoc (codes "deliver ") (decimal number) (codes " " ++ encode_lower h.payload)
+    ∙ append_assoc (codes "deliver " ++ decimal number) (codes " ") (encode_lower h.payload)
+    ∙ append_assoc (codes "deliver ") (decimal number) (codes " " ++ encode_lower h.payload)
 
 same_of : (line : List ℕ) (n m : ℕ) → IsDeliver line n → IsDeliver line m → n ≡ m
 same_of line n m a b =
     let rests : decimal n ++ 32 ∷ encode_lower a.payload ≡ decimal m ++ 32 ∷ encode_lower b.payload =
-    append_cancel_left (codes "deliver ") (decimal n ++ 32 ∷ encode_lower a.payload) (decimal m ++ 32 ∷ encode_lower b.payload) (sym (front line n a) ∙ front line m b) in
-    let parts = same_halves 32 (decimal n) (decimal m) (encode_lower a.payload) (encode_lower b.payload) (no_end n 32 a.size (inl (omega arith))) (no_end m 32 b.size (inl (omega arith))) rests in
+    append_cancel_left (codes "deliver ") (decimal n ++ 32 ∷ encode_lower a.payload) (decimal m ++ 32 ∷ encode_lower b.payload)
+    (sym (front line n a) ∙ front line m b) in
+    let parts = same_halves 32 (decimal n) (decimal m) (encode_lower a.payload) (encode_lower b.payload) (no_end n 32 a.size (inl (omega arith)))
+    (no_end m 32 b.size (inl (omega arith))) rests in
     one_number n m a.size b.size parts.0
 
 is_deliver : (line : List ℕ) (m : Numbered) → IsMessage m → IsOf line m → IsDeliver line m.number
@@ -45,7 +49,8 @@ none_told [] [] none are t = refl
 none_told [] (m ∷ ms) none are t = absurd t
 none_told (line ∷ lines) [] none are t = refl
 none_told (line ∷ lines) (m ∷ ms) none are (inl t) = none_told lines (m ∷ ms) (All-tail TellsNothing line lines none) are t.1
-none_told (line ∷ lines) (m ∷ ms) none are (inr t) = absurd (All-head TellsNothing line lines none m.number (is_deliver line m (All-head IsMessage m ms are) t.0))
+none_told (line ∷ lines) (m ∷ ms) none are (inr t) = absurd (All-head TellsNothing line lines none m.number
+    (is_deliver line m (All-head IsMessage m ms are) t.0))
 
 -- some messages end with one of this number
 record EndsWith (ms : List Numbered) (number : ℕ) : Type 0 where
@@ -57,7 +62,8 @@ record EndsWith (ms : List Numbered) (number : ℕ) : Type 0 where
 one_before : (m : Numbered) (ms : List Numbered) (number : ℕ) → EndsWith ms number → EndsWith (m ∷ ms) number
 one_before m ms number e = record { before = m ∷ e.before; last = e.last; are = ap (λ (xs : List Numbered). m ∷ xs) e.are; is = e.is }
 
-last_told : (before : List (List ℕ)) (line : List ℕ) (behind : List (List ℕ)) (ms : List Numbered) (number : ℕ) → IsDeliver line number → All TellsNothing behind → AreMessages ms
+last_told : (before : List (List ℕ)) (line : List ℕ) (behind : List (List ℕ)) (ms : List Numbered) (number : ℕ) → IsDeliver line number
+    → All TellsNothing behind → AreMessages ms
     → TellOf (before ++ line ∷ behind) ms → EndsWith ms number
 last_told [] line behind [] number tells none are t = absurd (t.0 number tells)
 last_told [] line behind (m ∷ ms) number tells none are (inl t) = absurd (t.0 number tells)
@@ -69,7 +75,8 @@ last_told [] line behind (m ∷ ms) number tells none are (inr t) = record {
 }
 last_told (b ∷ bs) line behind [] number tells none are t = last_told bs line behind [] number tells none are t.1
 last_told (b ∷ bs) line behind (m ∷ ms) number tells none are (inl t) = last_told bs line behind (m ∷ ms) number tells none are t.1
-last_told (b ∷ bs) line behind (m ∷ ms) number tells none are (inr t) = one_before m ms number (last_told bs line behind ms number tells none (All-tail IsMessage m ms are) t.1)
+last_told (b ∷ bs) line behind (m ∷ ms) number tells none are (inr t) = one_before m ms number
+    (last_told bs line behind ms number tells none (All-tail IsMessage m ms are) t.1)
 
 -- ---- numbers that rise
 
@@ -91,7 +98,8 @@ up_to_last n (x ∷ xs) m ys r =
 
 rising_from : (n k : ℕ) (ys : List Numbered) → k < n → AreRising n ys → Past k ys
 rising_from n k [] l r = All-nil (λ (y : Numbered). k < y.number)
-rising_from n k (y ∷ ys) l r = All-cons (λ (y : Numbered). k < y.number) y ys (omega (arith, l, r.0)) (rising_from (y.number + 1) k ys (omega (arith, l, r.0)) r.1)
+rising_from n k (y ∷ ys) l r = All-cons (λ (y : Numbered). k < y.number) y ys (omega (arith, l, r.0))
+    (rising_from (y.number + 1) k ys (omega (arith, l, r.0)) r.1)
 
 past_last : (n : ℕ) (xs : List Numbered) (m : Numbered) (ys : List Numbered) → AreRising n (xs ++ m ∷ ys) → Past m.number ys
 past_last n [] m ys r = rising_from (m.number + 1) m.number ys (omega arith) r.1
@@ -132,7 +140,8 @@ halves : (h : List Dated) (n : ℕ) → messages_in h ≡ messages_in (take n h)
 halves [] zero = refl
 halves [] (suc n) = refl
 halves (d ∷ h) zero = refl
-halves (d ∷ h) (suc n) = ap (λ (ms : List Numbered). messages_of d.what ++ ms) (halves h n) ∙ sym (assoc (messages_of d.what) (messages_in (take n h)) (messages_in (drop n h)))
+halves (d ∷ h) (suc n) = ap (λ (ms : List Numbered). messages_of d.what ++ ms) (halves h n)
+    ∙ sym (assoc (messages_of d.what) (messages_in (take n h)) (messages_in (drop n h)))
 
 up_to_one : (h : List Dated) (n : ℕ) (d : Dated) → slice_get h n ≡ Some d → messages_in (take (suc n) h) ≡ messages_in (take n h) ++ messages_of d.what
 up_to_one [] n d is = absurd (cc)
@@ -141,7 +150,8 @@ up_to_one (e ∷ h) zero d is = let same : e ≡ d = cc in ends (messages_of e.w
     ends : (ms : List Numbered) → ms ++ [] ≡ ms
     ends [] = refl
     ends (m ∷ ms) = ap (λ (xs : List Numbered). m ∷ xs) (ends ms)
-up_to_one (e ∷ h) (suc n) d is = ap (λ (ms : List Numbered). messages_of e.what ++ ms) (up_to_one h n d is) ∙ sym (assoc (messages_of e.what) (messages_in (take n h)) (messages_of d.what))
+up_to_one (e ∷ h) (suc n) d is = ap (λ (ms : List Numbered). messages_of e.what ++ ms) (up_to_one h n d is)
+    ∙ sym (assoc (messages_of e.what) (messages_in (take n h)) (messages_of d.what))
 
 -- all messages before the place have this number at most
 before_place : (h : List Dated) (at last : ℕ) → AreRising 1 (messages_in h) → IsPlaceBehind h at last → UpTo last (messages_in (take at h))
@@ -176,11 +186,16 @@ are_back ms zero are = are
 are_back [] (suc k) are = are
 are_back (m ∷ ms) (suc k) are = are_back ms k (All-tail IsMessage m ms are)
 
+none_taken : (n : ℕ) → take {A = Numbered} n [] ≡ []
+none_taken zero = refl
+none_taken (suc n) = refl
+
 take_on : (ms : List Numbered) (k n : ℕ) → take k ms ++ take n (drop k ms) ≡ take (k + n) ms
 take_on ms zero n = let e : 0 + n ≡ n = omega arith in ap (λ (i : ℕ). take i ms) (sym e)
-take_on [] (suc k) zero = refl
-take_on [] (suc k) (suc n) = refl
-take_on (m ∷ ms) (suc k) n = let e : suc k + n ≡ suc (k + n) = omega arith in ap (λ (xs : List Numbered). m ∷ xs) (take_on ms k n) ∙ ap (λ (i : ℕ). take i (m ∷ ms)) (sym e)
+take_on [] (suc k) zero = sym (none_taken (suc k + 0))
+take_on [] (suc k) (suc n) = sym (none_taken (suc k + suc n))
+take_on (m ∷ ms) (suc k) n = let e : suc k + n ≡ suc (k + n) = omega arith in ap (λ (xs : List Numbered). m ∷ xs) (take_on ms k n)
+    ∙ ap (λ (i : ℕ). take i (m ∷ ms)) (sym e)
 
 pub any_err : {T : Type 0} (r : Result T OutFault) {B : Type 0} → B → OnErr r B
 any_err (Ok x) b = tt
@@ -247,7 +262,8 @@ module _ (content : List ℕ) (whole : ℕ) (last : Option ℕ) (t : HasTail con
     tells = text_tells content whole last t (take k ms) p;
   })
 
-module _ (content : List ℕ) (whole : ℕ) (last : Option ℕ) (t : HasTail content whole last) (h : List Dated) (k at : ℕ) (rising : AreRising 1 (messages_in h)) (are : AreMessages (messages_in h))
+module _ (content : List ℕ) (whole : ℕ) (last : Option ℕ) (t : HasTail content whole last) (h : List Dated) (k at : ℕ) (rising : AreRising 1 (messages_in h))
+    (are : AreMessages (messages_in h))
     (p : Projects content (take k (messages_in h))) (place : IsPlaceBehind h at (number_of last)) where
   abbrev ms : List Numbered
   ms = messages_in h
@@ -263,14 +279,16 @@ module _ (content : List ℕ) (whole : ℕ) (last : Option ℕ) (t : HasTail con
             subst (Past 0) (sym all) (rising_from 1 0 ms (omega arith) rising),
           )
       by_last (Some number) e =
-          let all : ms ≡ e.before ++ e.last ∷ drop k ms = sym (parted ms k) ∙ ap (λ (xs : List Numbered). xs ++ drop k ms) e.are ∙ assoc e.before (e.last ∷ []) (drop k ms) in
+          let all : ms ≡ e.before ++ e.last ∷ drop k ms = sym (parted ms k) ∙ ap (λ (xs : List Numbered). xs ++ drop k ms) e.are
+          ∙ assoc e.before (e.last ∷ []) (drop k ms) in
           let r : AreRising 1 (e.before ++ e.last ∷ drop k ms) = subst (AreRising 1) all rising in (
             subst (λ (n : ℕ). UpTo n (take k ms)) e.is (subst (UpTo e.last.number) (sym e.are) (up_to_last 1 e.before e.last (drop k ms) r)),
             subst (λ (n : ℕ). Past n (drop k ms)) e.is (past_last 1 e.before e.last (drop k ms) r),
           )
 
   rest_is : drop k ms ≡ messages_in (drop at h)
-  rest_is = one_part (number_of last) (take k ms) (drop k ms) (messages_in (take at h)) (messages_in (drop at h)) (parted ms k ∙ halves h at) front_parts.0 front_parts.1
+  rest_is = one_part (number_of last) (take k ms) (drop k ms) (messages_in (take at h)) (messages_in (drop at h))
+      (parted ms k ∙ halves h at) front_parts.0 front_parts.1
       (before_place h at (number_of last) rising place) place.none
 
   text_is : take whole content ≡ t.text
@@ -279,16 +297,19 @@ module _ (content : List ℕ) (whole : ℕ) (last : Option ℕ) (t : HasTail con
   tells : Tells t.text (take k ms)
   tells = text_tells content whole last t (take k ms) p
 
-  pub told_on : (new : Option (List ℕ)) → Appends (Some (take whole content)) new (deliver_lines (messages_in (drop at h))) → IsSomeAnd new (λ text. Tells text ms)
+  pub told_on : (new : Option (List ℕ)) → Appends (Some (take whole content)) new (deliver_lines (messages_in (drop at h)))
+      → IsSomeAnd new (λ text. Tells text ms)
   told_on None a = absurd a
   told_on (Some text) a = subst (λ (xs : List ℕ). Tells xs ms) (sym grown) (subst (Tells (t.text ++ deliver_lines (drop k ms))) (parted ms k)
       (lines_tell_on t.text (take k ms) (drop k ms) tells (are_back ms k are)))
     where
       grown : text ≡ t.text ++ deliver_lines (drop k ms)
-      grown = a ∙ ap (λ (bs : List ℕ). bs ++ deliver_lines (messages_in (drop at h))) text_is ∙ ap (λ (ns : List Numbered). t.text ++ deliver_lines ns) (sym rest_is)
+      grown = a ∙ ap (λ (bs : List ℕ). bs ++ deliver_lines (messages_in (drop at h))) text_is
+          ∙ ap (λ (ns : List Numbered). t.text ++ deliver_lines ns) (sym rest_is)
 
   -- and where a front of those lines was pushed
-  pub begun_on : (new : Option (List ℕ)) → TakesFront (Some (take whole content)) new (deliver_lines (messages_in (drop at h))) → IsSomeAnd new (λ text. ProjectsOn text k ms)
+  pub begun_on : (new : Option (List ℕ)) → TakesFront (Some (take whole content)) new (deliver_lines (messages_in (drop at h)))
+      → IsSomeAnd new (λ text. ProjectsOn text k ms)
   begun_on None f = absurd f.appended
   begun_on (Some text) f = record {
     count = k + c.count;
@@ -298,7 +319,8 @@ module _ (content : List ℕ) (whole : ℕ) (last : Option ℕ) (t : HasTail con
       rest = c.projects.rest;
       bytes = grown ∙ ap (λ (bs : List ℕ). t.text ++ bs) c.projects.bytes ∙ sym (append_assoc t.text c.projects.text c.projects.rest);
       feedless = c.projects.feedless;
-      tells = subst (Tells (t.text ++ c.projects.text)) (take_on ms k c.count) (tells_on t.text c.projects.text (take k ms) (take c.count (drop k ms)) tells c.projects.tells);
+      tells = subst (Tells (t.text ++ c.projects.text)) (take_on ms k c.count) (tells_on t.text c.projects.text (take k ms)
+          (take c.count (drop k ms)) tells c.projects.tells);
     };
   }
     where

@@ -1,5 +1,6 @@
 -- The lines of messages behind a text.
-use Rattle.std.proofs.Common.{◌≡◌, ◌⊎◌, inl, inr, ℕ, zero, suc, ◌+◌, ◌/◌, ◌%◌, ◌<◌, ◌≤◌, ◌^◌, List, [], ◌∷◌, ◌++◌, length, slice_index, refl, ap, sym, subst, ◌∙◌, append_assoc, append-nil, codes, decimal, arith}
+use Rattle.std.proofs.Common.{◌≡◌, inl, inr, ℕ, zero, suc, ◌+◌, ◌/◌, ◌%◌, ◌<◌, ◌^◌, List, [], ◌∷◌, ◌++◌, length, slice_index, refl, ap, sym}
+use Rattle.std.proofs.Common.{◌∙◌, append_assoc, append-nil, codes, decimal, arith}
 use Rattle.std.specs.Prelude.{All, Bool, true, nat_le, ◌&&◌}
 use Rattle.std.proofs.lemmas.Bool.{and_parts, leb-true}
 use Rattle.std.proofs.lemmas.Fmt.{decimal_by_steps}
@@ -7,11 +8,10 @@ use Rattle.std.proofs.lemmas.List.Elements.{All-nil, All-cons, All-head, All-tai
 use Rattle.hex.specs.Hex.{IsBytes, encode_with, encode_lower, lower_digits}
 use Rattle.session_model.specs.Inbox.{Numbered}
 use Rattle.gw_lines.specs.Lines.{IsFeedless, with_feeds}
-use Rattle.gw_lines.proofs.Steps.{more_behind, none_feedless, feedless_append}
+use Rattle.gw_lines.proofs.Steps.{none_feedless, feedless_append}
 use Rattle.conn_lines.specs.Lines.{deliver_line}
-use Rattle.conn_tail.specs.Tails.{TellsNothing}
 use Rattle.conn_out.specs.Messages.{deliver_lines}
-use Rattle.conn_out.specs.Projections.{IsOf, TellOf, Tells, Projects}
+use Rattle.conn_out.specs.Projections.{TellOf, Tells, Projects}
 use Rattle.conn_out.specs.Laws.{IsMessage, LinesTellOn}
 use Rattle.conn_out.proofs.Fronts.{nothing_more}
 
@@ -59,7 +59,8 @@ line_of m = codes "deliver " ++ decimal m.number ++ codes " " ++ encode_lower m.
 line_feedless : (m : Numbered) → IsMessage m → IsFeedless (line_of m)
 line_feedless m h =
     feedless_append (codes "deliver " ++ decimal m.number ++ codes " ") (encode_lower m.payload)
-    (feedless_append (codes "deliver " ++ decimal m.number) (codes " ") (feedless_append (codes "deliver ") (decimal m.number) (feedless_above (codes "deliver ") refl) (decimal_feedless m.number h.size)) (one_feedless 32 (omega arith)))
+    (feedless_append (codes "deliver " ++ decimal m.number) (codes " ") (feedless_append (codes "deliver ") (decimal m.number)
+    (feedless_above (codes "deliver ") refl) (decimal_feedless m.number h.size)) (one_feedless 32 (omega arith)))
     (hex_feedless m.payload h.each)
 
 abbrev lines_of : List Numbered → List (List ℕ)
@@ -68,7 +69,8 @@ lines_of (m ∷ ms) = line_of m ∷ lines_of ms
 
 each_feedless : (ms : List Numbered) → All IsMessage ms → All IsFeedless (lines_of ms)
 each_feedless [] all = All-nil IsFeedless
-each_feedless (m ∷ ms) all = All-cons IsFeedless (line_of m) (lines_of ms) (line_feedless m (All-head IsMessage m ms all)) (each_feedless ms (All-tail IsMessage m ms all))
+each_feedless (m ∷ ms) all = All-cons IsFeedless (line_of m) (lines_of ms) (line_feedless m (All-head IsMessage m ms all))
+    (each_feedless ms (All-tail IsMessage m ms all))
 
 -- a line and its line feed
 ended : (m : Numbered) → line_of m ++ 10 ∷ [] ≡ deliver_line m.number m.payload
@@ -100,7 +102,8 @@ pub lines_tell_on : LinesTellOn
 lines_tell_on text ms more t all = record {
   lines = t.lines ++ lines_of more;
   each = All-append IsFeedless t.lines (lines_of more) t.each (each_feedless more all);
-  bytes = ap (λ (bs : List ℕ). bs ++ deliver_lines more) t.bytes ∙ ap (λ (bs : List ℕ). with_feeds t.lines [] ++ bs) (all_lines more) ∙ joined t.lines (lines_of more);
+  bytes = ap (λ (bs : List ℕ). bs ++ deliver_lines more) t.bytes ∙ ap (λ (bs : List ℕ). with_feeds t.lines [] ++ bs) (all_lines more)
+      ∙ joined t.lines (lines_of more);
   told = told_on t.lines (lines_of more) ms more t.told (all_told more);
 }
 
@@ -118,4 +121,10 @@ no_line = record { lines = []; each = All-nil IsFeedless; bytes = refl; told = t
 
 -- the lines of messages, and no more, project them
 pub lines_project : (ms : List Numbered) → All IsMessage ms → Projects (deliver_lines ms) ms
-lines_project ms all = record { text = deliver_lines ms; rest = []; bytes = sym (append-nil (deliver_lines ms)); feedless = none_feedless; tells = lines_tell_on [] [] ms no_line all }
+lines_project ms all = record {
+  text = deliver_lines ms;
+  rest = [];
+  bytes = sym (append-nil (deliver_lines ms));
+  feedless = none_feedless;
+  tells = lines_tell_on [] [] ms no_line all;
+}

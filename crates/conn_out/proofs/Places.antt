@@ -1,6 +1,7 @@
 -- The messages of records behind a place.
-use Rattle.std.proofs.Common.{◌≡◌, ◌⊎◌, inl, inr, ℕ, zero, suc, ◌+◌, ◌-◌, ◌<◌, ◌≤◌, List, [], ◌∷◌, ◌++◌, length, take, drop, slice_get, refl, sym, ap, subst, ◌∙◌, append-nil, append_assoc, length-append, add-one, arith}
-use Rattle.std.specs.Prelude.{All, Option, Some, nat_lt}
+use Rattle.std.proofs.Common.{◌≡◌, ◌⊎◌, inr, ℕ, zero, suc, ◌+◌, ◌-◌, ◌<◌, ◌≤◌, List, [], ◌∷◌, ◌++◌, length, drop, slice_get, refl, sym, ap, subst}
+use Rattle.std.proofs.Common.{◌∙◌, add-one, arith}
+use Rattle.std.specs.Prelude.{All, Option, Some}
 use Rattle.std.proofs.Math.Logic.{∥∥₁_elim}
 use Rattle.std.proofs.lemmas.List.Elements.{All-nil, All-append}
 use mathlib.Core.List.{is_set as List-set}
@@ -46,7 +47,8 @@ one_on [] n r is = absurd (cc)
 one_on (d ∷ h) zero r is = let same : d.what ≡ r = cc in ap (λ (x : Record). messages_of x ++ messages_in h) same
 one_on (d ∷ h) (suc n) r is = one_on h n r is
 
-pub messages_at : (h : List Dated) (n : ℕ) (r : Record) → slice_get (undated h) n ≡ Some r → messages_in (drop n h) ≡ messages_of r ++ messages_in (drop (n + 1) h)
+pub messages_at : (h : List Dated) (n : ℕ) (r : Record) → slice_get (undated h) n ≡ Some r
+    → messages_in (drop n h) ≡ messages_of r ++ messages_in (drop (n + 1) h)
 messages_at h n r is = one_on h n r is ∙ ap (λ (k : ℕ). messages_of r ++ messages_in (drop k h)) (sym (add-one n))
 
 pub none_behind : (h : List Dated) (n : ℕ) → length h ≤ n → drop n h ≡ []
@@ -63,21 +65,23 @@ AreBehind last ms = All (λ (m : Numbered). last < m.number) ms
 pub behind_all : (h : List Dated) (n last : ℕ) → length h ≤ n → AreBehind last (messages_in (drop n h))
 behind_all h n last l = subst (λ (ds : List Dated). AreBehind last (messages_in ds)) (sym (none_behind h n l)) (All-nil (λ (m : Numbered). last < m.number))
 
-pub behind_one : (h : List Dated) (n last : ℕ) (r : Record) → slice_get (undated h) n ≡ Some r → AreBehind last (messages_of r) → AreBehind last (messages_in (drop (n + 1) h)) → AreBehind last (messages_in (drop n h))
+pub behind_one : (h : List Dated) (n last : ℕ) (r : Record) → slice_get (undated h) n ≡ Some r → AreBehind last (messages_of r)
+    → AreBehind last (messages_in (drop (n + 1) h)) → AreBehind last (messages_in (drop n h))
 behind_one h n last r is one more =
     subst (AreBehind last) (sym (messages_at h n r is)) (All-append (λ (m : Numbered). last < m.number) (messages_of r) (messages_in (drop (n + 1) h)) one more)
 
-pub place_at : (h : List Dated) (at n last : ℕ) (r : Record) → at - 1 ≡ n → slice_get (undated h) n ≡ Some r → TellsUpTo r last → AreBehind last (messages_in (drop at h)) → IsPlaceBehind h at last
+pub place_at : (h : List Dated) (at n last : ℕ) (r : Record) → at - 1 ≡ n → slice_get (undated h) n ≡ Some r → TellsUpTo r last
+    → AreBehind last (messages_in (drop at h)) → IsPlaceBehind h at last
 place_at h at n last r e is tells none =
     let s = standing h n r is in
-    record { none = none; before = inr (record { record_before = s.this; there = ap (slice_get h) e ∙ s.there; tells = subst (λ (x : Record). TellsUpTo x last) (sym s.what) tells }) }
+    let before : EndsUpTo h at last =
+    record { record_before = s.this; there = ap (slice_get h) e ∙ s.there; tells = subst (λ (x : Record). TellsUpTo x last) (sym s.what) tells } in
+    record { none = none; before = inr before }
 
 -- ---- a journal that is only read
 
-pub same_still : {J : Type 0} (stands : J → List Dated → Type 0) (leaves : J → Option (List Dated) → Type 0) (j : J) → Unchanged stands leaves j j
-same_still stands leaves j = record { records = λ h. (λ s. s, λ s. s); images = λ image. (λ l. l, λ l. l) }
-
-pub same_on : {J : Type 0} (stands : J → List Dated → Type 0) (leaves : J → Option (List Dated) → Type 0) (i j k : J) → Unchanged stands leaves i j → Unchanged stands leaves j k
+pub same_on : {J : Type 0} (stands : J → List Dated → Type 0) (leaves : J → Option (List Dated) → Type 0) (i j k : J) → Unchanged stands leaves i j
+    → Unchanged stands leaves j k
     → Unchanged stands leaves i k
 same_on stands leaves i j k a b = record {
   records = λ h. (λ s. (b.records h).0 ((a.records h).0 s), λ s. (a.records h).1 ((b.records h).1 s));

@@ -1,5 +1,5 @@
 -- A text is lines and a rest in one way.
-use Rattle.std.proofs.Common.{◌≡◌, ℕ, zero, suc, ◌+◌, ◌<◌, ◌≤◌, List, [], ◌∷◌, ◌++◌, length, slice_index, refl, ap, sym, subst, ◌∙◌, length-append, arith}
+use Rattle.std.proofs.Common.{◌≡◌, ℕ, suc, ◌+◌, List, [], ◌∷◌, ◌++◌, length, slice_index, refl, ap, sym, ◌∙◌, arith}
 use Rattle.std.specs.Prelude.{All}
 use Rattle.std.proofs.lemmas.List.Elements.{All-head, All-tail}
 use Rattle.gw_lines.specs.Lines.{IsFeedless, with_feeds}
@@ -32,7 +32,8 @@ pub record SameSplit (lines more : List (List ℕ)) (rest left : List ℕ) : Typ
   pub lines_are : lines ≡ more
   pub rest_is : rest ≡ left
 
-pub one_split : (lines more : List (List ℕ)) (rest left : List ℕ) → All IsFeedless lines → All IsFeedless more → IsFeedless rest → IsFeedless left → with_feeds lines rest ≡ with_feeds more left
+pub one_split : (lines more : List (List ℕ)) (rest left : List ℕ) → All IsFeedless lines → All IsFeedless more → IsFeedless rest → IsFeedless left
+    → with_feeds lines rest ≡ with_feeds more left
     → SameSplit lines more rest left
 one_split [] [] rest left f g r l e = record { lines_are = refl; rest_is = e }
 one_split [] (m ∷ ms) rest left f g r l e = absurd (has_feed m (with_feeds ms left) rest e r)

@@ -13,7 +13,8 @@ invariant-loop-at g l = record {
   size : g.J.Journal.size l.journal ≡ g.J.Journal.size l.fn.journal;
   moment : g.J.Journal.moment l.journal ≡ g.J.Journal.moment l.fn.journal;
   limits : g.J.Journal.limits l.journal ≡ g.J.Journal.limits l.fn.journal;
-  reached : (h : List Dated) → g.J.Journal.is_told l.fn.journal → g.J.Journal.stands l.fn.journal h → Reached h l.fn.from l.at (g.K.Sink.taken l.fn.out) (g.K.Sink.taken l.out) l.lines.items;
+  reached : (h : List Dated) → g.J.Journal.is_told l.fn.journal → g.J.Journal.stands l.fn.journal h
+      → Reached h l.fn.from l.at (g.K.Sink.taken l.fn.out) (g.K.Sink.taken l.out) l.lines.items;
   counted : g.J.Journal.faults l.fn.journal ≤ g.J.Journal.faults l.journal;
   out_counted : g.K.Sink.faults l.fn.out ≤ g.K.Sink.faults l.out;
 }
