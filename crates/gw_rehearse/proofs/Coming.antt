@@ -16,6 +16,7 @@ same_summary a b d e s p q r =
 
 pub have_totals : (load : Load) (initiator acceptor : Journals) → counts_to initiator.outbox initiator.senders ≡ load.messages → HasReported load acceptor
     → HaveAll load initiator acceptor → HaveTotals load initiator acceptor
+unfolding summed
 have_totals load initiator acceptor sent reported all =
     let total = sum_of load.messages in
     let counted = all.0 in

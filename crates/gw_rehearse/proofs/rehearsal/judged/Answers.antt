@@ -1,6 +1,7 @@
 use Rattle.std.proofs.Common.{refl}
 use Rattle.std.proofs.Math.Logic.{∥∥₁_map}
 use Rattle.gw_rehearse.proofs.Arriving.{outward_arrived, homeward_arrived, stopped}
+use Rattle.gw_rehearse.proofs.Coming.{have_totals}
 use Rattle.gw_rehearse.proofs.rehearsal.judged.Goals as goal
 
 pub returns-then-reported-clause-outward : goal.returns-then-reported-clause-outward
@@ -17,3 +18,10 @@ pub returns-clause-undrained : goal.returns-clause-undrained
 returns-clause-undrained c = λ m n e.
     let link = c.args.script.now.link in
     ∥∥₁_map c.requires.keeps (λ s. stopped link.client_flow link.server_flow c.args.initiator c.args.acceptor c.next.result c.next-2.result m n s c.next.ensures.value c.next-2.ensures.value e)
+
+pub returns-then-reported-clause-reported : goal.returns-then-reported-clause-reported
+returns-then-reported-clause-reported c = c.if-reported.ensures.reported refl
+
+pub returns-then-reported-clause-totals : goal.returns-then-reported-clause-totals
+returns-then-reported-clause-totals c = λ both.
+    have_totals c.args.script.now.load c.args.initiator c.args.acceptor (c.requires.sent refl) (c.if-reported.ensures.reported refl) (c.if-reported.ensures.all refl both)
