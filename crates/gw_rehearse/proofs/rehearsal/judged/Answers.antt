@@ -24,4 +24,4 @@ returns-then-reported-clause-reported c = c.if-reported.ensures.reported refl
 
 pub returns-then-reported-clause-totals : goal.returns-then-reported-clause-totals
 returns-then-reported-clause-totals c = λ both.
-    have_totals c.args.script.now.load c.args.initiator c.args.acceptor (c.requires.sent refl) (c.if-reported.ensures.reported refl) (c.if-reported.ensures.all refl both)
+    have_totals c.args.script.now.load c.args.initiator c.args.acceptor (c.requires.sent c.if-done.true) (c.if-reported.ensures.reported refl) (c.if-reported.ensures.all refl both)
