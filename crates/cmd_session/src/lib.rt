@@ -15,4 +15,5 @@ mod outside;
 
 pub use command::run_session;
 pub use fixp_shake::Role;
-pub use outside::SessionOutside;
+pub use life::{Made, made_gate, status_of};
+pub use outside::{Live, SessionOutside};
