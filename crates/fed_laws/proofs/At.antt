@@ -1,5 +1,5 @@
 -- What a life that was fed left, of its passes and, once the gate is closed, of its outbox.
-use Rattle.std.proofs.Common.{◌≡◌, ℕ, ◌+◌, ◌≤◌, List, length, refl, sym, subst, ◌∙◌}
+use Rattle.std.proofs.Common.{◌≡◌, ℕ, ◌+◌, ◌≤◌, List, length, sym, subst, ◌∙◌}
 use Rattle.std.specs.Prelude.{Option, Some, IfErr}
 use Rattle.fixp_machine.specs.Machine.{State}
 use Rattle.gw_links.specs.Dialers.{DialerTold}
@@ -34,8 +34,8 @@ use Rattle.fed_laws.specs.Laws.{FedPasses}
 use Rattle.fed_laws.specs.At.{FedAt, fed_beside}
 use Rattle.fed_laws.proofs.Parts.{PartOpened}
 use Rattle.fed_laws.proofs.Fed as feeding
-use Rattle.fed_laws.proofs.Served.{few_from, opened_from, many, plans_many, served_fed}
-use Rattle.fed_laws.proofs.Told.{was_fed}
+use Rattle.fed_laws.proofs.Served.{few_from, opened_from, many, plans_many, served_by}
+use Rattle.fed_laws.proofs.Told.{fed_with}
 
 module _ {J I L : Type 0} {G : Ghosts J} {K : Ghosts I} (links : LinkGhosts L) (gate : Gate J G) (before behind : ℕ) (a : Account) (seated counted after : List (Sender J G)) (old new : Passes (Kept J G)) (pass : Pass (Kept J G)) (first now : Part)
     (w : FedPasses gate a seated counted after old new pass first now) (start last : Point) (left left' : Option (List ℕ)) (fed : Fed) (start_is : start.parts ≡ parts_of counted) (last_is : parts_of after ≡ last.parts) (b : FedBy start last left left' fed.end fed.refused)
@@ -67,18 +67,13 @@ module _ {J I L : Type 0} {G : Ghosts J} {K : Ghosts I} (links : LinkGhosts L) (
       × (s.connections ≡ fed.connections) × (s.refused ≡ refused)
 
   lives : Lives (length b.from.counted.parts)
-  unfolding served_fed
-  lives = (
-    served_fed gate a seated counted after w.fresh w.count start last start_is last_is w.few w.long left left' fed.end fed.refused b old new pass first now
-        (subst (λ (k : ℕ). Seated gate after (k + 1)) same w.seats) w.theirs (subst (λ (k : ℕ). pass_at old (k + 1) ≡ Some pass) same w.there)
-        (w.was.made, subst (λ (k : ℕ). first ≡ new_part (k + 1) w.was.made a) same w.was.is) w.looks w.now_is (λ none. w.only (same ∙ none)) (clocked G.tells links before behind) dialed later out now_out out_faults now_out_faults dial_faults now_dial_faults
-        m box since fed.connections served blamed limits,
-    refl,
-    refl,
-  )
+  lives =
+      served_by gate a seated counted after w.fresh w.count start last start_is last_is w.few w.long left left' fed.end fed.refused b old new pass first now
+      (subst (λ (k : ℕ). Seated gate after (k + 1)) same w.seats) w.theirs (subst (λ (k : ℕ). pass_at old (k + 1) ≡ Some pass) same w.there)
+      (w.was.made, subst (λ (k : ℕ). first ≡ new_part (k + 1) w.was.made a) same w.was.is) w.looks w.now_is (λ none. w.only (same ∙ none)) (clocked G.tells links before behind) dialed later out now_out out_faults now_out_faults dial_faults now_dial_faults
+      m box since fed.connections served blamed limits
 
   pub fed_at : FedAt (clocked G.tells links before behind) a (length counted) (known_at new) (fed_beside (beside dialed out box) left start.taken) (fed_beside (beside later now_out since) left' last.taken) m fed
-  unfolding was_fed
   fed_at =
       let l = subst Lives many_are lives in
       record {
@@ -88,5 +83,5 @@ module _ {J I L : Type 0} {G : Ghosts J} {K : Ghosts I} (links : LinkGhosts L) (
         lived = l.0;
         connections_are = l.1;
         refused_is = l.2;
-        told = λ z closed. (was_fed gate a z seated counted after old new pass first now w start last left left' fed.end fed.refused start_is last_is b closed, refl);
+        told = λ z closed. fed_with gate a z seated counted after old new pass first now w start last left left' fed.end fed.refused start_is last_is b closed;
       }
