@@ -22,8 +22,8 @@ returns-clause-outbox_never_falls g c =
 pub returns-clause-lived : goal.returns-clause-lived
 returns-clause-lived g c =
     let j = c.close.result.journal in
-    inr (lived_fed (hears g.K.Sink g.N.Dialer g.N.Link.Link g.C.Clock) _ _ _ _ _ _ _ _ _ _ _ _ _ _ _ _ c.in-Ok-made_gate.ensures.opened c.requires.sound c.requires.in_sound c.close.ensures.closed (omega (arith, c.close.result.within.all, j.counted, j.small))
-    (fed_moved _ _ _ _ _ _ _ _ _ _ _ _ _ _ _ c.in-Ok.ensures.plans refl refl c.serve_seated-accepted.ensures.fed) c.status_of_feeding.ensures.value)
+    inr (lived_fed (hears g.K.Sink g.N.Dialer g.N.Link.Link g.C.Clock) c.args.config c.args.senders _ _ _ _ _ _ _ _ _ _ _ _ _ _ c.in-Ok-made_gate.ensures.opened c.requires.sound c.requires.in_sound c.close.ensures.closed (omega (arith, c.close.result.within.all, j.counted, j.small))
+    (fed_moved _ _ _ _ _ _ _ _ _ _ _ _ c.args.senders _ _ (c.in-Ok.ensures.plans ∙ c.from.ensures) refl refl c.serve_seated-accepted.ensures.fed) c.status_of_feeding.ensures.value)
 
 pub returns-clause-of_life : goal.returns-clause-of_life
 returns-clause-of_life g c =
