@@ -243,6 +243,11 @@ module _ {J : Type 0} {G : Ghosts J} (gate : Gate J G) (a : Account) (seated cou
       full = full_at;
     }
 
+    -- by these connections, with this refusal
+    pub served_by : (s : ServedAt (clocked G.tells over.links over.before over.behind) a plans (known_at new) (beside dialed out box) (beside later now_out since) m (answer_of connections refused)) × (s.connections ≡ connections) × (s.refused ≡ refused)
+    unfolding served_fed
+    served_by = (served_fed, refl, refl)
+
 -- the law
 pub feeding_is_by_plans : {J I L : Type 0} {G : Ghosts J} {K : Ghosts I} (links : LinkGhosts L) (gate : Gate J G) (box : Inbox I K) → FeedingIsByPlans links gate box
 feeding_is_by_plans {J} {I} {L} {G} {K} links gate box before behind a seated counted after old new pass first now w start last left left' end mark start_is last_is b dialed later out now_out out_faults now_out_faults dial_faults now_dial_faults m since connections served blamed limits =

@@ -226,6 +226,11 @@ module _ {J : Type 0} {G : Ghosts J} (gate : Gate J G) (a z : Account) (seated c
     whole = b.from.feeding.whole;
   }
 
+  -- with the lines that were answered
+  pub fed_with : (w : WasFed (length counted) a.history.made z.history.made left left' start.taken last.taken end) × (w.first ≡ b.from.feeding.answered.first)
+  unfolding was_fed
+  fed_with = (was_fed, refl)
+
 -- the law
 pub feeding_is_told : {J : Type 0} {G : Ghosts J} (gate : Gate J G) → FeedingIsTold gate
 feeding_is_told gate a z seated counted after old new pass first now w start last left left' end mark start_is last_is b closed =
