@@ -1,0 +1,3 @@
+mod Statuses
+mod Seating
+mod Lived

@@ -1,61 +1,186 @@
-//! The life of a session that is fed.
+//! The life of a session that is fed, over its boxes: the senders seated at a gate, the connections served with the feeder beside them, and the outbox out of
+//! the gate again.
+
+ghost use Rattle.std.specs.Prelude.{◌≡◌, ◌⊎◌, ◌+◌, ◌<◌, ◌≤◌, ◌^◌, false, [], length, vec_len, vec_capacity, Some, Err, IfOk};
+ghost use Rattle.gw_outside.specs.Faults.{HasRisen};
+ghost use Rattle.fixp_msgs.specs.declared.flow.Flow.TheVariants as flows;
+ghost use Rattle.fixp_machine.specs.Machine.{fresh};
+ghost use Rattle.jr_kept.specs.Outbox as outboxes;
+ghost use Rattle.jr_kept.specs.Inbox as inboxes;
+ghost use Rattle.gate_turn.specs.Listed.{known_at};
+ghost use Rattle.gate_senders.specs.Gate.{opening_of, senders_of, MadeAt, AllBackAt};
+ghost use Rattle.conn_door.specs.declared.answer.ServeFault.TheVariants as faults;
+ghost use Rattle.conn_door.specs.Answers.{answer_of};
+ghost use Rattle.conn_serve.specs.Moments.{beside};
+ghost use Rattle.conn_serve.specs.Opening.{opened_state};
+ghost use Rattle.conn_feed.specs.declared.end.FeedEnd.TheVariants as ends;
+ghost use Rattle.life_laws.specs.PlanLives.{clocked};
+ghost use Rattle.fed_laws.specs.At.{FedAt, fed_beside};
+ghost use Rattle.cmd_session.specs.Outsides.{hears};
+ghost use Rattle.cmd_session.specs.Lived.{over_boxes, IsOfLife, BeganNone};
+ghost use Rattle.cmd_feed.specs.Fed.{refusal_of, status_of_feeding, streams, HasLivedFed};
 
 use cmd_base::Status;
-use cmd_session::{Live, MOST, made_gate, status_of};
-use conn_door::{LifeEnd, ServeFault, answer_of};
+use cmd_session::{Live, made_gate, status_of};
+use conn_door::answer_of;
 use conn_fed::{Fed, serve_feeding};
 use conn_feed::{FeedEnd, Feeder};
+use conn_serve::ServeFault;
 use fixp_shake::EndConfig;
-use gate_plans::{give_last, seat, take_last, unseat};
+use gate_plans::{Plan, Sender, give_last, seat, take_last, unseat};
+use gate_senders::{Gate, Kept};
+use gate_turn::Passes;
 use gw_links::{Clock, Dialer};
 use gw_outside::{Disk, Sink, Source};
+use jr_dated::Journal;
 use jr_kept::{Inbox, Outbox};
 use jr_segments::SegJournal;
-use plan_values::Plan;
 use std::alloc::{AllocError, Global};
 use std::sync::Wait;
 use std::sync::atomic::AtomicBool;
 use std::thread::Threads;
 
-/// Why a feeding that ended so refuses a message, to the connections.
-fn refusal_of(end: FeedEnd, refused: Option<ServeFault>) -> Option<ServeFault> {
-    match end {
-        FeedEnd::Journal => Some(ServeFault::Journal),
-        FeedEnd::Full { entries, bytes } => Some(ServeFault::Full { entries, bytes }),
-        FeedEnd::Memory => Some(ServeFault::Memory),
-        _ => refused,
-    }
-}
+/// The greatest number of a message.
+const MOST: u64 = 1 << 26;
 
-/// The status of a life that was fed.
-fn fed_status(fed: Fed) -> Status {
-    let answer = answer_of(fed.connections, refusal_of(fed.end, fed.refused));
-    match fed.end {
-        FeedEnd::Input if matches!(fed.connections, Ok(LifeEnd::Stopped)) => Status::InputFault,
-        FeedEnd::Accepted if matches!(fed.connections, Ok(LifeEnd::Stopped)) => {
-            Status::OutputFault
-        }
-        _ => status_of(answer),
-    }
-}
+/// An empty plan for each of so many senders, since what they send comes as lines; and room for their seats.
+type Places<O> = (Vec<Plan>, Vec<Sender<O>>);
 
-/// Plans of no payloads.
-fn no_plans(alloc: Global, senders: u8) -> Result<Vec<Plan>, AllocError> {
+/// The places of so many senders.
+fn made_places<O: Journal>(alloc: Global, senders: u16) -> Result<Places<O>, AllocError>
+    ensures plans { IfOk result (λ r. vec_len r.0 ≡ senders) }
+    ensures empty { IfOk result (λ r. r.1.items ≡ []) }
+    ensures room { IfOk result (λ r. senders ≤ vec_capacity r.1) }
+{
     let mut plans = Vec::new(alloc);
     for _ in 0..senders {
         plans.push(Plan::new(alloc))?;
     }
-    Ok(plans)
+    let seats = Vec::with_capacity(alloc, senders as usize)?;
+    Ok((plans, seats))
 }
 
-/// Serves the connections of the dialer, with the lines of INPUT as they come. ACCEPTED and the outbox come back with the status.
-pub fn live_feeding<
-    S: Source + Send,
+/// What a feeding that ended so is to its life, with the mark refused so, if it was, where neither INPUT nor ACCEPTED failed.
+fn refusal_of(end: FeedEnd, mark: Option<ServeFault>) -> Option<ServeFault>
+    ensures value { result ≡ refusal_of end mark }
+{
+    match end {
+        FeedEnd::Ended
+        | FeedEnd::Closed
+        | FeedEnd::Stopped
+        | FeedEnd::Input
+        | FeedEnd::Accepted => mark,
+        FeedEnd::Journal => Some(ServeFault::Journal),
+        FeedEnd::Full { entries, bytes } => Some(ServeFault::Full { entries, bytes }),
+        FeedEnd::Memory => Some(ServeFault::Memory),
+    }
+}
+
+/// The status of a life that was fed and ended so.
+fn status_of_feeding(fed: Fed) -> Status
+    ensures value { result ≡ status_of_feeding fed.connections fed.end fed.refused }
+{
+    match fed.end {
+        FeedEnd::Input => Status::InputFault,
+        FeedEnd::Accepted => Status::OutputFault,
+        FeedEnd::Ended
+        | FeedEnd::Closed
+        | FeedEnd::Stopped
+        | FeedEnd::Journal
+        | FeedEnd::Full { .. }
+        | FeedEnd::Memory => {
+            status_of(answer_of(fed.connections, refusal_of(fed.end, fed.refused)))
+        }
+    }
+}
+
+/// Seats the senders, serves the connections with the feeder of all senders beside them, and gives all passes back. ACCEPTED comes back behind what that
+/// came to.
+fn serve_seated<
+    O: Journal + Send,
+    K: Sink,
+    I: Journal,
+    N: Dialer,
+    C: Clock,
     A: Sink + Send,
+    S: Source + Send,
+    R: Threads + Wait + Sync,
+>(
+    rt: &R,
+    alloc: Global,
+    config: EndConfig,
+    places: Places<O>,
+    devices: &mut Live<K, N, C>,
+    input: &mut S,
+    over: &AtomicBool,
+    accepted: A,
+    gate: &Gate<O>,
+    passes: &mut Passes<Kept<O>>,
+    inbox: &mut Inbox<I>,
+) -> (Fed, A)
+    requires made { MadeAt gate.now passes.old (vec_len places.0 + 1) }
+    requires count { senders_of gate.now ≡ vec_len places.0 }
+    requires few { vec_len places.0 ≤ 16 }
+    requires empty { places.1.items ≡ [] }
+    requires room { vec_len places.0 ≤ vec_capacity places.1 }
+    requires sent { length (opening_of gate.now).history.made < 2 ^ 40 }
+    requires lent { N.lent devices.old.dialer ≡ false }
+    requires flow { inboxes.flow_of inbox.old ≡ config.peer_flow }
+    requires limit { (inboxes.limits_of inbox.old).entries ≡ 2 ^ 26 }
+    requires numbered { inboxes.flow_of inbox.old ≡ flows.Recoverable → inboxes.next_of inbox.old + 1 < 2 ^ 64 }
+    requires least { 100 ≤ config.keepalive }
+    requires greatest { config.keepalive ≤ 60000 }
+    requires credentials { length config.credentials ≤ 2048 }
+    ensures back { AllBackAt gate.now passes.new }
+    ensures fed { FedAt (clocked O.tells N.Link.Link (C.last devices.old.clock) (C.last devices.new.clock)) (opening_of gate.now) (vec_len places.0) (known_at passes.new)
+        (fed_beside (beside (N.told devices.old.dialer) (K.taken devices.old.out) inbox.old) (S.left input.old) (A.taken accepted))
+        (fed_beside (beside (N.told devices.new.dialer) (K.taken devices.new.out) inbox.new) (S.left input.new) (A.taken result.1))
+        (fresh config (opened_state (opening_of gate.now).history inbox.old) (2 ^ 26)) result.0 }
+    ensures output { result.0.connections ≡ Err faults.Output → HasRisen (K.faults devices.old.out) (K.faults devices.new.out) }
+    ensures dial { result.0.connections ≡ Err faults.Dial → HasRisen (N.faults devices.old.dialer) (N.faults devices.new.dialer) }
+    ensures mark { (result.0.refused ≡ Some faults.Output → ⊥) × (result.0.refused ≡ Some faults.Dial → ⊥) }
+    ensures accepted { result.0.end ≡ ends.Accepted → HasRisen (A.faults accepted) (A.faults result.1) }
+    ensures input { result.0.end ≡ ends.Input → HasRisen (S.faults input.old) (S.faults input.new) }
+    ensures counted { (A.faults accepted ≤ A.faults result.1) × (S.faults input.old ≤ S.faults input.new) }
+    ensures lent { N.lent devices.new.dialer ≡ false }
+    ensures never_falls { (inboxes.faults_of inbox.old ≤ inboxes.faults_of inbox.new) × (K.faults devices.old.out ≤ K.faults devices.new.out) × (N.faults devices.old.dialer ≤ N.faults devices.new.dialer) }
+{
+    let (plans, seats) = places;
+    let count = plans.len() as u16;
+    let senders = seat(gate, passes, plans, seats);
+    let mut pass = take_last(gate, passes, count);
+    let mut feeder = Feeder::new(alloc, gate, senders, accepted, rt);
+    let fed = serve_feeding(
+        alloc,
+        &mut devices.dialer,
+        &mut devices.out,
+        gate,
+        &mut pass,
+        inbox,
+        &mut devices.clock,
+        config,
+        MOST,
+        &mut feeder,
+        input,
+        over,
+        rt,
+    );
+    let (senders, accepted) = feeder.into_parts();
+    give_last(gate, passes, count, pass);
+    unseat(gate, senders, passes);
+    (fed, accepted)
+}
+
+/// Serves the connections of the dialer, and beside them feeds so many senders the lines of INPUT as they come: each line is submitted behind all that the
+/// outbox has of its sender, and ACCEPTED is told what came of it, behind how many messages each sender had. INPUT is asked no more once `over` is set,
+/// which is done behind the connections. ACCEPTED and the outbox come back with the status.
+pub fn live_feeding<
     K: Sink,
     D: Disk + Send,
     N: Dialer,
     C: Clock,
+    A: Sink + Send,
+    S: Source + Send,
     R: Threads + Wait + Sync,
 >(
     rt: &R,
@@ -68,38 +193,49 @@ pub fn live_feeding<
     accepted: A,
     outbox: Outbox<SegJournal<D>>,
     inbox: &mut Inbox<SegJournal<D>>,
-) -> (Status, A, Outbox<SegJournal<D>>) {
-    let Ok(plans) = no_plans(alloc, senders) else {
+) -> (Status, A, Outbox<SegJournal<D>>)
+    requires sound { outboxes.is_broken outbox ≡ false }
+    requires in_sound { inboxes.is_broken inbox.old ≡ false }
+    requires few_entries { outboxes.front_of outbox < 2 ^ 40 }
+    requires few { senders ≤ 16 }
+    requires lent { N.lent devices.old.dialer ≡ false }
+    requires flow { inboxes.flow_of inbox.old ≡ config.peer_flow }
+    requires limit { (inboxes.limits_of inbox.old).entries ≡ 2 ^ 26 }
+    requires numbered { inboxes.flow_of inbox.old ≡ flows.Recoverable → inboxes.next_of inbox.old + 1 < 2 ^ 64 }
+    requires least { 100 ≤ config.keepalive }
+    requires greatest { config.keepalive ≤ 60000 }
+    requires credentials { length config.credentials ≤ 2048 }
+    ensures lived { (BeganNone K.faults (over_boxes devices.old outbox inbox.old) (over_boxes devices.new result.2 inbox.new) result.0 × (input.new ≡ input.old) × (result.1 ≡ accepted))
+        ⊎ HasLivedFed (hears K.Sink N.Dialer N.Link.Link C.Clock) config senders (over_boxes devices.old outbox inbox.old) (over_boxes devices.new result.2 inbox.new)
+        (streams (S.left input.old) (A.taken accepted)) (streams (S.left input.new) (A.taken result.1)) result.0 }
+    ensures of_life { IsOfLife result.0 ⊎ (result.0 ≡ Status.InputFault) }
+    ensures input { result.0 ≡ Status.InputFault → HasRisen (S.faults input.old) (S.faults input.new) }
+    ensures output { result.0 ≡ Status.OutputFault → HasRisen (K.faults devices.old.out) (K.faults devices.new.out) ⊎ HasRisen (A.faults accepted) (A.faults result.1) }
+    ensures dial { result.0 ≡ Status.DialFault → HasRisen (N.faults devices.old.dialer) (N.faults devices.new.dialer) }
+    ensures lent { N.lent devices.new.dialer ≡ false }
+    ensures never_falls { (inboxes.faults_of inbox.old ≤ inboxes.faults_of inbox.new) × (K.faults devices.old.out ≤ K.faults devices.new.out) × (N.faults devices.old.dialer ≤ N.faults devices.new.dialer) }
+    ensures outbox_never_falls { outboxes.faults_of outbox ≤ outboxes.faults_of result.2 }
+    ensures streams_never_fall { (A.faults accepted ≤ A.faults result.1) × (S.faults input.old ≤ S.faults input.new) }
+{
+    let Ok(places) = made_places(alloc, u16::from(senders)) else {
         return (Status::Memory, accepted, outbox);
     };
-    let Ok(seats) = Vec::with_capacity(alloc, plans.len()) else {
-        return (Status::Memory, accepted, outbox);
-    };
-    let count = u16::from(senders);
-    let (gate, mut passes) = match made_gate(alloc, outbox, count) {
+    let (gate, mut passes) = match made_gate(alloc, outbox, u16::from(senders)) {
         Ok(made) => made,
         Err(outbox) => return (Status::Memory, accepted, outbox),
     };
-    let seated = seat(&gate, &mut passes, plans, seats);
-    let mut pass = take_last(&gate, &mut passes, count);
-    let mut feeder = Feeder::new(alloc, &gate, seated, accepted, rt);
-    let fed = serve_feeding(
+    let (fed, accepted) = serve_seated(
+        rt,
         alloc,
-        &mut devices.dialer,
-        &mut devices.out,
-        &gate,
-        &mut pass,
-        inbox,
-        &mut devices.clock,
         config,
-        MOST,
-        &mut feeder,
+        places,
+        devices,
         input,
         over,
-        rt,
+        accepted,
+        &gate,
+        &mut passes,
+        inbox,
     );
-    give_last(&gate, &mut passes, count, pass);
-    let (seated, accepted) = feeder.into_parts();
-    unseat(&gate, seated, &mut passes);
-    (fed_status(fed), accepted, gate.close(passes))
+    (status_of_feeding(fed), accepted, gate.close(passes))
 }

@@ -145,6 +145,15 @@ fn serve_beside<
         { feed_all(gate, feeder, input, &entrance, over, rt) },
         &mut || -> Result<LifeEnd, ServeFault>
             requires { IsPassAt gate.now pass.now × IsFree pass.now × MayBegin (line_of conn.now).machine (known pass.now) inbox.now × (N.lent dialer.now ≡ false) }
+            ensures own { IsPassAt gate.entry.now pass.exit.now }
+            ensures free { IsFree pass.exit.now }
+            ensures looks { Looks (known pass.entry.now) (known pass.exit.now) }
+            ensures lent { N.lent dialer.exit.now ≡ false }
+            ensures served { ServedOver O.tells N.Link.Link (C.last clock.entry.now) (C.last clock.exit.now) (life_at (N.told dialer.entry.now) (K.taken out.entry.now) (known pass.entry.now).seen inbox.entry.now) (life_at (N.told dialer.exit.now) (K.taken out.exit.now) (known pass.exit.now).seen inbox.exit.now) (line_of conn.entry.now).machine result }
+            ensures blamed { IfErr result (IsBlamed O.tells (faults_at (K.faults out.entry.now) (N.faults dialer.entry.now) (known pass.entry.now) inbox.entry.now) (faults_at (K.faults out.exit.now) (N.faults dialer.exit.now) (known pass.exit.now) inbox.exit.now)) }
+            ensures kind { SameKind inbox.entry.now inbox.exit.now }
+            ensures never_falls { (faults_of inbox.entry.now ≤ faults_of inbox.exit.now) × (K.faults out.entry.now ≤ K.faults out.exit.now) × (N.faults dialer.entry.now ≤ N.faults dialer.exit.now) }
+            ensures told { C.told clock.exit.now ≡ C.told clock.entry.now }
         {
             serve_to_end(
                 alloc, dialer, out, gate, pass, inbox, clock, conn, signals, over, rt,

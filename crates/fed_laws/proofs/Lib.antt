@@ -3,3 +3,4 @@ pub mod Parts
 pub mod Fed
 pub mod Served
 pub mod Told
+pub mod At

@@ -2,3 +2,4 @@ pub mod Given
 pub mod Answers
 pub mod Laws
 pub mod Told
+pub mod At

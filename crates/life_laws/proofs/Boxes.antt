@@ -1,5 +1,5 @@
 -- What the passes knew is what the boxes hold, once the gate is closed.
-use Rattle.std.proofs.Common.{◌≡◌, inl, inr, ⊎_elim, ℕ, ◌+◌, ◌^◌, ◌<◌, true, false, true≢false, List, ◌++◌, length, Option, Result, sym, ap, subst, ◌∙◌, arith}
+use Rattle.std.proofs.Common.{◌≡◌, inl, inr, ⊎_elim, ℕ, ◌+◌, ◌^◌, ◌<◌, true, false, true≢false, List, ◌++◌, length, Option, Result, refl, sym, ap, subst, ◌∙◌, arith}
 use Rattle.gw_outside.specs.Faults.{HasRisen}
 use Rattle.session_model.specs.Journal.{OutboxRecord, History, InOrder}
 use Rattle.session_model.specs.Inbox.{InboxRecord}
@@ -107,3 +107,9 @@ module _ {J : Type 0} {G : Ghosts J} {O : Type 0} {H : Ghosts O} {L : Type 0} (o
         (sym (plans_submitted plans (planned i).answered)) (full_at gate passes outbox closed o sound k (length plans) many plans entries bytes m)))
         (s.full entries bytes e);
   }
+
+  -- so it was from the history that the gate opened on to the one that it closed on, by these connections
+  pub lived_by : (l : LivedBoxes over config (submitting plans) (beside dialed out box) (beside later now_out since) outbox closed result)
+      × (l.opening ≡ (opening_of gate).history) × (l.closing ≡ k.history) × (l.connections ≡ s.connections) × (l.refused ≡ s.refused)
+  unfolding lived_boxes
+  lived_by = (lived_boxes, refl, refl, refl, refl)
