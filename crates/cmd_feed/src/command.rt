@@ -183,22 +183,26 @@ fn feed_over_disks<
         clock,
     } = outside;
     let mut devices = Live { out, dialer, clock };
-    let (status, accepted, out_disk, in_disk) =
-        match open_boxes(alloc, end.peer_flow, out_disk, in_disk) {
-            Ok((outbox, inbox)) => feed_behind_out(
-                rt,
-                alloc,
-                end,
-                senders,
-                &mut devices,
-                &mut input,
-                over,
-                accepted,
-                outbox,
-                inbox,
-            ),
-            Err((status, out_disk, in_disk)) => (status, accepted, out_disk, in_disk),
-        };
+    let (status, accepted, out_disk, in_disk) = match open_boxes(
+        alloc,
+        end.peer_flow,
+        out_disk,
+        in_disk,
+    ) {
+        Ok((outbox, inbox)) => feed_behind_out(
+            rt,
+            alloc,
+            end,
+            senders,
+            &mut devices,
+            &mut input,
+            over,
+            accepted,
+            outbox,
+            inbox,
+        ),
+        Err((status, out_disk, in_disk)) => (status, accepted, out_disk, in_disk),
+    };
     let Live { out, dialer, clock } = devices;
     let outside = FeedOutside {
         config,

@@ -177,10 +177,7 @@ pub fn asked(words: &[String]) -> Option<&'static str> {
 fn connections_of(words: &[String]) -> Option<&str> {
     match words {
         [command, _, most, _, _, _, _, _] | [command, _, most, _, _, _, _, _, _]
-            if role_of(command.as_str()).is_some() =>
-        {
-            Some(most.as_str())
-        }
+            if role_of(command.as_str()).is_some() => { Some(most.as_str()) }
         _ => None,
     }
 }
@@ -198,7 +195,9 @@ fn has_two_for_one(words: &[String]) -> bool {
 /// What is wrong with the words of a command, in front of its usage.
 fn fault_of(alloc: Global, words: &[String], usage: &str) -> Result<String, AllocError> {
     if has_two_for_one(words) {
-        return format!(in alloc; "OUT and ACCEPTED are both -, and standard output can stand for one of them\n\n{usage}");
+        return format!(in alloc;
+            "OUT and ACCEPTED are both -, and standard output can stand for one of them\n\n{usage}"
+        );
     }
     if let Some(most) = connections_of(words) {
         let most = quoted(alloc, most)?;

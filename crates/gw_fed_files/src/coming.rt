@@ -40,11 +40,7 @@ pub struct ComingFile<'a, R> {
 fn opened<R: Net + Files<File = File>>(rt: &R, alloc: Global, path: &str) -> io::Result<Input> {
     let held = writer_of(rt, path)?;
     let file = fs::open(rt, path)?;
-    let writer = if path == STANDARD_INPUT {
-        None
-    } else {
-        held
-    };
+    let writer = if path == STANDARD_INPUT { None } else { held };
     match poll_of(rt, &file) {
         Some(poll) => Ok(Input::Waited(Waited::new(alloc, file, writer, poll)?)),
         None => Ok(Input::Plain(file)),

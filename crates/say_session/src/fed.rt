@@ -109,13 +109,7 @@ fn push_line<R: Files<File = File>, I: SaysWhy, A: SaysWhy, D: Disk + SaysWhy, N
 
 /// What is wrong with a session that was fed and ended with this status, in a line; none where the status says all, or where there is no memory to
 /// say it.
-pub fn fed_line_of<
-    R: Files<File = File>,
-    I: SaysWhy,
-    A: SaysWhy,
-    D: Disk + SaysWhy,
-    N: SaysWhy,
->(
+pub fn fed_line_of<R: Files<File = File>, I: SaysWhy, A: SaysWhy, D: Disk + SaysWhy, N: SaysWhy>(
     rt: &R,
     alloc: Global,
     session: Session<'_>,

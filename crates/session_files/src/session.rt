@@ -52,7 +52,17 @@ impl<'a> Session<'a> {
             [command, address, most, config, input, outbox, inbox, out] => {
                 Session::by_plans(command, address, most, [config, input, outbox, inbox, out])
             }
-            [command, address, most, config, input, outbox, inbox, out, accepted] => {
+            [
+                command,
+                address,
+                most,
+                config,
+                input,
+                outbox,
+                inbox,
+                out,
+                accepted,
+            ] => {
                 if are_both_standard(out.as_str(), accepted.as_str()) {
                     return None;
                 }
