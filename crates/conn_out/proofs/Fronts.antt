@@ -1,5 +1,5 @@
 -- A projection that is cut off anywhere.
-use Rattle.std.proofs.Common.{◌≡◌, inl, inr, ℕ, zero, suc, ◌+◌, ◌-◌, ◌<◌, ◌≤◌, List, [], ◌∷◌, ◌++◌, length, take, get_or, refl, ap, sym, subst, ◌∙◌}
+use Rattle.std.proofs.Common.{◌≡◌, inl, inr, ℕ, zero, suc, ◌+◌, ◌-◌, ◌<◌, ◌≤◌, List, [], ◌∷◌, ◌++◌, length, take, refl, ap, sym, subst, ◌∙◌}
 use Rattle.std.proofs.Common.{arith}
 use Rattle.std.specs.Prelude.{All}
 use Rattle.std.proofs.lemmas.Bool.{cases_lt}
@@ -9,7 +9,7 @@ use Rattle.session_model.specs.Inbox.{Numbered}
 use Rattle.gw_lines.specs.Lines.{IsFeedless, with_feeds}
 use Rattle.gw_lines.proofs.Steps.{more_behind}
 use Rattle.conn_tail.specs.Tails.{TellsNothing}
-use Rattle.conn_out.specs.Projections.{IsOf, TellOf, Tells}
+use Rattle.conn_out.specs.Projections.{IsOf, TellOf}
 use Rattle.conn_out.specs.Laws.{FrontsProject}
 
 -- lines with their feeds and a rest, of which the lines tell of the first messages

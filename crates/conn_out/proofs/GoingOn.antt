@@ -1,5 +1,5 @@
 -- A file of lines that is gone on with behind the last message of which it tells.
-use Rattle.std.proofs.Common.{◌≡◌, ◌⊎◌, inl, inr, ⊎_elim, ℕ, zero, suc, ◌+◌, ◌-◌, ◌<◌, ◌≤◌, List, [], ◌∷◌, ◌++◌, length, take, drop, slice_get}
+use Rattle.std.proofs.Common.{◌≡◌, inl, inr, ⊎_elim, ℕ, zero, suc, ◌+◌, ◌-◌, ◌<◌, ◌≤◌, List, [], ◌∷◌, ◌++◌, length, take, drop, slice_get}
 use Rattle.std.proofs.Common.{refl, sym, ap, subst, ◌∙◌, append-nil, append_assoc, codes, decimal, arith}
 use Rattle.std.specs.Prelude.{All, Option, Some, None, MatchOption, IsSomeAnd, Result, Ok, Err, OnErr}
 use Rattle.std.specs.Io.KnownBytes.{Appends}
@@ -12,7 +12,6 @@ use Rattle.session_model.specs.Inbox.{Numbered}
 use Rattle.jr_dated.specs.Dated.{Dated}
 use Rattle.gw_lines.specs.Lines.{with_feeds}
 use Rattle.gw_lines.proofs.Steps.{more_behind, none_feedless}
-use Rattle.conn_lines.specs.Lines.{deliver_line}
 use Rattle.conn_tail.specs.Tails.{IsDeliver, TellsNothing, IsLastDeliver, HasTail}
 use Rattle.conn_out.specs.declared.fault.OutFault.{OutFault}
 use Rattle.conn_out.specs.Messages.{messages_of, messages_in, deliver_lines, EndsUpTo, IsPlaceBehind}

@@ -1,5 +1,5 @@
 -- The messages of records behind a place.
-use Rattle.std.proofs.Common.{◌≡◌, ◌⊎◌, inr, ℕ, zero, suc, ◌+◌, ◌-◌, ◌<◌, ◌≤◌, List, [], ◌∷◌, ◌++◌, length, drop, slice_get, refl, sym, ap, subst}
+use Rattle.std.proofs.Common.{◌≡◌, inr, ℕ, zero, suc, ◌+◌, ◌-◌, ◌<◌, ◌≤◌, List, [], ◌∷◌, ◌++◌, length, drop, slice_get, refl, sym, ap, subst}
 use Rattle.std.proofs.Common.{◌∙◌, add-one, arith}
 use Rattle.std.specs.Prelude.{All, Option, Some}
 use Rattle.std.proofs.Math.Logic.{∥∥₁_elim}
