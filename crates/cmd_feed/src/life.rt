@@ -65,11 +65,8 @@ fn refusal_of(end: FeedEnd, mark: Option<ServeFault>) -> Option<ServeFault>
     ensures value { result ≡ refusal_of end mark }
 {
     match end {
-        FeedEnd::Ended
-        | FeedEnd::Closed
-        | FeedEnd::Stopped
-        | FeedEnd::Input
-        | FeedEnd::Accepted => mark,
+        FeedEnd::Ended | FeedEnd::Closed | FeedEnd::Stopped | FeedEnd::Input | FeedEnd::Accepted =>
+            mark,
         FeedEnd::Journal => Some(ServeFault::Journal),
         FeedEnd::Full { entries, bytes } => Some(ServeFault::Full { entries, bytes }),
         FeedEnd::Memory => Some(ServeFault::Memory),
