@@ -1,6 +1,8 @@
 use Rattle.cmd_rehearse.proofs.command.run_script.Goals as goal
 
-pub give-requires-rehearsed : goal.give-requires-rehearsed
-give-requires-rehearsed g c =
+pub give-requires : goal.give-requires
+give-requires g c =
     let told = c.in-Ok.ensures in
-    record { sent = told.sent; keeps = told.keeps; outward = told.outward; homeward = told.homeward; reported = told.reported; totals = told.totals }
+    record {
+      rehearsed = record { sent = told.sent; keeps = told.keeps; outward = told.outward; homeward = told.homeward; reported = told.reported; totals = told.totals };
+    }
