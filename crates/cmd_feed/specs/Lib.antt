@@ -1,4 +1,2 @@
 pub mod Outsides
 pub mod Fed
-pub mod Lived
-pub mod Steps

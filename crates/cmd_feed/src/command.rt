@@ -9,7 +9,6 @@ ghost use Rattle.toml_walk.specs.declared.fault.TomlFault.TheVariants.{Range};
 ghost use Rattle.schema_toml.specs.declared.fault.ConfigFault.TheVariants.{Toml};
 ghost use Rattle.cmd_session.specs.Outsides.{sees};
 ghost use Rattle.cmd_feed.specs.Outsides.{feed_sees, NoneFellFed};
-ghost use Rattle.cmd_feed.specs.Steps.{Steps};
 
 use crate::going_on::out_on;
 use crate::life::live_feeding;
@@ -239,7 +238,6 @@ pub fn run_feeding<
     over: &AtomicBool,
 ) -> (Status, FeedOutside<S, I, K, A, D, N, C>)
     requires lent { N.lent outside.dialer ≡ false }
-    ensures steps { Steps ⟦<SegJournal<D> as Journal>⟧ (feed_sees (sees S.Source K.Sink D.Disk N.Dialer N.Link.Link C.Clock) K.keeps I.Source A.Sink) role outside result.1 result.0 }
     ensures lent { N.lent result.1.dialer ≡ false }
     ensures none_fell { NoneFellFed (feed_sees (sees S.Source K.Sink D.Disk N.Dialer N.Link.Link C.Clock) K.keeps I.Source A.Sink) outside result.1 }
 {

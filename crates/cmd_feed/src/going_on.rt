@@ -1,12 +1,10 @@
 //! OUT, gone on with over the inbox of a session.
 
-ghost use Rattle.std.specs.Prelude.{◌≡◌, ◌⊎◌, ◌+◌, ◌<◌, ◌≤◌, ◌^◌, ℕ, List, Option, false, IfOk, IfErr};
+ghost use Rattle.std.specs.Prelude.{◌≡◌, ◌⊎◌, ◌+◌, ◌<◌, ◌≤◌, ◌^◌, false, IfOk, IfErr};
 ghost use Rattle.gw_outside.specs.Faults.{HasRisen};
 ghost use Rattle.fixp_msgs.specs.declared.flow.Flow.TheVariants as flows;
 ghost use Rattle.jr_kept.specs.Inbox as inboxes;
 ghost use Rattle.conn_out.specs.declared.fault.OutFault.TheVariants as out_faults;
-ghost use Rattle.cmd_session.specs.Lived.{OpensInbox};
-ghost use Rattle.cmd_feed.specs.Steps.{IsToldBy, WentOn, StillProjects};
 
 use cmd_base::{JournalCause, Status, Which, begin};
 use cmd_session::open_inbox;
@@ -46,9 +44,6 @@ pub(crate) fn out_on<K: Appended, D: Disk>(
     inbox: Inbox<SegJournal<D>>,
 ) -> Result<Inbox<SegJournal<D>>, (Status, D)>
     requires in_sound { inboxes.is_broken inbox ≡ false }
-    ensures opened { (told : Option (List ℕ)) → OpensInbox told inbox → IsToldBy told inbox → IfOk result (OpensInbox told) }
-    ensures went { (told : Option (List ℕ)) → OpensInbox told inbox → IsToldBy told inbox → IfOk result (λ _. WentOn K.keeps told (K.taken out.old) (K.taken out.new)) }
-    ensures projects { (told : Option (List ℕ)) → OpensInbox told inbox → IsToldBy told inbox → IfErr result (λ _. StillProjects told (K.taken out.old) (K.taken out.new)) }
     ensures in_sound { IfOk result (λ box. inboxes.is_broken box ≡ false) }
     ensures flow { IfOk result (λ box. inboxes.flow_of box ≡ flow) }
     ensures limit { IfOk result (λ box. ((inboxes.limits_of box).entries ≡ 2 ^ 26) × ((inboxes.limits_of box).bytes ≡ 2 ^ 33)) }
