@@ -1,6 +1,6 @@
 //! The whole of `accept` and `connect` with ACCEPTED.
 
-ghost use Rattle.std.specs.Prelude.{◌≡◌, ◌⊎◌, ◌+◌, ◌<◌, ◌≤◌, ◌^◌, false, [], ◌∷◌, length, IfErr, OnOk, OnErr};
+ghost use Rattle.std.specs.Prelude.{◌≡◌, ◌⊎◌, ◌+◌, ◌<◌, ◌≤◌, ◌^◌, false, [], ◌∷◌, length, IfErr, OnOk, OnErr, codes};
 ghost use Rattle.fixp_msgs.specs.declared.flow.Flow.TheVariants as flows;
 ghost use Rattle.jr_kept.specs.Outbox as outboxes;
 ghost use Rattle.jr_kept.specs.Inbox as inboxes;
@@ -37,7 +37,7 @@ use toml_walk::out_of_range;
 fn without_desks(alloc: Global, trade: Trade) -> Result<(), Status>
     ensures none { OnOk result (trade.desks ≡ 0) }
     ensures has { OnErr result (0 < trade.desks) }
-    ensures refused { IfErr result (λ status. (status ≡ Status.Config (Toml (Range (Key "desks" ∷ [])))) ⊎ (status ≡ Status.Memory)) }
+    ensures refused { IfErr result (λ status. (status ≡ Status.Config (Toml (Range (Key (codes "desks") ∷ [])))) ⊎ (status ≡ Status.Memory)) }
 {
     if trade.desks == 0 {
         return Ok(());
