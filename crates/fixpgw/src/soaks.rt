@@ -1,5 +1,7 @@
 //! A soak over the file that its words name.
 
+ghost use Rattle.std.specs.Prelude.{◌≤◌, IfSome};
+
 use crate::rehearsals::{RehearsalReport, print_report};
 use crate::sessions::out_of;
 use cmd_rehearse::{Outcome, SOAK, run_soak};
@@ -20,10 +22,15 @@ use text_words::number;
 pub struct SoakFile<'a> {
     messages: u32,
     out: Named<'a>,
+    ghost least: { 4 ≤ messages },
+    ghost most: { messages ≤ 100000 },
 }
 
 /// So many messages, where a soak may have so many.
-fn messages_of(word: &str) -> Option<u32> {
+fn messages_of(word: &str) -> Option<u32>
+    ensures least { IfSome result (λ n. 4 ≤ n) }
+    ensures most { IfSome result (λ n. n ≤ 100000) }
+{
     let messages = number(word.as_bytes())?;
     if messages < SOAK.least || SOAK.greatest < messages {
         return None;
@@ -68,7 +75,10 @@ fn run_over<R: Threads + Wait + Sync, K: Sink>(
     alloc: Global,
     messages: u32,
     out: &mut K,
-) -> Outcome {
+) -> Outcome
+    requires least { 4 ≤ messages }
+    requires most { messages ≤ 100000 }
+{
     run_soak(rt, alloc, messages, out)
 }
 
