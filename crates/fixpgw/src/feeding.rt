@@ -1,24 +1,24 @@
 //! A session over a socket that is fed: INPUT is read as it comes, and ACCEPTED is told what became of its lines. `main` makes what goes from thread to
 //! thread: the disks of the journals, INPUT and ACCEPTED.
 
-ghost use Rattle.std.specs.Prelude.{◌≡◌, false};
+ghost use Rattle.std.specs.Prelude.{◌≡◌, false, None};
 
-use crate::sessions::{SessionFiles, hold_stream, outlook_of, pauses_of};
+use crate::sessions::{SessionFiles, hold_stream, out_of, outlook_of, pauses_of};
 use cmd_feed::{FeedOutside, Role, run_feeding};
 use cmd_files::Report;
 use cmd_run::Status;
 use gw_appended::Appended;
 use gw_appended_files::AppendedFile;
 use gw_links::{Clock as LinkClock, Dialer};
-use gw_outside::{Disk, Sink, Source};
-use gw_real::{FileSource, Named};
+use gw_outside::{Disk, Failed, Sink, Source};
+use gw_real::{FileSink, FileSource, Named};
 use gw_sockets::{AcceptDialer, ConnectDialer, MachineClock};
 use gw_watch::{Approaches, HasPeer, WatchedDialer, WatchedSink, WatchedSource};
 use say_live::Teller;
 use say_session::{FedSaid, SaysWhy, fed_line_of};
 use schema_toml::TEXT_LIMIT;
 use session_files::Session;
-use std::alloc::Global;
+use std::alloc::{AllocError, Global};
 use std::fs::File;
 use std::io::{self, Printer};
 use std::net::{Net, TcpListener, TcpStream};
@@ -45,6 +45,37 @@ pub struct Feeds<'a, I, A> {
     pub accepted: A,
     /// Whether nobody asks for INPUT any more.
     pub over: &'a AtomicBool,
+}
+
+/// The device for ACCEPTED. Its type names one lifetime: the borrow checker covers no call with a type of several beside a `Session`, in which is a `'static`.
+#[derive(Drop)]
+pub struct AcceptedFile<'a, R> {
+    inner: FileSink<'a, R, File, Printer<'a, R>>,
+}
+
+impl<'a, R: Print> AcceptedFile<'a, R> {
+    /// The file of a name, which must be none of the others; `-` is standard output.
+    pub fn new(rt: &'a R, name: Named<'a>, others: &'a [Named<'a>]) -> AcceptedFile<'a, R> {
+        AcceptedFile {
+            inner: out_of(rt, name, others),
+        }
+    }
+}
+
+impl<R: Files<File = File> + Print> Sink for AcceptedFile<'_, R> {
+    ghost taken = { λ k. None };
+
+    ghost faults = { λ k. k.inner.faults };
+
+    fn push(&mut self, bytes: &[u8]) -> Result<usize, Failed> {
+        self.inner.push(bytes)
+    }
+}
+
+impl<R> SaysWhy for AcceptedFile<'_, R> {
+    fn push_why(&self, line: &mut String, name: Named<'_>) -> Result<bool, AllocError> {
+        self.inner.push_why(line, name)
+    }
 }
 
 /// The device for OUT, which keeps what earlier runs told; `-` is standard output.

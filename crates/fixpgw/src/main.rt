@@ -9,12 +9,12 @@ mod soaks;
 
 use cmd_files::{Report, VERSION, asked, finish, run_over_files, usage_fault};
 use cmd_run::{Status, command_of};
-use feeding::{Feeds, feed_over_sockets};
+use feeding::{AcceptedFile, Feeds, feed_over_sockets};
 use gw_fed_files::ComingFile;
 use gw_real::{FileDisk, Opening};
 use rehearsals::{RehearsalFiles, rehearse_over_files};
 use session_files::Session;
-use sessions::{SessionFiles, hold_stream, out_of, run_over_sockets};
+use sessions::{SessionFiles, hold_stream, run_over_sockets};
 use soaks::{SoakFile, soak_over_file};
 use std::fs::File;
 use std::io;
@@ -113,7 +113,7 @@ fn main(rt: HostRuntime) -> ExitCode {
     drop(held);
     let feeds = Feeds {
         input,
-        accepted: out_of(&rt, accepted, &others),
+        accepted: AcceptedFile::new(&rt, accepted, &others),
         over: &over,
     };
     finish(&rt, feed_over_sockets(&rt, session, files, feeds, is_quiet))
