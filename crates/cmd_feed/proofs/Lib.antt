@@ -1,3 +1,7 @@
 mod Statuses
 mod Seating
 mod Lived
+mod Messages
+mod OutOn
+mod Over
+mod Ended

@@ -1,2 +1,4 @@
 pub mod Outsides
 pub mod Fed
+pub mod Lived
+pub mod Steps

@@ -1,9 +1,11 @@
--- What the devices of a session that is fed tell, and how often they failed (this project's profile).
-use Rattle.std.specs.Prelude.{ℕ, ◌≤◌, Bool, List, Option}
+-- What the devices of a session that is fed tell, how often they failed, and which of them a run left as they were (this project's profile).
+use Rattle.std.specs.Prelude.{◌≡◌, ℕ, ◌≤◌, Bool, List, Option}
 use Rattle.gw_outside.specs.declared.streams.Source.{Ghosts as SourceGhosts}
 use Rattle.gw_outside.specs.declared.streams.Sink.{Ghosts as SinkGhosts}
 use Rattle.cmd_base.specs.Causes.{NoneFellInSession}
 use Rattle.cmd_session.specs.Outsides.{Sees, counts_of}
+use Rattle.cmd_base.specs.Contents.{Disks}
+use Rattle.cmd_session.specs.declared.outside.Live.{Live}
 use Rattle.cmd_session.specs.declared.outside.SessionOutside.{SessionOutside}
 use Rattle.cmd_feed.specs.declared.outside.FeedOutside.{FeedOutside}
 
@@ -40,6 +42,29 @@ module _ {S I K A D N C : Type 0} where
     dialer = outside.dialer;
     clock = outside.clock;
   }
+
+  -- the devices of a session that is fed, from those that a life is lived on, its streams and the disks
+  abbrev pub around : S → Live K N C → I → A → Disks D → FeedOutside S I K A D N C
+  around config live input accepted disks = record {
+    config = config;
+    input = input;
+    out = live.out;
+    accepted = accepted;
+    out_disk = disks.outbox;
+    in_disk = disks.inbox;
+    dialer = live.dialer;
+    clock = live.clock;
+  }
+
+  -- INPUT and ACCEPTED are as they were
+  pub record KeepsStreams (before after : FeedOutside S I K A D N C) : Type 0 where
+    pub input : after.input ≡ before.input
+    pub accepted : after.accepted ≡ before.accepted
+
+  -- the dialer and the clock are as they were
+  pub record KeepsLinks (before after : FeedOutside S I K A D N C) : Type 0 where
+    pub dialer : after.dialer ≡ before.dialer
+    pub clock : after.clock ≡ before.clock
 
   -- no count fell
   pub record NoneFellFed (sees : FeedSees S I K A D N C) (before after : FeedOutside S I K A D N C) : Type 0 where

@@ -8,7 +8,9 @@ ghost use Rattle.sbe_value.specs.declared.path.Step.TheVariants.{Key};
 ghost use Rattle.toml_walk.specs.declared.fault.TomlFault.TheVariants.{Range};
 ghost use Rattle.schema_toml.specs.declared.fault.ConfigFault.TheVariants.{Toml};
 ghost use Rattle.cmd_session.specs.Outsides.{sees};
-ghost use Rattle.cmd_feed.specs.Outsides.{feed_sees, NoneFellFed};
+ghost use Rattle.cmd_base.specs.Contents.{Disks};
+ghost use Rattle.cmd_feed.specs.Outsides.{feed_sees, around, NoneFellFed};
+ghost use Rattle.cmd_feed.specs.Steps.{AreOpened, EndsBehindBoxes, EndsOverDisks, Steps};
 
 use crate::going_on::out_on;
 use crate::life::live_feeding;
@@ -50,61 +52,13 @@ fn without_desks(alloc: Global, trade: Trade) -> Result<(), Status>
     })
 }
 
-/// Begins ACCEPTED, and lives over the boxes. ACCEPTED and the outbox come back with the status.
-fn feed_over_boxes<
-    I: Source + Send,
-    A: Sink + Send,
-    K: Sink,
-    D: Disk + Send,
-    N: Dialer,
-    C: Clock,
-    R: Threads + Wait + Sync,
->(
-    rt: &R,
-    alloc: Global,
-    end: EndConfig,
-    senders: u8,
-    devices: &mut Live<K, N, C>,
-    input: &mut I,
-    over: &AtomicBool,
-    accepted: A,
-    outbox: Outbox<SegJournal<D>>,
-    inbox: &mut Inbox<SegJournal<D>>,
-) -> (Status, A, Outbox<SegJournal<D>>)
-    requires least { 100 ≤ end.keepalive }
-    requires greatest { end.keepalive ≤ 60000 }
-    requires credentials { length end.credentials ≤ 2048 }
-    requires few { senders ≤ 16 }
-    requires sound { outboxes.is_broken outbox ≡ false }
-    requires in_sound { inboxes.is_broken inbox.old ≡ false }
-    requires lent { N.lent devices.old.dialer ≡ false }
-    requires flow { inboxes.flow_of inbox.old ≡ end.peer_flow }
-    requires limit { (inboxes.limits_of inbox.old).entries ≡ 2 ^ 26 }
-    requires numbered { inboxes.flow_of inbox.old ≡ flows.Recoverable → inboxes.next_of inbox.old + 1 < 2 ^ 64 }
-    requires few_entries { outboxes.front_of outbox < 2 ^ 40 }
-    ensures lent { N.lent devices.new.dialer ≡ false }
-    ensures never_falls { (K.faults devices.old.out ≤ K.faults devices.new.out) × (N.faults devices.old.dialer ≤ N.faults devices.new.dialer) }
-    ensures boxes_never_fall { (outboxes.faults_of outbox ≤ outboxes.faults_of result.2) × (inboxes.faults_of inbox.old ≤ inboxes.faults_of inbox.new) }
-    ensures streams_never_fall { (A.faults accepted ≤ A.faults result.1) × (I.faults input.old ≤ I.faults input.new) }
-{
-    let (mut accepted, mut outbox) = (accepted, outbox);
-    match begin(&mut accepted) {
-        Ok(()) => {}
-        Err(_) => return (Status::OutputFault, accepted, outbox),
-    }
-    // A sender may add an entry before the first turn of a connection.
-    let now = devices.clock.now();
-    outbox.at(now);
-    live_feeding(
-        rt, alloc, end, senders, devices, input, over, accepted, outbox, inbox,
-    )
-}
-
-/// Goes on with OUT, and feeds over the boxes. ACCEPTED and both disks come back with the status.
+/// Goes on with OUT, begins ACCEPTED, and feeds over boxes that were opened. ACCEPTED and both disks come back with the status. What is ensured of the run
+/// holds whatever CONFIG was before it was read.
 fn feed_behind_out<
+    S: Source,
     I: Source + Send,
-    A: Sink + Send,
     K: Appended,
+    A: Sink + Send,
     D: Disk + Send,
     N: Dialer,
     C: Clock,
@@ -127,24 +81,46 @@ fn feed_behind_out<
     requires few { senders ≤ 16 }
     requires sound { outboxes.is_broken outbox ≡ false }
     requires in_sound { inboxes.is_broken inbox ≡ false }
+    requires flow { inboxes.flow_of inbox ≡ end.peer_flow }
     requires lent { N.lent devices.old.dialer ≡ false }
     requires few_entries { outboxes.front_of outbox < 2 ^ 40 }
+    ensures ended { (first config : S) (disks : Disks D) → AreOpened D.told D.faults disks outbox inbox
+        → EndsBehindBoxes ⟦<SegJournal<D> as Journal>⟧
+        (feed_sees (sees S.Source K.Sink D.Disk N.Dialer N.Link.Link C.Clock) K.keeps I.Source A.Sink) senders end
+        (around first devices.old input.old accepted disks)
+        (around config devices.new input.new result.1 (record { outbox = result.2; inbox = result.3 })) result.0 }
     ensures lent { N.lent devices.new.dialer ≡ false }
     ensures never_falls { (K.faults devices.old.out ≤ K.faults devices.new.out) × (N.faults devices.old.dialer ≤ N.faults devices.new.dialer) }
     ensures disks_never_fall { (outboxes.faults_of outbox ≤ D.faults result.2) × (inboxes.faults_of inbox ≤ D.faults result.3) }
     ensures streams_never_fall { (A.faults accepted ≤ A.faults result.1) × (I.faults input.old ≤ I.faults input.new) }
 {
+    let (mut accepted, mut outbox) = (accepted, outbox);
     let mut inbox = match out_on(alloc, end.peer_flow, &mut devices.out, inbox) {
         Ok(inbox) => inbox,
         Err((status, disk)) => return (status, accepted, close_outbox(outbox), disk),
     };
-    let (status, accepted, outbox) = feed_over_boxes(
+    match begin(&mut accepted) {
+        Ok(()) => {}
+        Err(_) => {
+            return (
+                Status::OutputFault,
+                accepted,
+                close_outbox(outbox),
+                close_inbox(inbox),
+            );
+        }
+    }
+    // A sender may add an entry before the first turn of a connection.
+    let now = devices.clock.now();
+    outbox.at(now);
+    let (status, accepted, outbox) = live_feeding(
         rt, alloc, end, senders, devices, input, over, accepted, outbox, &mut inbox,
     );
     (status, accepted, close_outbox(outbox), close_inbox(inbox))
 }
 
-/// Opens the boxes of a session on their disks, and runs over them; the devices come back with the status.
+/// Opens the boxes of a session on their disks, and runs over them; the devices come back with the status. What is ensured of the run holds whatever CONFIG
+/// was before it was read.
 fn feed_over_disks<
     S: Source,
     I: Source + Send,
@@ -167,6 +143,9 @@ fn feed_over_disks<
     requires credentials { length end.credentials ≤ 2048 }
     requires few { senders ≤ 16 }
     requires lent { N.lent outside.dialer ≡ false }
+    ensures ended { (config : S) → EndsOverDisks ⟦<SegJournal<D> as Journal>⟧
+        (feed_sees (sees S.Source K.Sink D.Disk N.Dialer N.Link.Link C.Clock) K.keeps I.Source A.Sink) senders end
+        (record outside { config = config }) result.1 result.0 }
     ensures config { result.1.config ≡ outside.config }
     ensures lent { N.lent result.1.dialer ≡ false }
     ensures none_fell { NoneFellFed (feed_sees (sees S.Source K.Sink D.Disk N.Dialer N.Link.Link C.Clock) K.keeps I.Source A.Sink) outside result.1 }
@@ -188,7 +167,7 @@ fn feed_over_disks<
         out_disk,
         in_disk,
     ) {
-        Ok((outbox, inbox)) => feed_behind_out(
+        Ok((outbox, inbox)) => feed_behind_out::<S, I, K, A, D, N, C, R>(
             rt,
             alloc,
             end,
@@ -238,6 +217,8 @@ pub fn run_feeding<
     over: &AtomicBool,
 ) -> (Status, FeedOutside<S, I, K, A, D, N, C>)
     requires lent { N.lent outside.dialer ≡ false }
+    ensures steps { Steps ⟦<SegJournal<D> as Journal>⟧ (feed_sees (sees S.Source K.Sink D.Disk N.Dialer N.Link.Link C.Clock) K.keeps I.Source A.Sink)
+        role outside result.1 result.0 }
     ensures lent { N.lent result.1.dialer ≡ false }
     ensures none_fell { NoneFellFed (feed_sees (sees S.Source K.Sink D.Disk N.Dialer N.Link.Link C.Clock) K.keeps I.Source A.Sink) outside result.1 }
 {

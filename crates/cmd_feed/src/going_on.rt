@@ -1,10 +1,12 @@
 //! OUT, gone on with over the inbox of a session.
 
-ghost use Rattle.std.specs.Prelude.{◌≡◌, ◌⊎◌, ◌+◌, ◌<◌, ◌≤◌, ◌^◌, false, IfOk, IfErr};
+ghost use Rattle.std.specs.Prelude.{◌≡◌, ◌⊎◌, ◌+◌, ◌<◌, ◌≤◌, ◌^◌, ℕ, List, Option, false, IfOk, IfErr};
 ghost use Rattle.gw_outside.specs.Faults.{HasRisen};
 ghost use Rattle.fixp_msgs.specs.declared.flow.Flow.TheVariants as flows;
 ghost use Rattle.jr_kept.specs.Inbox as inboxes;
 ghost use Rattle.conn_out.specs.declared.fault.OutFault.TheVariants as out_faults;
+ghost use Rattle.cmd_session.specs.Lived.{KeepsRecords, OpensInbox};
+ghost use Rattle.cmd_feed.specs.Steps.{IsToldBy, WentOn, StillProjects, RefusesOut};
 
 use cmd_base::{JournalCause, Status, Which, begin};
 use cmd_session::open_inbox;
@@ -20,6 +22,7 @@ use std::alloc::Global;
 fn not_gone_on(fault: OutFault) -> Status
     ensures output { result ≡ Status.OutputFault → (fault ≡ out_faults.Output) ⊎ (fault ≡ out_faults.Short) }
     ensures journal { result ≡ Status.JournalFault → fault ≡ out_faults.Journal }
+    ensures refused { (told : Option (List ℕ)) → RefusesOut told result }
 {
     match fault {
         OutFault::Output | OutFault::Short => Status::OutputFault,
@@ -44,6 +47,15 @@ pub(crate) fn out_on<K: Appended, D: Disk>(
     inbox: Inbox<SegJournal<D>>,
 ) -> Result<Inbox<SegJournal<D>>, (Status, D)>
     requires in_sound { inboxes.is_broken inbox ≡ false }
+    requires flow { inboxes.flow_of inbox ≡ flow }
+    ensures opened { IfOk result (λ box. (told : Option (List ℕ)) → OpensInbox told inbox → IsToldBy told inbox → OpensInbox told box) }
+    ensures went { IfOk result (λ _. (told : Option (List ℕ)) → OpensInbox told inbox → IsToldBy told inbox
+        → WentOn K.keeps told (K.taken out.old) (K.taken out.new)) }
+    ensures projects { IfErr result (λ _. (told : Option (List ℕ)) → OpensInbox told inbox → IsToldBy told inbox
+        → StillProjects told (K.taken out.old) (K.taken out.new)) }
+    ensures kept { IfErr result (λ e. (before : D) → OpensInbox (D.told before) inbox → IsToldBy (D.told before) inbox
+        → KeepsRecords D.told D.may_leave before e.1) }
+    ensures refused { IfErr result (λ e. (told : Option (List ℕ)) → OpensInbox told inbox → IsToldBy told inbox → RefusesOut told e.0) }
     ensures in_sound { IfOk result (λ box. inboxes.is_broken box ≡ false) }
     ensures flow { IfOk result (λ box. inboxes.flow_of box ≡ flow) }
     ensures limit { IfOk result (λ box. ((inboxes.limits_of box).entries ≡ 2 ^ 26) × ((inboxes.limits_of box).bytes ≡ 2 ^ 33)) }

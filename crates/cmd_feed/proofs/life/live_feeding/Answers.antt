@@ -49,7 +49,7 @@ returns-clause-dial g c = λ e.
     c.serve_seated-accepted.ensures.dial (dial_only fed.connections fed.end fed.refused c.serve_seated-accepted.ensures.mark.1 (sym c.status_of_feeding.ensures.value ∙ e))
 
 pub returns-in_default-clause-lived : goal.returns-in_default-clause-lived
-returns-in_default-clause-lived g c = inl (record { cause = inl refl; dialer_is = refl; box_is = refl; outbox_is = refl }, refl, refl)
+returns-in_default-clause-lived g c = inl (refl, refl, refl, record { cause = inl refl; dialer_is = refl; box_is = refl; outbox_is = refl })
 
 pub returns-in-Err-clause-lived : goal.returns-in-Err-clause-lived
-returns-in-Err-clause-lived g c = inl (record { cause = inl refl; dialer_is = refl; box_is = refl; outbox_is = c.in-Err.ensures.refused }, refl, refl)
+returns-in-Err-clause-lived g c = inl (refl, refl, refl, record { cause = inl refl; dialer_is = refl; box_is = refl; outbox_is = c.in-Err.ensures.refused })
