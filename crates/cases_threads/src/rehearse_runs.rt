@@ -3,7 +3,7 @@
 
 use cases_made::records;
 use cmd_script::read_script;
-use gw_rehearse::{Journals, Rehearsal, rehearse};
+use gw_rehearse::{Journals, Rehearsal, Watch, rehearse};
 use jr_record::Record;
 use std::alloc::Global;
 use std::io;
@@ -52,6 +52,18 @@ rounds = 10
 do = \"cut\"
 ";
 
+/// Tells nobody how far the rehearsal is.
+#[derive(Drop)]
+struct Unwatched;
+
+impl Watch for Unwatched {
+    fn at(&mut self, _done: u64, _of: u64) {}
+
+    fn round(&mut self) {}
+
+    fn over(&mut self) {}
+}
+
 /// The sender of an order and its number, as its identifier spells them behind the header.
 fn order_of(payload: &[u8]) -> Option<(u64, u64)> {
     let (_header, rest) = payload.split_first_chunk::<10>()?;
@@ -99,7 +111,7 @@ pub fn print<R: Threads + Wait + Sync + Print + AllocGlobal>(rt: &R) -> io::Resu
             initiator,
             acceptor,
         },
-    ) = rehearse(alloc, &script, rt)
+    ) = rehearse(alloc, &script, &mut Unwatched, rt)
     else {
         return rt.println("it came to no end");
     };

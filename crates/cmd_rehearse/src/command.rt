@@ -17,7 +17,7 @@ use crate::outcome::Outcome;
 use cmd_base::{TextFault, begin, read_text};
 use cmd_script::{Script, read_script};
 use gw_outside::{Sink, Source, push_all};
-use gw_rehearse::{Rehearsal, RehearseFault, rehearse};
+use gw_rehearse::{Rehearsal, RehearseFault, Watch, rehearse};
 use schema_toml::TEXT_LIMIT;
 use std::alloc::{AllocError, Global};
 use std::sync::Wait;
@@ -86,11 +86,12 @@ fn give<K: Sink>(alloc: Global, script: &Script, rehearsal: &Rehearsal, out: &mu
 
 /// Runs a script, and gives the lines.
 #[tactic(auto, using(crate::proofs::Giving::keeps_self))]
-pub(crate) fn run_script<R: Threads + Wait + Sync, K: Sink>(
+pub(crate) fn run_script<W: Watch, R: Threads + Wait + Sync, K: Sink>(
     rt: &R,
     alloc: Global,
     script: &Script,
     out: &mut K,
+    watch: &mut W,
 ) -> Outcome
     requires { IsScript script.now }
     ensures gave { Gave script.now (K.taken out.old) (K.taken out.new) result }
@@ -98,7 +99,7 @@ pub(crate) fn run_script<R: Threads + Wait + Sync, K: Sink>(
     ensures never_falls { K.faults out.old ≤ K.faults out.new }
     ensures unwritten { result ≡ Outcome.OutputFault → HasRisen (K.faults out.old) (K.faults out.new) }
 {
-    match rehearse(alloc, script, rt) {
+    match rehearse(alloc, script, watch, rt) {
         Ok(rehearsal) => give(alloc, script, &rehearsal, out),
         Err(
             RehearseFault::Undrained {
@@ -114,12 +115,13 @@ pub(crate) fn run_script<R: Threads + Wait + Sync, K: Sink>(
 }
 
 /// `rehearse`: runs the script in CONFIG over two ends in memory, and gives OUT the lines of what both hold behind it. OUT is begun
-/// before the run, which may be long.
+/// before the run, which may be long, and of which the watch is told how far it is.
 #[tactic(auto, using(crate::proofs::Giving::gave_behind, crate::proofs::Giving::gave_refused, crate::proofs::Giving::gave_unbegun))]
-pub fn run_rehearsal<R: Threads + Wait + Sync, S: Source, K: Sink>(
+pub fn run_rehearsal<W: Watch, R: Threads + Wait + Sync, S: Source, K: Sink>(
     rt: &R,
     alloc: Global,
     devices: &mut RehearseDevices<S, K>,
+    watch: &mut W,
 ) -> Outcome
     ensures verdict { (text : List ℕ) → S.left devices.old.config ≡ Some text → Judges result (script_of_text text) }
     ensures gave { (text : List ℕ) → S.left devices.old.config ≡ Some text → (script : Script) → script_of_text text ≡ Ok script → Gave script (K.taken devices.old.out) (K.taken devices.new.out) result }
@@ -137,5 +139,5 @@ pub fn run_rehearsal<R: Threads + Wait + Sync, S: Source, K: Sink>(
     let Ok(()) = begin(&mut devices.out) else {
         return Outcome::OutputFault;
     };
-    run_script(rt, alloc, &script, &mut devices.out)
+    run_script(rt, alloc, &script, &mut devices.out, watch)
 }

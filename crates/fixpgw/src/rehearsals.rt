@@ -1,9 +1,11 @@
 //! A rehearsal over the files that its words name.
 
+use crate::progress::Progress;
 use crate::sessions::out_of;
 use cmd_rehearse::{Outcome, RehearseDevices, run_rehearsal};
 use gw_outside::{Sink, Source};
 use gw_real::{FileSink, FileSource, Named, STANDARD_OUTPUT};
+use gw_rehearse::Watch;
 use say_config::{Wanted, push_config_fault};
 use say_session::push_unwritten;
 use schema_toml::TEXT_LIMIT;
@@ -15,6 +17,7 @@ use std::process::ExitCode;
 use std::rt::Files;
 use std::sync::Wait;
 use std::thread::Threads;
+use std::time::Clock;
 
 /// The devices of a rehearsal over files.
 type Devices<'a, R> = RehearseDevices<
@@ -108,26 +111,29 @@ fn line_of<R: Files<File = File>>(
 }
 
 /// Runs a rehearsal over devices of any kind.
-fn run_over<R: Threads + Wait + Sync, S: Source, K: Sink>(
+fn run_over<W: Watch, R: Threads + Wait + Sync, S: Source, K: Sink>(
     rt: &R,
     alloc: Global,
     devices: &mut RehearseDevices<S, K>,
+    watch: &mut W,
 ) -> Outcome {
-    run_rehearsal(rt, alloc, devices)
+    run_rehearsal(rt, alloc, devices, watch)
 }
 
 /// Runs a rehearsal. The files are closed when it returns, before anything is printed on standard output: where that is closed, a
 /// file may stand in its place.
-fn report_of<R: Threads + Wait + Sync + Files<File = File> + Print + AllocGlobal>(
+fn report_of<R: Threads + Wait + Sync + Clock + Files<File = File> + Print + Eprint + AllocGlobal>(
     rt: &R,
     files: RehearsalFiles<'_>,
+    shows_progress: bool,
 ) -> RehearsalReport {
     let others = files.others();
     let mut devices = RehearseDevices {
         config: FileSource::new(rt, rt.alloc(), files.config.path, TEXT_LIMIT + 1),
         out: out_of(rt, files.out, &others),
     };
-    let outcome = run_over(rt, rt.alloc(), &mut devices);
+    let mut progress = Progress::new(rt, shows_progress);
+    let outcome = run_over(rt, rt.alloc(), &mut devices, &mut progress);
     let line = line_of(rt.alloc(), files, &outcome, &devices);
     let RehearseDevices { config: _, out: _ } = devices;
     RehearsalReport { outcome, line }
@@ -160,10 +166,11 @@ pub fn print_report<R: Print + Eprint>(rt: &R, report: &RehearsalReport) -> Exit
     }
 }
 
-/// Runs a rehearsal over these files, and prints its status on standard output, and what is wrong on standard error.
+/// Runs a rehearsal over these files, and prints its status on standard output, and what is wrong on standard error; and there meanwhile how far it
+/// is, where that is to be shown.
 pub fn rehearse_over_files<
-    R: Threads + Wait + Sync + Files<File = File> + Print + Eprint + AllocGlobal,
->(rt: &R, files: RehearsalFiles<'_>) -> ExitCode {
-    let report = report_of(rt, files);
+    R: Threads + Wait + Sync + Clock + Files<File = File> + Print + Eprint + AllocGlobal,
+>(rt: &R, files: RehearsalFiles<'_>, shows_progress: bool) -> ExitCode {
+    let report = report_of(rt, files, shows_progress);
     print_report(rt, &report)
 }

@@ -2,11 +2,13 @@
 
 ghost use Rattle.std.specs.Prelude.{◌≤◌, IfSome};
 
+use crate::progress::Progress;
 use crate::rehearsals::{RehearsalReport, print_report};
 use crate::sessions::out_of;
 use cmd_rehearse::{Outcome, SOAK, run_soak};
 use gw_outside::Sink;
 use gw_real::{FileSink, Named, STANDARD_OUTPUT};
+use gw_rehearse::Watch;
 use say_session::push_unwritten;
 use std::alloc::{AllocError, Global};
 use std::fs::File;
@@ -15,6 +17,7 @@ use std::process::ExitCode;
 use std::rt::Files;
 use std::sync::Wait;
 use std::thread::Threads;
+use std::time::Clock;
 use text_words::number;
 
 /// What the words of a soak name: how many messages, and where its lines go.
@@ -70,26 +73,29 @@ fn push_line<R: Files<File = File>>(
 }
 
 /// Runs a soak over a device of any kind.
-fn run_over<R: Threads + Wait + Sync, K: Sink>(
+fn run_over<W: Watch, R: Threads + Wait + Sync, K: Sink>(
     rt: &R,
     alloc: Global,
     messages: u32,
     out: &mut K,
+    watch: &mut W,
 ) -> Outcome
     requires least { 4 ≤ messages }
     requires most { messages ≤ 100000 }
 {
-    run_soak(rt, alloc, messages, out)
+    run_soak(rt, alloc, messages, out, watch)
 }
 
 /// Runs a soak. The file is closed when it returns, before anything is printed on standard output.
-fn report_of<R: Threads + Wait + Sync + Files<File = File> + Print + AllocGlobal>(
+fn report_of<R: Threads + Wait + Sync + Clock + Files<File = File> + Print + Eprint + AllocGlobal>(
     rt: &R,
     file: SoakFile<'_>,
+    shows_progress: bool,
 ) -> RehearsalReport {
     let others = [file.out, STANDARD_OUTPUT];
     let mut out = out_of(rt, file.out, &others);
-    let outcome = run_over(rt, rt.alloc(), file.messages, &mut out);
+    let mut progress = Progress::new(rt, shows_progress);
+    let outcome = run_over(rt, rt.alloc(), file.messages, &mut out, &mut progress);
     let mut line = String::new(rt.alloc());
     let line = match push_line(&mut line, &outcome, &out) {
         Ok(()) if !line.is_empty() => Some(line),
@@ -98,11 +104,11 @@ fn report_of<R: Threads + Wait + Sync + Files<File = File> + Print + AllocGlobal
     RehearsalReport { outcome, line }
 }
 
-/// Runs a soak over this file, and prints its status on standard output, and what is wrong on standard error.
-pub fn soak_over_file<R: Threads + Wait + Sync + Files<File = File> + Print + Eprint + AllocGlobal>(
-    rt: &R,
-    file: SoakFile<'_>,
-) -> ExitCode {
-    let report = report_of(rt, file);
+/// Runs a soak over this file, and prints its status on standard output, and what is wrong on standard error; and there meanwhile how far it is, where
+/// that is to be shown.
+pub fn soak_over_file<
+    R: Threads + Wait + Sync + Clock + Files<File = File> + Print + Eprint + AllocGlobal,
+>(rt: &R, file: SoakFile<'_>, shows_progress: bool) -> ExitCode {
+    let report = report_of(rt, file, shows_progress);
     print_report(rt, &report)
 }

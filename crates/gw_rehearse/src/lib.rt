@@ -17,7 +17,9 @@ mod standing;
 mod summary;
 mod totals;
 mod turning;
+mod watch;
 
 pub use journals::{Journals, Log};
 pub use rehearsal::{Rehearsal, RehearseFault, rehearse};
 pub use summary::EndSummary;
+pub use watch::Watch;

@@ -16,6 +16,7 @@ use crate::configs::config_of;
 use crate::end::DrivenEnd;
 use crate::journals::Journals;
 use crate::posts::posts_of;
+use crate::watch::Watch;
 use cmd_script::{Script, Step};
 use fixp_msgs::Flow;
 use fixp_shake::Role;
@@ -313,7 +314,12 @@ impl Pair {
     /// # Errors
     /// Want of memory.
     #[tactic(auto, using(crate::proofs::Together::stays_self, crate::proofs::Together::stays_on))]
-    fn rounds<R: Threads + Wait + Sync>(&mut self, count: u32, rt: &R) -> Result<u32, Spent>
+    fn rounds<W: Watch, R: Threads + Wait + Sync>(
+        &mut self,
+        count: u32,
+        watch: &mut W,
+        rt: &R,
+    ) -> Result<u32, Spent>
         ensures stays { OnOk result (StaysSound self.old self.new) }
     {
         for done in 0..count {
@@ -321,6 +327,7 @@ impl Pair {
                 return Ok(count - done);
             }
             self.round(rt)?;
+            watch.round();
         }
         Ok(0)
     }
@@ -370,11 +377,12 @@ impl Pair {
     /// # Errors
     /// Want of memory.
     #[tactic(auto, using(crate::proofs::Together::stays_self, crate::proofs::Together::stays_on, crate::proofs::Together::pair_on))]
-    fn burst<R: Threads + Wait + Sync>(
+    fn burst<W: Watch, R: Threads + Wait + Sync>(
         self,
         script: &Script,
         count: u64,
         rounds: u32,
+        watch: &mut W,
         rt: &R,
     ) -> Result<Pair, Spent>
         requires script { IsScript script.now }
@@ -383,8 +391,10 @@ impl Pair {
     {
         let mut pair = self;
         match pair.submit(script, count, rt) {
-            Ok(true) => pair.run(script, rounds, rt),
-            Ok(false) => pair.stop_pending(script, rt)?.run(script, rounds, rt),
+            Ok(true) => pair.run(script, rounds, watch, rt),
+            Ok(false) => pair
+                .stop_pending(script, rt)?
+                .run(script, rounds, watch, rt),
             Err(Spent) => Err(pair.give_up()),
         }
     }
@@ -394,10 +404,11 @@ impl Pair {
     /// # Errors
     /// Want of memory.
     #[tactic(auto, using(crate::proofs::Together::stays_self, crate::proofs::Together::stays_on, crate::proofs::Together::pair_on))]
-    fn run<R: Threads + Wait + Sync>(
+    fn run<W: Watch, R: Threads + Wait + Sync>(
         self,
         script: &Script,
         count: u32,
+        watch: &mut W,
         rt: &R,
     ) -> Result<Pair, Spent>
         requires script { IsScript script.now }
@@ -405,7 +416,7 @@ impl Pair {
         ensures stays { IfOk result (StaysSound self) }
     {
         let mut pair = self;
-        let Ok(left) = pair.rounds(count, rt) else {
+        let Ok(left) = pair.rounds(count, watch, rt) else {
             return Err(pair.give_up());
         };
         if !pair.has_failed() {
@@ -413,7 +424,7 @@ impl Pair {
         }
         // No second stop is to come behind this one.
         let mut pair = pair.stop_pending(script, rt)?;
-        match pair.rounds(left, rt) {
+        match pair.rounds(left, watch, rt) {
             Ok(_left) => Ok(pair),
             Err(Spent) => Err(pair.give_up()),
         }
@@ -601,10 +612,11 @@ impl Pair {
     /// # Errors
     /// Want of memory.
     #[tactic(auto, using(crate::proofs::Together::stays_self, crate::proofs::Together::stays_on, crate::proofs::Together::pair_on))]
-    fn step<R: Threads + Wait + Sync>(
+    fn step<W: Watch, R: Threads + Wait + Sync>(
         self,
         script: &Script,
         step: Step,
+        watch: &mut W,
         rt: &R,
     ) -> Result<Pair, Spent>
         requires script { IsScript script.now }
@@ -613,11 +625,11 @@ impl Pair {
     {
         match step {
             Step::Burst { count, rounds } => {
-                let pair = self.burst(script, u64::from(count), rounds, rt)?;
+                let pair = self.burst(script, u64::from(count), rounds, watch, rt)?;
                 pair.stop_due(script, rt)
             }
             Step::Rounds { count } => {
-                let pair = self.run(script, count, rt)?;
+                let pair = self.run(script, count, watch, rt)?;
                 pair.stop_due(script, rt)
             }
             Step::Cut => {
@@ -636,9 +648,10 @@ impl Pair {
     /// # Errors
     /// Want of memory.
     #[tactic(auto, using(crate::proofs::Together::stays_self, crate::proofs::Together::stays_on, crate::proofs::Together::pair_on))]
-    pub(crate) fn steps<R: Threads + Wait + Sync>(
+    pub(crate) fn steps<W: Watch, R: Threads + Wait + Sync>(
         self,
         script: &Script,
+        watch: &mut W,
         rt: &R,
     ) -> Result<Pair, Spent>
         requires script { IsScript script.now }
@@ -646,15 +659,22 @@ impl Pair {
         ensures stays { IfOk result (StaysSound self) }
     {
         let mut pair = self;
-        for step in script.steps.as_slice() {
-            pair = pair.step(script, *step, rt)?;
+        let steps = script.steps.as_slice();
+        let of = steps.len() as u64;
+        let mut done = 0u64;
+        for step in steps {
+            watch.at(done, of);
+            pair = pair.step(script, *step, watch, rt)?;
+            done = done.saturating_add(1);
         }
+        watch.at(done, of);
         let last = Step::Burst {
             count: 100_000,
             rounds: 0,
         };
         // Once more, for what a stop in the midst of it left.
-        pair.step(script, last, rt)?.step(script, last, rt)
+        pair.step(script, last, watch, rt)?
+            .step(script, last, watch, rt)
     }
 
     /// At most so many rounds, until all is over.
@@ -662,7 +682,12 @@ impl Pair {
     /// # Errors
     /// Want of memory.
     #[tactic(auto, using(crate::proofs::Together::stays_self, crate::proofs::Together::stays_on))]
-    pub(crate) fn drain<R: Threads + Wait + Sync>(&mut self, most: u64, rt: &R) -> Result<(), Spent>
+    pub(crate) fn drain<W: Watch, R: Threads + Wait + Sync>(
+        &mut self,
+        most: u64,
+        watch: &mut W,
+        rt: &R,
+    ) -> Result<(), Spent>
         ensures stays { OnOk result (StaysSound self.old self.new) }
     {
         for _ in 0..most {
@@ -670,6 +695,7 @@ impl Pair {
                 break;
             }
             self.round(rt)?;
+            watch.round();
         }
         Ok(())
     }

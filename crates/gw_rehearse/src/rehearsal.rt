@@ -10,6 +10,7 @@ ghost use Rattle.gw_rehearse.specs.declared.rehearsal.RehearseFault.TheVariants 
 use crate::journals::Journals;
 use crate::pair::{Pair, Spent};
 use crate::totals::{has_come, rounds_behind};
+use crate::watch::Watch;
 use cmd_script::Script;
 use fixp_msgs::Flow;
 use std::alloc::Global;
@@ -41,7 +42,12 @@ pub struct Rehearsal {
 /// # Errors
 /// Want of memory.
 #[tactic(auto, using(crate::proofs::Together::stays_self, crate::proofs::Together::stays_on))]
-fn run<R: Threads + Wait + Sync>(pair: Pair, script: &Script, rt: &R) -> Result<(Pair, bool), Spent>
+fn run<W: Watch, R: Threads + Wait + Sync>(
+    pair: Pair,
+    script: &Script,
+    watch: &mut W,
+    rt: &R,
+) -> Result<(Pair, bool), Spent>
     requires script { IsScript script.now }
     requires flows { IsPairOf script.now pair }
     ensures sent { IfOk result (λ r. IsTrue r.1 → r.0.sent ≡ Some script.now.load.messages) }
@@ -49,8 +55,8 @@ fn run<R: Threads + Wait + Sync>(pair: Pair, script: &Script, rt: &R) -> Result<
 {
     let messages = script.load.messages.as_slice();
     let most = rounds_behind(&script.load);
-    let mut pair = pair.steps(script, rt)?;
-    let Ok(()) = pair.drain(most, rt) else {
+    let mut pair = pair.steps(script, watch, rt)?;
+    let Ok(()) = pair.drain(most, watch, rt) else {
         return Err(pair.give_up());
     };
     if !pair.is_over() {
@@ -108,14 +114,15 @@ fn judged(
 }
 
 /// Runs a script over two new ends, and behind its last step rounds until both have finished: 64, and 16 for each message, at most, reports among
-/// them.
+/// them. The watch is told how far it is, and once nothing more runs that it is over.
 ///
 /// # Errors
 /// `Undrained` where they have not finished then, with all messages sent, those of a recoverable flow applied, and all that were applied reported
 /// on; and want of memory.
-pub fn rehearse<R: Threads + Wait + Sync>(
+pub fn rehearse<W: Watch, R: Threads + Wait + Sync>(
     alloc: Global,
     script: &Script,
+    watch: &mut W,
     rt: &R,
 ) -> Result<Rehearsal, RehearseFault>
     requires script { IsScript script.now }
@@ -130,7 +137,9 @@ pub fn rehearse<R: Threads + Wait + Sync>(
     let Some(pair) = Pair::open(alloc, script, rt) else {
         return Err(RehearseFault::Memory);
     };
-    let Ok((pair, done)) = run(pair, script, rt) else {
+    let ran = run(pair, script, watch, rt);
+    watch.over();
+    let Ok((pair, done)) = ran else {
         return Err(RehearseFault::Memory);
     };
     let (initiator, acceptor) = pair.close();
