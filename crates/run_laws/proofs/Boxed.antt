@@ -18,9 +18,11 @@ use Rattle.jr_boxes.specs.Inboxes.{records_of_inbox}
 use Rattle.conn_serve.specs.Connections.{all_of, adds_of, refused_of_all}
 use Rattle.life_laws.proofs.Outboxes.{entries-outbox_of}
 use Rattle.cmd_session.specs.Outsides.{Sees}
+use Rattle.cmd_session.specs.declared.outside.SessionOutside.{SessionOutside}
+use Rattle.cmd_base.specs.declared.status.Status.{Status}
+use Rattle.cmd_feed.specs.Outsides.{FeedSees}
 use Rattle.fixp_shake.specs.declared.config.EndConfig.{EndConfig}
-use Rattle.life_laws.specs.Plans.{Senders, submitting}
-use Rattle.cmd_session.specs.Answers.{answerers}
+use Rattle.life_laws.specs.Plans.{Senders}
 use Rattle.cmd_session.specs.Inputs.{end_of}
 use Rattle.cmd_session.specs.Lived.{HasLivedOver}
 use Rattle.run_laws.specs.Several.{Run, IsEmptyJournal, IsAt, RunsOver, IsRun}
@@ -30,7 +32,7 @@ use Rattle.run_laws.proofs.Telling.{first_of_images, in_tells}
 use Rattle.run_laws.proofs.Ordered.{order_of_first}
 use Rattle.run_laws.proofs.Merely.{image_left}
 use Rattle.run_laws.proofs.Chaining.{kept_was}
-use Rattle.run_laws.proofs.Ways.{Ways, ways_of}
+use Rattle.run_laws.proofs.Fed.{Did, run_did}
 
 -- ---- beginnings of the records of a history are those of one
 
@@ -81,34 +83,34 @@ AllHistories contents = (records : List Record) → Leaves contents (Some record
 abbrev AllLists : (List ℕ → Type 0) → Type 0
 AllLists contents = (records : List Record) → Leaves contents (Some records) → IsList records
 
-module _ {S K D N C J : Type 0} (G : Ghosts J) (sees : Sees S K D N C) (role : Role) (r : Run S K D N C) (outboxes inboxes : List ℕ → Type 0)
-    (out_at : IsAt sees outboxes r.before.out_disk) (in_at : IsAt sees inboxes r.before.in_disk) (out_all : AllHistories outboxes) (in_all : AllLists inboxes) where
-  lived_boxes : (config : EndConfig) (senders : Senders) → HasLivedOver G sees config senders r.before r.after r.status → AllHistories (sees.may_leave r.after.out_disk) × AllLists (sees.may_leave r.after.in_disk)
-  lived_boxes config senders lived =
+module _ {S K D N C J : Type 0} (G : Ghosts J) (sees : Sees S K D N C) (role : Role) (before after : SessionOutside S K D N C) (outboxes inboxes : List ℕ → Type 0)
+    (out_at : IsAt sees outboxes before.out_disk) (in_at : IsAt sees inboxes before.in_disk) (out_all : AllHistories outboxes) (in_all : AllLists inboxes) where
+  lived_boxes : (config : EndConfig) (senders : Senders) (begun : K) (answer : Status) → HasLivedOver G sees config senders (record before { out = begun }) after answer
+      → AllHistories (sees.may_leave after.out_disk) × AllLists (sees.may_leave after.in_disk)
+  lived_boxes config senders begun answer lived =
       let v = lived.over in (
-        λ records left. history_left v.closing v.whole v.lost records v.goes_on v.in_order (image_left (sees.may_leave r.after.out_disk) (records_of_history v.closing) (map record_of v.lost) records v.out_left left),
+        λ records left. history_left v.closing v.whole v.lost records v.goes_on v.in_order (image_left (sees.may_leave after.out_disk) (records_of_history v.closing) (map record_of v.lost) records v.out_left left),
         λ records left. list_left (v.inbox ++ adds_of (all_of v.served.life.ended v.served.life.given_up)) (refused_of_all (option_to_list v.served.life.given_up)) records (v.in_left (Some records) left),
       )
 
-  both_boxes : Ways G sees role r.before r.after r.status → AllHistories (sees.may_leave r.after.out_disk) × AllLists (sees.may_leave r.after.in_disk)
+  both_boxes : Did G sees role before after → AllHistories (sees.may_leave after.out_disk) × AllLists (sees.may_leave after.in_disk)
   both_boxes (inl kept) = (
-    λ records left. out_all records (kept_was sees outboxes r.before.out_disk r.after.out_disk records out_at kept.outbox left),
-    λ records left. in_all records (kept_was sees inboxes r.before.in_disk r.after.in_disk records in_at kept.inbox left),
+    λ records left. out_all records (kept_was sees outboxes before.out_disk after.out_disk records out_at kept.outbox left),
+    λ records left. in_all records (kept_was sees inboxes before.in_disk after.in_disk records in_at kept.inbox left),
   )
-  both_boxes (inr (inl by)) = lived_boxes (end_of role by.configuration.link) (submitting by.plans) by.lived
-  both_boxes (inr (inr by)) = lived_boxes (end_of role by.configuration.link) (answerers by.configuration.trade) by.lived
+  both_boxes (inr by) = lived_boxes (end_of role by.configuration.link) by.senders by.begun by.answer by.lived
 
-all_boxes : {S K D N C J : Type 0} (G : Ghosts J) (sees : Sees S K D N C) (role : Role) (runs : List (Run S K D N C)) (outboxes inboxes : List ℕ → Type 0) (outbox inbox : List ℕ) → AllHistories outboxes → AllLists inboxes
-    → RunsOver sees (IsRun G sees role) runs outboxes inboxes outbox inbox → AreBoxes outbox inbox
+all_boxes : {S I K A D N C J : Type 0} (G : Ghosts J) (sees : FeedSees S I K A D N C) (role : Role) (runs : List (Run S K D N C)) (outboxes inboxes : List ℕ → Type 0) (outbox inbox : List ℕ) → AllHistories outboxes → AllLists inboxes
+    → RunsOver sees.session (IsRun G sees role) runs outboxes inboxes outbox inbox → AreBoxes outbox inbox
 all_boxes G sees role [] outboxes inboxes outbox inbox out_all in_all over = record {
   history = λ records j. out_all records (outbox, over.0, j);
   list = λ records j. in_all records (inbox, over.1, j);
 }
 all_boxes G sees role (r ∷ later) outboxes inboxes outbox inbox out_all in_all over =
-    let both = both_boxes G sees role r outboxes inboxes over.0 over.1 out_all in_all (ways_of G sees role r.before r.after r.status over.2) in
-    all_boxes G sees role later (sees.may_leave r.after.out_disk) (sees.may_leave r.after.in_disk) outbox inbox both.0 both.1 over.3
+    let both = both_boxes G sees.session role r.before r.after outboxes inboxes over.0 over.1 out_all in_all (run_did G sees role r over.2) in
+    all_boxes G sees role later (sees.session.may_leave r.after.out_disk) (sees.session.may_leave r.after.in_disk) outbox inbox both.0 both.1 over.3
 
-pub boxes_are_left : {S K D N C J : Type 0} (G : Ghosts J) (sees : Sees S K D N C) → BoxesAreLeft G sees
+pub boxes_are_left : {S I K A D N C J : Type 0} (G : Ghosts J) (sees : FeedSees S I K A D N C) → BoxesAreLeft G sees
 boxes_are_left G sees role runs outbox inbox over = all_boxes G sees role runs IsEmptyJournal IsEmptyJournal outbox inbox
     (λ records left. (record { made = []; finished = false }, at_most_one_verdict.one_list left.0 records [] left.2 left.1, λ s. refl))
     (λ records left. ([], at_most_one_verdict.one_list left.0 records [] left.2 left.1)) over

@@ -35,10 +35,10 @@ use Rattle.run_laws.proofs.Ways.{Ways, ways_of}
 use Rattle.run_laws.proofs.Chaining.{told_was, kept_was}
 
 -- what stands at a place of a beginning stands there in all
-at_prefix : (xs ys : List (List ℕ)) → IsPrefix xs ys → (k : ℕ) (x : List ℕ) → slice_get xs k ≡ Some x → slice_get ys k ≡ Some x
+pub at_prefix : {A : Type 0} (xs ys : List A) → IsPrefix xs ys → (k : ℕ) (x : A) → slice_get xs k ≡ Some x → slice_get ys k ≡ Some x
 at_prefix [] ys p k x e = absurd (none-some x e)
 at_prefix (y ∷ xs) [] p k x e = let d = p.1 in absurd cc
-at_prefix (y ∷ xs) (z ∷ ys) p zero x e = let d = p.1 in let heads : z ≡ y = cc in ap (λ (w : List ℕ). Some w) heads ∙ e
+at_prefix (y ∷ xs) (z ∷ ys) p zero x e = let d = p.1 in let heads : z ≡ y = cc in ap (λ w. Some w) heads ∙ e
 at_prefix (y ∷ xs) (z ∷ ys) p (suc k) x e = let d = p.1 in at_prefix xs ys (p.0, cc) k x e
 
 -- what stands behind the first so many

@@ -23,12 +23,12 @@ use Rattle.jr_boxes.specs.Outboxes.{record_of, outbox_of}
 use Rattle.jr_boxes.specs.Inboxes.{records_of_inbox}
 use Rattle.cmd_config.specs.Settings.{own_flow, peer_flow}
 use Rattle.life_laws.proofs.Outboxes.{entries-outbox_of}
-use Rattle.life_laws.specs.Plans.{Senders, submitting}
+use Rattle.life_laws.specs.Plans.{Senders}
 use Rattle.cmd_config.specs.declared.configuration.Configuration.{Configuration}
-use Rattle.cmd_session.specs.Answers.{answerers}
 use Rattle.cmd_session.specs.Inputs.{IsConfigured, configuration_at, end_of}
 use Rattle.cmd_session.specs.Lived.{HasLivedOver}
-use Rattle.cmd_session.specs.Outsides.{Sees}
+use Rattle.cmd_base.specs.declared.status.Status.{Status}
+use Rattle.cmd_feed.specs.Outsides.{FeedSees}
 use Rattle.run_laws.specs.Several.{Run, Flows, HasFlows, IsEmptyJournal, IsAt, brought, RunsOver, WasRun, HasRun}
 use Rattle.run_laws.specs.Linked.{CarriedOn}
 use Rattle.run_laws.specs.Holding.{RunsHold}
@@ -37,7 +37,7 @@ use Rattle.run_laws.proofs.Telling.{same_outbox, same_inbox}
 use Rattle.run_laws.proofs.Sending.{plan_of}
 use Rattle.run_laws.proofs.Joined.{carried_are_linked}
 use Rattle.run_laws.proofs.Fitted.{configurations_fit}
-use Rattle.run_laws.proofs.Ways.{Ways, ways_of}
+use Rattle.run_laws.proofs.Fed.{Did, run_did}
 use Rattle.run_laws.proofs.Chaining.{Comes, unlived, lived_on}
 
 abbrev own : Role → Flows → Flow
@@ -46,36 +46,36 @@ own role flows = own_flow role flows.client flows.server
 abbrev peer : Role → Flows → Flow
 peer role flows = peer_flow role flows.client flows.server
 
-module _ {S K D N C J : Type 0} (G : Ghosts J) (sees : Sees S K D N C) (role : Role) (flows : Flows) (o : List OutboxRecord) (i : List InboxRecord)
+module _ {S I K A D N C J : Type 0} (G : Ghosts J) (sees : FeedSees S I K A D N C) (role : Role) (flows : Flows) (o : List OutboxRecord) (i : List InboxRecord)
     (told : G.tells) (payloads : AllByRecursion (λ (e : Entry). IsApplication e.payload) (entries o)) where
   module _ (r : Run S K D N C) (carried : List (Option Carried)) (outboxes inboxes : List ℕ → Type 0)
-      (out_at : IsAt sees outboxes r.before.out_disk) (in_at : IsAt sees inboxes r.before.in_disk) (was : WasRun G sees role flows r)
-      (later : Comes (own role flows) (peer role flows) (sees.may_leave r.after.out_disk) (sees.may_leave r.after.in_disk) carried o i) where
+      (out_at : IsAt sees.session outboxes r.before.out_disk) (in_at : IsAt sees.session inboxes r.before.in_disk) (was : WasRun G sees role flows r)
+      (later : Comes (own role flows) (peer role flows) (sees.session.may_leave r.after.out_disk) (sees.session.may_leave r.after.in_disk) carried o i) where
     abbrev Now : Type 0
-    Now = Comes (own role flows) (peer role flows) outboxes inboxes (brought sees r ++ carried) o i
+    Now = Comes (own role flows) (peer role flows) outboxes inboxes (brought sees.session r ++ carried) o i
 
     -- it lived by these senders
-    lived_by : (c : Configuration) → IsConfigured role (sees.left r.before.config) c → (senders : Senders) → HasLivedOver G sees (end_of role c.link) senders r.before r.after r.status → Now
-    lived_by c is senders lived =
-        let t = some_of (sees.left r.before.config) (HasFlows role flows) was.config in
+    lived_by : (c : Configuration) → IsConfigured role (sees.session.left r.before.config) c → (begun : K) (senders : Senders) (answer : Status)
+        → HasLivedOver G sees.session (end_of role c.link) senders (record r.before { out = begun }) r.after answer → Now
+    lived_by c is begun senders answer lived =
+        let t = some_of (sees.session.left r.before.config) (HasFlows role flows) was.config in
         let spelled : configuration_at role t.0 ≡ Ok c = is t.0 t.1 in
         let same : (c.link.client_flow ≡ flows.client) × (c.link.server_flow ≡ flows.server) = t.2 c spelled in
         let fits = configurations_fit role t.0 c spelled in
-        lived_on G sees (own role flows) (peer role flows) o i payloads r.before r.after carried outboxes inboxes out_at in_at was.links later told (end_of role c.link) senders r.status lived
+        lived_on G sees.session (own role flows) (peer role flows) o i payloads (record r.before { out = begun }) r.after carried outboxes inboxes out_at in_at was.links later told (end_of role c.link) senders answer lived
         (ap (λ (f : Flow). own_flow role f c.link.server_flow) same.0 ∙ ap (λ (f : Flow). own_flow role flows.client f) same.1)
         (ap (λ (f : Flow). peer_flow role f c.link.server_flow) same.0 ∙ ap (λ (f : Flow). peer_flow role flows.client f) same.1)
         fits.session fits.keepalive fits.credentials
 
-    by_way : Ways G sees role r.before r.after r.status → Now
-    by_way (inl kept) = unlived G sees (own role flows) (peer role flows) o i payloads r.before r.after carried outboxes inboxes out_at in_at was.links later kept
-    by_way (inr (inl by)) = lived_by by.configuration by.spelled (submitting by.plans) by.lived
-    by_way (inr (inr by)) = lived_by by.configuration by.spelled (answerers by.configuration.trade) by.lived
+    by_way : Did G sees.session role r.before r.after → Now
+    by_way (inl kept) = unlived G sees.session (own role flows) (peer role flows) o i payloads r.before r.after carried outboxes inboxes out_at in_at was.links later kept
+    by_way (inr by) = lived_by by.configuration by.spelled by.begun by.senders by.answer by.lived
 
     step : Now
-    step = by_way (ways_of G sees role r.before r.after r.status was.steps)
+    step = by_way (run_did G sees role r was.steps)
 
   comes : (runs : List (Run S K D N C)) (outboxes inboxes : List ℕ → Type 0) (outbox inbox : List ℕ) → IsJournal outbox (map record_of o) → IsJournal inbox (records_of_inbox i)
-      → RunsOver sees (WasRun G sees role flows) runs outboxes inboxes outbox inbox → Comes (own role flows) (peer role flows) outboxes inboxes (flat_map (brought sees) runs) o i
+      → RunsOver sees.session (WasRun G sees role flows) runs outboxes inboxes outbox inbox → Comes (own role flows) (peer role flows) outboxes inboxes (flat_map (brought sees.session) runs) o i
   comes [] outboxes inboxes outbox inbox out_is in_is over = record {
     opened = o;
     waiting = i;
@@ -90,8 +90,8 @@ module _ {S K D N C J : Type 0} (G : Ghosts J) (sees : Sees S K D N C) (role : R
     links = tt;
   }
   comes (r ∷ later) outboxes inboxes outbox inbox out_is in_is over =
-      step r (flat_map (brought sees) later) outboxes inboxes over.0 over.1 over.2
-      (comes later (sees.may_leave r.after.out_disk) (sees.may_leave r.after.in_disk) outbox inbox out_is in_is over.3)
+      step r (flat_map (brought sees.session) later) outboxes inboxes over.0 over.1 over.2
+      (comes later (sees.session.may_leave r.after.out_disk) (sees.session.may_leave r.after.in_disk) outbox inbox out_is in_is over.3)
 
 -- the lives of an end, from the beginning on
 pub record AreLives (own peer : Flow) (carried : List (Option Carried)) (h : History) (i : List InboxRecord) : Type 0 where
@@ -101,9 +101,9 @@ pub record AreLives (own peer : Flow) (carried : List (Option Carried)) (h : His
   pub may_turn : AllByRecursion (MayTurn own peer) lives
   pub links : AllZip CarriedOn carried (flat_map legs_in lives)
 
-module _ {S K D N C J : Type 0} (G : Ghosts J) (sees : Sees S K D N C) (role : Role) (flows : Flows) (runs : List (Run S K D N C)) (h : History) (i : List InboxRecord) (told : G.tells) (ran : HasRun G sees role flows runs h i) where
+module _ {S I K A D N C J : Type 0} (G : Ghosts J) (sees : FeedSees S I K A D N C) (role : Role) (flows : Flows) (runs : List (Run S K D N C)) (h : History) (i : List InboxRecord) (told : G.tells) (ran : HasRun G sees role flows runs h i) where
   abbrev from_empty : Type 0
-  from_empty = Comes (own_flow role flows.client flows.server) (peer_flow role flows.client flows.server) IsEmptyJournal IsEmptyJournal (flat_map (brought sees) runs) (outbox_of h) i
+  from_empty = Comes (own_flow role flows.client flows.server) (peer_flow role flows.client flows.server) IsEmptyJournal IsEmptyJournal (flat_map (brought sees.session) runs) (outbox_of h) i
 
   came : from_empty
   came = comes G sees role flows (outbox_of h) i told (subst (λ (es : List Entry). AllByRecursion (λ (e : Entry). IsApplication e.payload) es) (sym (entries-outbox_of h)) ran.payloads)
@@ -115,7 +115,7 @@ module _ {S K D N C J : Type 0} (G : Ghosts J) (sees : Sees S K D N C) (role : R
   none_waiting : came.waiting ≡ []
   none_waiting = same_inbox came.waiting [] (at_most_one_verdict.one_list came.in_was.0 (records_of_inbox came.waiting) [] came.in_was.2 came.in_was.1)
 
-  pub are_lives : AreLives (own_flow role flows.client flows.server) (peer_flow role flows.client flows.server) (flat_map (brought sees) runs) h i
+  pub are_lives : AreLives (own_flow role flows.client flows.server) (peer_flow role flows.client flows.server) (flat_map (brought sees.session) runs) h i
   are_lives = record {
     lives = came.lives;
     chained = subst (λ (rs : List OutboxRecord). Chained rs [] (lives_of came.lives) (outbox_of h) i) none_opened
@@ -125,7 +125,7 @@ module _ {S K D N C J : Type 0} (G : Ghosts J) (sees : Sees S K D N C) (role : R
     links = came.links;
   }
 
-pub runs_hold : {S K D N C J : Type 0} (G : Ghosts J) (sees : Sees S K D N C) → RunsHold G sees
+pub runs_hold : {S I K A D N C J : Type 0} (G : Ghosts J) (sees : FeedSees S I K A D N C) → RunsHold G sees
 runs_hold G sees told flows runs_i runs_a h_i h_a i_i i_a ran_i ran_a linked =
     let a = are_lives G sees Initiator flows runs_i h_i i_i told ran_i in
     let b = are_lives G sees Acceptor flows runs_a h_a i_a told ran_a in
@@ -138,7 +138,7 @@ runs_hold G sees told flows runs_i runs_a h_i h_a i_i i_a ran_i ran_a linked =
       chained_b = b.chained;
       outboxes_a = a.keeps;
       outboxes_b = b.keeps;
-      linked = carried_are_linked (flat_map (brought sees) runs_i) (flat_map (brought sees) runs_a) (flat_map legs_in a.lives) (flat_map legs_in b.lives) a.links b.links linked;
+      linked = carried_are_linked (flat_map (brought sees.session) runs_i) (flat_map (brought sees.session) runs_a) (flat_map legs_in a.lives) (flat_map legs_in b.lives) a.links b.links linked;
     }) in (
       subst (λ (es : List Entry). Holds flows.client es i_a) (entries-outbox_of h_i) both.0,
       subst (λ (es : List Entry). Holds flows.server es i_i) (entries-outbox_of h_a) both.1,

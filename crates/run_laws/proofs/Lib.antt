@@ -11,6 +11,7 @@ pub mod Joined
 pub mod Fitted
 pub mod Merely
 pub mod Ways
+pub mod Fed
 pub mod Chaining
 pub mod Holding
 pub mod Lasting
@@ -21,6 +22,7 @@ pub mod Promised
 pub mod Sampled
 pub mod Spelled
 pub mod Acknowledged
+pub mod FedLaws
 pub mod Boxed
 pub mod Serving
 pub mod Noting

@@ -39,6 +39,7 @@ use Rattle.order_desk.proofs.Shares.{desk_plan_goes_on}
 use Rattle.order_desk.specs.Plans.{desk_plan}
 use Rattle.order_book_gate.specs.Plan.{book_plan}
 use Rattle.order_book_gate.specs.Standing.{book_plan_goes_on}
+use Rattle.schema_toml.specs.declared.fault.ConfigFault.{ConfigFault}
 use Rattle.cmd_base.specs.Texts.{IsUnconfigured}
 use Rattle.cmd_base.specs.declared.status.Status.{Status}
 use Rattle.cmd_base.specs.declared.status.Status.TheVariants.{Config, InputFault, JournalFault, JournalBad, Memory}
@@ -52,10 +53,13 @@ use Rattle.cmd_session.specs.Lived.{IsUnbegun, LeftAll, LivedOver, HasLivedOver}
 use Rattle.cmd_session.specs.Outsides.{Sees, disks_of}
 use Rattle.cmd_session.specs.Steps.{RefusedBoxes, EndsBehindConfig, Steps}
 use Rattle.cmd_session.specs.declared.outside.SessionOutside.{SessionOutside}
+use Rattle.cmd_feed.specs.declared.outside.FeedOutside.{FeedOutside}
+use Rattle.cmd_feed.specs.Outsides.{FeedSees, session_of}
+use Rattle.cmd_feed.specs.Steps.{EndsFed, Steps as FedSteps}
 use Rattle.cmd_session.proofs.Histories.{out_tells}
 use Rattle.cmd_session.proofs.Verdicts.{at_most_one_verdict}
 use Rattle.run_laws.specs.Completeness.{IsOfConnections}
-use Rattle.run_laws.specs.Several.{Run, IsEmptyJournal, IsAt, RunsOver}
+use Rattle.run_laws.specs.Several.{Run, IsEmptyJournal, IsAt, RunsOver, IsRun}
 use Rattle.run_laws.specs.Desks.{HasSameDesks, HasDesks, due, IsAllSent, SentToFinish, LeavesNone, EndsByConnections, HoldsAnswers, RunsDesks, DesksHold}
 use Rattle.run_laws.proofs.Refusing.{some_of}
 use Rattle.run_laws.proofs.Ending.{unrefused}
@@ -65,6 +69,7 @@ use Rattle.run_laws.proofs.Sending.{prefix_sent}
 use Rattle.run_laws.proofs.Submitted.{continued}
 use Rattle.run_laws.proofs.Merely.{image_left}
 use Rattle.run_laws.proofs.Ways.{Unlived, config_kept, boxes_kept, unbegun_kept}
+use Rattle.run_laws.proofs.Fed as fed
 use Rattle.run_laws.proofs.Chaining.{told_was, kept_was}
 
 -- ---- what desks are to send
@@ -265,6 +270,10 @@ not_opened which flow told JournalFault is of = of
 not_opened which flow told Memory is of = of
 not_opened which flow told _ is of = is
 
+not_with_desks : (fault : ConfigFault) (status : Status) → (status ≡ Config fault) ⊎ (status ≡ Memory) → IsOfConnections status → ⊥
+not_with_desks fault status (inl is) of = subst IsOfConnections is of
+not_with_desks fault status (inr is) of = subst IsOfConnections is of
+
 not_begun : {K : Type 0} (sink : K → ℕ) (old new : K) (status : Status) → IsUnbegun sink old new status → IsOfConnections status → ⊥
 not_begun sink old new status (inl is) of = subst IsOfConnections is of
 not_begun sink old new status (inr is) of = subst IsOfConnections is.0 of
@@ -304,9 +313,35 @@ module _ {S K D N C J : Type 0} (G : Ghosts J) (sees : Sees S K D N C) (role : R
       let t = some_of (sees.left before.config) (HasDesks role trade) config in
       by_config was.configuration (t.2 was.configuration (was.spelled t.0 t.1)) was.ended
 
+-- ---- a run that is fed
+
+module _ {S I K A D N C J : Type 0} (G : Ghosts J) (sees : FeedSees S I K A D N C) (role : Role) (trade : Trade) where
+  module _ (before after : FeedOutside S I K A D N C) (status : Status) where
+    abbrev FedNone : Type 0
+    FedNone = NoneLived G sees.session role trade (session_of before) (session_of after) status
+
+    by_fed_config : (c : Configuration) → HasSameDesks trade c.trade → EndsFed G sees role c before after status → FedNone
+    by_fed_config c same (inl refused) = record { kept = fed.desks_kept sees before after status c refused; unended = not_with_desks _ status refused.refused }
+    by_fed_config c same (inr on) = let none = on.0 in let some = same.some in absurd (omega (arith, none, some))
+
+    -- it lives none where CONFIG has desks
+    fed_none : IsSomeAnd (sees.session.left before.config) (HasDesks role trade) → FedSteps G sees role before after status → FedNone
+    fed_none config (inl stopped) = record { kept = fed.config_kept sees before after status role stopped; unended = not_configured status stopped.unconfigured }
+    fed_none config (inr was) =
+        let t = some_of (sees.session.left before.config) (HasDesks role trade) config in
+        by_fed_config was.configuration (t.2 was.configuration (was.spelled t.0 t.1)) was.ended
+
+  run_way : (r : Run S K D N C) → IsSomeAnd (sees.session.left r.before.config) (HasDesks role trade) → IsRun G sees role r
+      → NoneLived G sees.session role trade r.before r.after r.status ⊎ LivedByThem G sees.session role trade r.before r.after r.status
+  run_way r config (inl steps) = way_of G sees.session role trade r.before r.after r.status config steps
+  run_way r config (inr f) = inl
+      (subst (λ (b : SessionOutside S K D N C). NoneLived G sees.session role trade b r.after r.status) (sym f.begins)
+      (subst (λ (a : SessionOutside S K D N C). NoneLived G sees.session role trade (session_of f.before) a r.status) (sym f.ends)
+      (fed_none f.before f.after r.status (subst (λ (b : SessionOutside S K D N C). IsSomeAnd (sees.session.left b.config) (HasDesks role trade)) f.begins config) f.steps)))
+
 -- ---- any runs
 
-module _ {S K D N C J : Type 0} (G : Ghosts J) (sees : Sees S K D N C) (tells : G.tells) (role : Role) (trade : Trade) (h : History) (i : List InboxRecord) where
+module _ {S I K A D N C J : Type 0} (G : Ghosts J) (sees : FeedSees S I K A D N C) (tells : G.tells) (role : Role) (trade : Trade) (h : History) (i : List InboxRecord) where
   -- from some contents on, it stays so to the end; and the last run, if it ended by its connections, left none out
   record Stays (runs : List (Run S K D N C)) (outboxes inboxes : List ℕ → Type 0) : Type 0 where
     opened : List OutboxRecord
@@ -317,20 +352,20 @@ module _ {S K D N C J : Type 0} (G : Ghosts J) (sees : Sees S K D N C) (tells : 
     settles : EndsByConnections runs → Told trade (history_of opened) waiting → LeavesNone trade i h
     last : runs ≡ [] → (history_of opened ≡ h) × (waiting ≡ i)
 
-  module _ (r : Run S K D N C) (outboxes inboxes : List ℕ → Type 0) (out_at : IsAt sees outboxes r.before.out_disk) (in_at : IsAt sees inboxes r.before.in_disk) where
+  module _ (r : Run S K D N C) (outboxes inboxes : List ℕ → Type 0) (out_at : IsAt sees.session outboxes r.before.out_disk) (in_at : IsAt sees.session inboxes r.before.in_disk) where
     abbrev Later : List (Run S K D N C) → Type 0
-    Later rest = Stays rest (sees.may_leave r.after.out_disk) (sees.may_leave r.after.in_disk)
+    Later rest = Stays rest (sees.session.may_leave r.after.out_disk) (sees.session.may_leave r.after.in_disk)
 
     settles_unlived : (rest : List (Run S K D N C)) (later : Later rest) → (IsOfConnections r.status → ⊥) → EndsByConnections (r ∷ rest) → Told trade (history_of later.opened) later.waiting → LeavesNone trade i h
     settles_unlived [] later none ended told = absurd (none ended)
     settles_unlived (q ∷ rest) later none ended told = later.settles ended told
 
-    unlived : (rest : List (Run S K D N C)) → Later rest → NoneLived G sees role trade r.before r.after r.status → Stays (r ∷ rest) outboxes inboxes
+    unlived : (rest : List (Run S K D N C)) → Later rest → NoneLived G sees.session role trade r.before r.after r.status → Stays (r ∷ rest) outboxes inboxes
     unlived rest later none = record {
       opened = later.opened;
       waiting = later.waiting;
-      out_was = kept_was sees outboxes r.before.out_disk r.after.out_disk (map record_of later.opened) out_at none.kept.outbox later.out_was;
-      in_was = kept_was sees inboxes r.before.in_disk r.after.in_disk (records_of_inbox later.waiting) in_at none.kept.inbox later.in_was;
+      out_was = kept_was sees.session outboxes r.before.out_disk r.after.out_disk (map record_of later.opened) out_at none.kept.outbox later.out_was;
+      in_was = kept_was sees.session inboxes r.before.in_disk r.after.in_disk (records_of_inbox later.waiting) in_at none.kept.inbox later.in_was;
       stays = later.stays;
       settles = settles_unlived rest later none.unended;
       last = λ e. absurd (cc e);
@@ -342,8 +377,8 @@ module _ {S K D N C J : Type 0} (G : Ghosts J) (sees : Sees S K D N C) (tells : 
         subst (λ (x : History). LeavesNone trade i x) e.0 (subst (λ (x : List InboxRecord). LeavesNone trade x (history_of later.opened)) e.1 (now ended))
     settles_lived (q ∷ rest) later now ended told = later.settles ended told
 
-    module _ (rest : List (Run S K D N C)) (later : Later rest) (by : LivedByThem G sees role trade r.before r.after r.status) where
-      abbrev v : LivedOver sees by.config (answerers trade) r.before r.after by.lived.old by.lived.new by.lived.result
+    module _ (rest : List (Run S K D N C)) (later : Later rest) (by : LivedByThem G sees.session role trade r.before r.after r.status) where
+      abbrev v : LivedOver sees.session by.config (answerers trade) r.before r.after by.lived.old by.lived.new by.lived.result
       v = by.lived.over
 
       abbrev j : List InboxRecord
@@ -354,7 +389,7 @@ module _ {S K D N C J : Type 0} (G : Ghosts J) (sees : Sees S K D N C) (tells : 
 
       out_image : IsImage (outbox_of v.closing) v.lost later.opened
       out_image = same_image record_of out_tells (outbox_of v.closing) v.lost later.opened
-          (image_left (sees.may_leave r.after.out_disk) (records_of_history v.closing) (map record_of v.lost) (map record_of later.opened) v.out_left later.out_was)
+          (image_left (sees.session.may_leave r.after.out_disk) (records_of_history v.closing) (map record_of v.lost) (map record_of later.opened) v.out_left later.out_was)
 
       in_image : IsImage j left later.waiting
       in_image = same_image in_boxes.record_of in_tells j left later.waiting (v.in_left (Some (records_of_inbox later.waiting)) later.in_was)
@@ -370,7 +405,7 @@ module _ {S K D N C J : Type 0} (G : Ghosts J) (sees : Sees S K D N C) (tells : 
 
       none_refused : IsUnrefused by.lived.result → j ≡ later.waiting
       none_refused un =
-          let none : left ≡ [] = no_record_refused v.served.life.behind v.seen v.served.life.mid (sees.carried r.after.dialer) v.served.life.ended v.served.life.given_up v.connections v.refused v.refusal
+          let none : left ≡ [] = no_record_refused v.served.life.behind v.seen v.served.life.mid (sees.session.carried r.after.dialer) v.served.life.ended v.served.life.given_up v.connections v.refused v.refusal
           (subst IsUnrefused v.answer un) v.served.life.answer in
           image_of_none (λ (x : List InboxRecord). j ≡ x) j later.waiting refl (subst (λ (x : List InboxRecord). IsImage j x later.waiting) none in_image)
 
@@ -384,8 +419,8 @@ module _ {S K D N C J : Type 0} (G : Ghosts J) (sees : Sees S K D N C) (tells : 
       lived_on = record {
         opened = outbox_of v.opening;
         waiting = v.inbox;
-        out_was = told_was sees outboxes r.before.out_disk (records_of_history v.opening) out_at v.out_opened;
-        in_was = told_was sees inboxes r.before.in_disk (records_of_inbox v.inbox) in_at v.in_opened;
+        out_was = told_was sees.session outboxes r.before.out_disk (records_of_history v.opening) out_at v.out_opened;
+        in_was = told_was sees.session inboxes r.before.in_disk (records_of_inbox v.inbox) in_at v.in_opened;
         stays = λ was. later.stays (now (opened_is was));
         settles = λ ended was. settles_lived rest later (settled (opened_is was)) ended (now (opened_is was));
         last = λ e. absurd (cc e);
@@ -394,12 +429,12 @@ module _ {S K D N C J : Type 0} (G : Ghosts J) (sees : Sees S K D N C) (tells : 
           opened_is : Told trade (history_of (outbox_of v.opening)) v.inbox → Told trade v.opening v.inbox
           opened_is was = subst (λ (x : History). Told trade x v.inbox) (history_of-records v.opening) was
 
-    by_way : (rest : List (Run S K D N C)) → Later rest → NoneLived G sees role trade r.before r.after r.status ⊎ LivedByThem G sees role trade r.before r.after r.status → Stays (r ∷ rest) outboxes inboxes
+    by_way : (rest : List (Run S K D N C)) → Later rest → NoneLived G sees.session role trade r.before r.after r.status ⊎ LivedByThem G sees.session role trade r.before r.after r.status → Stays (r ∷ rest) outboxes inboxes
     by_way rest later (inl none) = unlived rest later none
     by_way rest later (inr by) = lived_on rest later by
 
   stays_over : (runs : List (Run S K D N C)) (outboxes inboxes : List ℕ → Type 0) (outbox inbox : List ℕ) → IsJournal outbox (records_of_history h) → IsJournal inbox (records_of_inbox i)
-      → RunsOver sees (RunsDesks G sees role trade) runs outboxes inboxes outbox inbox → Stays runs outboxes inboxes
+      → RunsOver sees.session (RunsDesks G sees role trade) runs outboxes inboxes outbox inbox → Stays runs outboxes inboxes
   stays_over [] outboxes inboxes outbox inbox out_is in_is over = record {
     opened = outbox_of h;
     waiting = i;
@@ -411,13 +446,13 @@ module _ {S K D N C J : Type 0} (G : Ghosts J) (sees : Sees S K D N C) (tells : 
   }
   stays_over (r ∷ rest) outboxes inboxes outbox inbox out_is in_is over =
       by_way r outboxes inboxes over.0 over.1 rest
-      (stays_over rest (sees.may_leave r.after.out_disk) (sees.may_leave r.after.in_disk) outbox inbox out_is in_is over.3)
-      (way_of G sees role trade r.before r.after r.status over.2.config over.2.steps)
+      (stays_over rest (sees.session.may_leave r.after.out_disk) (sees.session.may_leave r.after.in_disk) outbox inbox out_is in_is over.3)
+      (run_way G sees role trade r over.2.config over.2.steps)
 
   nothing_told : Told trade (history_of []) []
   nothing_told = record { in_order = λ s. refl; planned = λ s. (due trade [] s, refl); finished = λ marked. absurd (true≢false (sym marked)) }
 
-  holds_answers : (runs : List (Run S K D N C)) (outbox inbox : List ℕ) → RunsOver sees (RunsDesks G sees role trade) runs IsEmptyJournal IsEmptyJournal outbox inbox → IsJournal outbox (records_of_history h)
+  holds_answers : (runs : List (Run S K D N C)) (outbox inbox : List ℕ) → RunsOver sees.session (RunsDesks G sees role trade) runs IsEmptyJournal IsEmptyJournal outbox inbox → IsJournal outbox (records_of_history h)
       → IsJournal inbox (records_of_inbox i) → HoldsAnswers trade runs i h
   holds_answers runs outbox inbox over out_is in_is =
       let x : Stays runs IsEmptyJournal IsEmptyJournal = stays_over runs IsEmptyJournal IsEmptyJournal outbox inbox out_is in_is over in
@@ -427,5 +462,5 @@ module _ {S K D N C J : Type 0} (G : Ghosts J) (sees : Sees S K D N C) (tells : 
       let end : Told trade h i = x.stays begun in
       record { in_order = end.in_order; planned = end.planned; finished = end.finished; settled = λ ended. x.settles ended begun }
 
-pub desks_hold : {S K D N C J : Type 0} (G : Ghosts J) (sees : Sees S K D N C) → DesksHold G sees
+pub desks_hold : {S I K A D N C J : Type 0} (G : Ghosts J) (sees : FeedSees S I K A D N C) → DesksHold G sees
 desks_hold G sees tells role trade runs outbox inbox h i over out_is in_is = holds_answers G sees tells role trade h i runs outbox inbox over out_is in_is

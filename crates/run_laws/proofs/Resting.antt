@@ -14,7 +14,7 @@ use Rattle.turn_laws.specs.Legs.{TurnedLeg, first_line}
 use Rattle.jr_dated.specs.declared.journal.Journal.{Ghosts}
 use Rattle.cmd_config.specs.declared.configuration.Link.{Link}
 use Rattle.cmd_session.specs.Inputs.{end_of}
-use Rattle.cmd_session.specs.Outsides.{Sees}
+use Rattle.cmd_feed.specs.Outsides.{FeedSees}
 use Rattle.honest_ends.specs.Resting.{IsIdle}
 use Rattle.honest_turns.specs.Links.{OverOneLink}
 use Rattle.honest_turns.specs.Sides.{Side, inbox_behind, MakesTurns, AreAtRest}
@@ -94,7 +94,7 @@ machine_led e t m s enough whole (inr is) = sym (behind_last (side_of e t) m eno
 over_so : (x s : State) → x ≡ s → finishes_exchanged (around s 0 0) s.facts ≡ true → finishes_exchanged (around x 0 0) x.facts ≡ true
 over_so x s is e = ap (λ (z : State). finishes_exchanged (around z 0 0) z.facts) is ∙ e
 
-module _ {S K D N C J : Type 0} (G : Ghosts J) (told : G.tells) (sees : Sees S K D N C) (li la : Link) (i : EndRan G sees Initiator li) (a : EndRan G sees Acceptor la) (matches : Matching li la)
+module _ {S I K A D N C J : Type 0} (G : Ghosts J) (told : G.tells) (sees : FeedSees S I K A D N C) (li la : Link) (i : EndRan G sees Initiator li) (a : EndRan G sees Acceptor la) (matches : Matching li la)
     (m : MeetLast (lives G sees Initiator li i) (lives G sees Acceptor la a)) where
   abbrev lives_i : List Served
   lives_i = lives G sees Initiator li i
@@ -192,6 +192,6 @@ module _ {S K D N C J : Type 0} (G : Ghosts J) (told : G.tells) (sees : Sees S K
         acceptor = over_so ca.before.makes.turns.last.machine o.machine_a (machine_led ca.before.mid m.last_a ca.before.makes o.machine_a know.agree.homeward.sent m.whole_a ca.before.led) o.acceptor;
       }))
 
-pub rest_is_whole : {S K D N C J : Type 0} (G : Ghosts J) (sees : Sees S K D N C) → RestIsWhole G sees
+pub rest_is_whole : {S I K A D N C J : Type 0} (G : Ghosts J) (sees : FeedSees S I K A D N C) → RestIsWhole G sees
 rest_is_whole G sees told li la i a matches m (inl q) = quiet G told sees li la i a matches m q
 rest_is_whole G sees told li la i a matches m (inr o) = over G told sees li la i a matches m o

@@ -78,7 +78,7 @@ use Rattle.cmd_session.specs.Inputs.{configuration_at, flow_received, end_of}
 use Rattle.cmd_session.specs.Lived.{LeavesImages, IsOfLife, LivedOver, status_of}
 use Rattle.run_laws.specs.Several.{HasFlows, IsEmptyJournal, IsAt, RunsOver, WasRun, HasRun}
 use Rattle.run_laws.specs.Linked.{no_more, paired}
-use Rattle.run_laws.specs.Samples.{configured, config_text, both_recoverable, message, submitted, nothing, with_one, journal_of, MemoryDisk, IsOneOf, memory_links, memory, settled, torn, one_left, MemoryOutside, MemoryRun, stopped_run, cut_run, of_initiator, of_acceptor, runs_of_initiator, runs_of_acceptor, RunsSample}
+use Rattle.run_laws.specs.Samples.{configured, config_text, both_recoverable, message, submitted, nothing, with_one, journal_of, MemoryDisk, IsOneOf, memory_links, memory, fed_memory, settled, torn, one_left, MemoryOutside, MemoryRun, stopped_run, cut_run, of_initiator, of_acceptor, runs_of_initiator, runs_of_acceptor, RunsSample}
 use Rattle.plan_outbox.specs.Behind.{GoesOnFrom}
 use Rattle.run_laws.proofs.Fresh.{empty_box, goes_on_nothing}
 use Rattle.cmd_session.specs.Answers.{answers_of, answerers}
@@ -642,12 +642,12 @@ timely_a = record {
 module _ {J : Type 0} {G : Ghosts J} (box : Inbox J G) (held : HoldsBox box [] []) (role : Role) (text : List ℕ) (spelled : configuration_at role text ≡ Ok configured) where
   abbrev pub was : (r : MemoryRun) (h : History) (plans : List (List (List ℕ))) → GoesOnFrom plans h → (result : Result (Unit {0}) ServeFault) → r.before.config ≡ Some text → r.before.input ≡ None → r.before.out_disk ≡ settled h → r.before.in_disk ≡ settled nothing
       → IsJournal (journal_of h) (records_of_history h) → IsOutbox (records_of_history h) h → r.status ≡ status_of result → IsOfLife r.status → (r.status ≡ OutputFault → ⊥) → (r.status ≡ DialFault → ⊥)
-      → LivedOver memory (end_of role configured.link) (submitting plans) r.before r.after box box result → WasRun G memory role both_recoverable r
+      → LivedOver memory (end_of role configured.link) (submitting plans) r.before r.after box box result → WasRun G fed_memory role both_recoverable r
   was r h plans from result config input out_is in_is j outbox status of_life no_output no_dial life = record {
     config = subst (λ (o : Option (List ℕ)). IsSomeAnd o (HasFlows role both_recoverable)) (sym config)
         (λ c e. let same : configured ≡ c = cc (sym spelled ∙ e) in subst (λ (d : Configuration). (d.link.client_flow ≡ Recoverable) × (d.link.server_flow ≡ Recoverable)) same (refl, refl));
     links = refl;
-    steps = inr (record {
+    steps = inl (inr (record {
       configuration = configured;
       spelled = λ other e. subst (λ (t : List ℕ). configuration_at role t ≡ Ok configured) (same_Some text other (sym config ∙ e)) spelled;
       ended = inr (inl (
@@ -674,16 +674,16 @@ module _ {J : Type 0} {G : Ghosts J} (box : Inbox J G) (held : HoldsBox box [] [
           });
         },
       ));
-    });
+    }));
   }
 
   -- the first run
-  abbrev pub first_was : WasRun G memory role both_recoverable (stopped_run text)
+  abbrev pub first_was : WasRun G fed_memory role both_recoverable (stopped_run text)
   first_was = was (stopped_run text) nothing first_plans (goes_on_nothing first_plans [] false refl refl) (Err faults.Journal) refl refl refl refl journal_nothing outbox_nothing refl tt (λ e. cc) (λ e. cc) (first_lived box held role text)
 
   -- both, where the second found this history
-  abbrev pub runs_over : (h : History) (carried : Carried) → IsOneOf (journal_of h) torn.left → WasRun G memory role both_recoverable (cut_run text h carried)
-      → RunsOver memory (WasRun G memory role both_recoverable) (stopped_run text ∷ cut_run text h carried ∷ []) IsEmptyJournal IsEmptyJournal (journal_of h) (journal_of nothing)
+  abbrev pub runs_over : (h : History) (carried : Carried) → IsOneOf (journal_of h) torn.left → WasRun G fed_memory role both_recoverable (cut_run text h carried)
+      → RunsOver memory (WasRun G fed_memory role both_recoverable) (stopped_run text ∷ cut_run text h carried ∷ []) IsEmptyJournal IsEmptyJournal (journal_of h) (journal_of nothing)
   runs_over h carried among second = (
     empty_at,
     empty_at,
@@ -697,7 +697,7 @@ module _ {J : Type 0} {G : Ghosts J} (box : Inbox J G) (held : HoldsBox box [] [
   )
 
 module _ {J : Type 0} {G : Ghosts J} (box : Inbox J G) where
-  abbrev pub ran_i : HoldsBox box [] [] → (text : List ℕ) → configuration_at Initiator text ≡ Ok configured → HasRun G memory Initiator both_recoverable (runs_of_initiator text) with_one []
+  abbrev pub ran_i : HoldsBox box [] [] → (text : List ℕ) → configuration_at Initiator text ≡ Ok configured → HasRun G fed_memory Initiator both_recoverable (runs_of_initiator text) with_one []
   ran_i held text spelled =
       let ended : AllEnded with_one with_one (fresh (end_of Initiator configured.link) (opened_state with_one box) (2 ^ 26)) last_i.machine (connection_i ∷ []) =
       subst (λ (s : EndState). AllEnded with_one with_one (fresh (end_of Initiator configured.link) s (2 ^ 26)) last_i.machine (connection_i ∷ [])) (opened_is box held (submitted ∷ [])) ended_i in
@@ -712,7 +712,7 @@ module _ {J : Type 0} {G : Ghosts J} (box : Inbox J G) where
         payloads = (is_application, tt);
       }
 
-  abbrev pub ran_a : HoldsBox box [] [] → (text : List ℕ) → configuration_at Acceptor text ≡ Ok configured → HasRun G memory Acceptor both_recoverable (runs_of_acceptor text) nothing []
+  abbrev pub ran_a : HoldsBox box [] [] → (text : List ℕ) → configuration_at Acceptor text ≡ Ok configured → HasRun G fed_memory Acceptor both_recoverable (runs_of_acceptor text) nothing []
   ran_a held text spelled =
       let ended : AllEnded nothing nothing (fresh (end_of Acceptor configured.link) (opened_state nothing box) (2 ^ 26)) last_a.machine (connection_a ∷ []) =
       subst (λ (s : EndState). AllEnded nothing nothing (fresh (end_of Acceptor configured.link) s (2 ^ 26)) last_a.machine (connection_a ∷ [])) (opened_is box held []) ended_a in
@@ -822,12 +822,12 @@ module _ {J : Type 0} {G : Ghosts J} (box : Inbox J G) (held : HoldsBox box [] [
     full = λ es bytes e. absurd (cut_not_full es bytes e);
   }
 
-  desks_was : RunsDesks G memory Acceptor with_desks.trade cut
+  desks_was : RunsDesks G fed_memory Acceptor with_desks.trade cut
   desks_was = record {
     config = λ c e.
         let same : with_desks ≡ c = cc (sym spelled ∙ e) in
         subst (λ (d : Configuration). HasSameDesks with_desks.trade d.trade) same (record { some = omega arith; desks = refl; book = refl; version = refl; reference = refl });
-    steps = inr (record {
+    steps = inl (inr (record {
       configuration = with_desks;
       spelled = λ other e. subst (λ (t : List ℕ). configuration_at Acceptor t ≡ Ok with_desks) (same_Some text other e) spelled;
       ended = inr (inr (
@@ -846,10 +846,10 @@ module _ {J : Type 0} {G : Ghosts J} (box : Inbox J G) (held : HoldsBox box [] [
           };
         },
       ));
-    });
+    }));
   }
 
-  desks_over : RunsOver memory (RunsDesks G memory Acceptor with_desks.trade) (cut ∷ []) IsEmptyJournal IsEmptyJournal (journal_of nothing) (journal_of nothing)
+  desks_over : RunsOver memory (RunsDesks G fed_memory Acceptor with_desks.trade) (cut ∷ []) IsEmptyJournal IsEmptyJournal (journal_of nothing) (journal_of nothing)
   desks_over = (empty_at, empty_at, desks_was, (inl refl, inl refl))
 
 pub desks_sample : {J : Type 0} {G : Ghosts J} (box : Inbox J G) → DesksSample box

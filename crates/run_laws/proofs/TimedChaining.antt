@@ -1,6 +1,6 @@
 -- Runs of one end, one behind another, as a way of the end from its beginning.
-use Rattle.std.proofs.Common.{◌≡◌, ◌≤◌, ◌+◌, ◌^◌, ◌⊎◌, inl, inr, ℕ, Bool, true, false, if◌then◌else◌, List, [], ◌∷◌, ◌++◌, map, length, Option, Some, None, IfSome, refl, sym, ap, subst, ◌∙◌, arith}
-use Rattle.std.specs.Prelude.{option_to_list}
+use Rattle.std.proofs.Common.{◌≡◌, ◌≤◌, ◌+◌, ◌^◌, ◌⊎◌, inl, inr, ℕ, Bool, true, false, if◌then◌else◌, List, [], ◌∷◌, ◌++◌, map, length, Option, Some, None, IfSome, Result, refl, sym, ap, subst, ◌∙◌, arith}
+use Rattle.std.specs.Prelude.{option_to_list, IsTrue, is_some}
 use Rattle.std.specs.List.{AllByRecursion, AllZip}
 use Rattle.std.proofs.lemmas.Option.{same_Some}
 use Rattle.session_model.specs.Journal.{Entry, History, BeginsHistory}
@@ -20,7 +20,9 @@ use Rattle.cmd_session.specs.Journals.{IsJournal, Leaves}
 use Rattle.jr_boxes.specs.Outboxes.{record_of, outbox_of, records_of_history}
 use Rattle.jr_boxes.specs.Inboxes as in_boxes
 use Rattle.jr_boxes.specs.Inboxes.{records_of_inbox, peer_last_in}
+use Rattle.jr_kept.specs.declared.inbox.Inbox.{Inbox}
 use Rattle.cmd_base.specs.declared.status.Status.{Status}
+use Rattle.conn_door.specs.declared.answer.ServeFault.{ServeFault}
 use Rattle.cmd_config.specs.declared.configuration.Link.{Link}
 use Rattle.cmd_config.specs.declared.configuration.Configuration.{Configuration}
 use Rattle.conn_serve.specs.Connections.{turned, all_of, adds_of, refused_of_all}
@@ -28,25 +30,31 @@ use Rattle.conn_serve.specs.Moments.{LifeAt, life_at}
 use Rattle.conn_serve.specs.Opening.{opened_state}
 use Rattle.conn_serve.specs.Served.{ServedLife}
 use Rattle.life_laws.specs.Plans.{Senders, submitting}
+use Rattle.fed_laws.specs.Given.{fed_plans}
 use Rattle.cmd_session.specs.Answers.{answerers}
 use Rattle.cmd_session.specs.Inputs.{IsConfigured, end_of}
 use Rattle.cmd_session.specs.Lived.{LeftAll, LivedOver, HasLivedOver, Lived}
 use Rattle.cmd_session.specs.Outsides.{Sees}
 use Rattle.cmd_session.specs.Steps.{StopsAtInput, EndsBehindConfig, Steps}
 use Rattle.cmd_session.specs.declared.outside.SessionOutside.{SessionOutside}
+use Rattle.cmd_feed.specs.declared.outside.FeedOutside.{FeedOutside}
+use Rattle.cmd_feed.specs.Outsides.{FeedSees, session_of}
+use Rattle.cmd_feed.specs.Steps.{Steps as FedSteps}
 use Rattle.run_laws.specs.Pieces.{LinkFits}
-use Rattle.run_laws.specs.Several.{Run, Flows, IsAt, RunsOver, WasRun}
+use Rattle.run_laws.specs.Several.{Run, Flows, IsAt, RunsOver, IsRun, WasRun}
+use Rattle.run_laws.specs.FedLives.{fed_life}
 use Rattle.run_laws.proofs.Refusing.{some_of}
 use Rattle.cmd_session.proofs.Histories.{out_tells}
 use Rattle.run_laws.proofs.Telling.{same_image, in_tells}
 use Rattle.run_laws.proofs.Merely.{image_left}
 use Rattle.run_laws.proofs.Ways.{Unlived, config_kept, boxes_kept, input_kept, unbegun_kept}
+use Rattle.run_laws.proofs.Fed.{over_before, by_fed_life}
 use Rattle.run_laws.proofs.Chaining.{told_was, kept_was}
 use Rattle.honest_turns.specs.Sides.{MakesTurns}
 use Rattle.honest_turns.specs.Lives.{End, end_behind, sides, end_after, EndInTime}
 use Rattle.honest_turns.specs.Sessions.{Reopens}
 use Rattle.run_laws.specs.Served.{ClosesInTime}
-use Rattle.run_laws.specs.TimedRuns.{Served, served_of, served_in_life, served_behind_input, served_behind_config, served_in, served_over, legs_of, ended_of, last_line, last_machine, HasLink, ConfiguresLink}
+use Rattle.run_laws.specs.TimedRuns.{Served, served_of, served_in_life, served_behind_input, served_behind_config, served_in, served_fed, served_of_run, served_over, legs_of, ended_of, last_line, last_machine, HasLink, ConfiguresLink}
 use Rattle.run_laws.proofs.Closing.{IsLast}
 use Rattle.run_laws.proofs.Keeping.{Stays, StaysBehind, stays_after, over, widen_all, over_after}
 use Rattle.run_laws.proofs.Counting.{SameLink, links_append}
@@ -116,21 +124,20 @@ module _ {S K D N C J : Type 0} (G : Ghosts J) (told : G.tells) (sees : Sees S K
     way = later.way;
   }
 
-  module _ (status : Status) (mine : Link) (same : mine ≡ link) (senders : Senders) (lived : HasLivedOver G sees (end_of role mine) senders before after status) where
+  -- one was, with OUT as it had gone on
+  module _ (begun : K) (mine : Link) (same : mine ≡ link) (senders : Senders) (old new : Inbox J G) (result : Result (Unit {0}) ServeFault)
+      (v : LivedOver sees (end_of role mine) senders (record before { out = begun }) after old new result) where
     abbrev config : EndConfig
     config = end_of role mine
 
-    abbrev v : LivedOver sees config senders before after lived.old lived.new lived.result
-    v = lived.over
-
     abbrev at : LifeAt J G
-    at = life_at (sees.carried before.dialer) (sees.taken before.out) v.opening lived.old
+    at = life_at (sees.carried before.dialer) (sees.taken begun) v.opening old
 
     abbrev behind : LifeAt J G
-    behind = life_at (sees.carried after.dialer) (sees.taken after.out) v.seen lived.new
+    behind = life_at (sees.carried after.dialer) (sees.taken after.out) v.seen new
 
     abbrev m : State
-    m = fresh config (opened_state v.opening lived.old) (2 ^ 26)
+    m = fresh config (opened_state v.opening old) (2 ^ 26)
 
     abbrev k : ServedLife G.tells at behind m v.connections
     k = v.served.life
@@ -293,7 +300,7 @@ module _ {S K D N C J : Type 0} (G : Ghosts J) (told : G.tells) (sees : Sees S K
     by_life : (c : Configuration) → c.link ≡ link → (senders : Senders) → (l : LeftAll sees before after status ⊎ HasLivedOver G sees (end_of role c.link) senders before after status)
         → Now (served_in_life G sees role before after status (end_of role c.link) senders l)
     by_life c same senders (inl left) = unlived (unbegun_kept sees before after status left)
-    by_life c same senders (inr lived) = lived_on status c.link same senders lived
+    by_life c same senders (inr lived) = lived_on before.out c.link same senders lived.old lived.new lived.result lived.over
 
     by_input : (c : Configuration) → c.link ≡ link → (l : StopsAtInput sees c.trade.senders before after status ⊎ Lived G sees c.trade.senders (end_of role c.link) before after status)
         → Now (served_behind_input G sees role before after status c l)
@@ -309,12 +316,40 @@ module _ {S K D N C J : Type 0} (G : Ghosts J) (told : G.tells) (sees : Sees S K
     by_steps (inl stopped) = unlived (config_kept sees before after status role stopped)
     by_steps (inr was) = by_config was.configuration (configured was.configuration was.spelled) was.ended
 
-module _ {S K D N C J : Type 0} (G : Ghosts J) (told : G.tells) (sees : Sees S K D N C) (role : Role) (link : Link) (flows : Flows) (fits : LinkFits link) (h : History) (i : List InboxRecord) (entries : IsOutbox h.made)
-    (outbox inbox : List ℕ) (outbox_is : IsJournal outbox (records_of_history h)) (inbox_is : IsJournal inbox (records_of_inbox i)) where
-  spelled_so : (r : Run S K D N C) → ConfiguresLink sees role link r → (c : Configuration) → IsConfigured role (sees.left r.before.config) c → c.link ≡ link
-  spelled_so r k c spelled = let t = some_of (sees.left r.before.config) (HasLink role link) k in t.2 c (spelled t.0 t.1)
+module _ {S I K A D N C J : Type 0} (G : Ghosts J) (told : G.tells) (sees : FeedSees S I K A D N C) (role : Role) (link : Link) (fits : LinkFits link) (h : History) (i : List InboxRecord) (entries : IsOutbox h.made)
+    (outboxes inboxes : List ℕ → Type 0) (lives : List Served) where
+  abbrev Later : SessionOutside S K D N C → Type 0
+  Later after = Comes h i (end_of role link) (sees.session.may_leave after.out_disk) (sees.session.may_leave after.in_disk) lives
 
-  pub comes : (runs : List (Run S K D N C)) (outboxes inboxes : List ℕ → Type 0) (o : RunsOver sees (WasRun G sees role flows) runs outboxes inboxes outbox inbox) → AllByRecursion (ConfiguresLink sees role link) runs
+  abbrev IsSpelled : SessionOutside S K D N C → Type 0
+  IsSpelled before = (c : Configuration) → IsConfigured role (sees.session.left before.config) c → c.link ≡ link
+
+  by_feeding : (before after : FeedOutside S I K A D N C) (status : Status) → ((d : D) → IsTrue (is_some (sees.session.told d))) → IsAt sees.session outboxes before.out_disk → IsAt sees.session inboxes before.in_disk → Later (session_of after)
+      → IsSpelled (session_of before) → (s : FedSteps G sees role before after status)
+      → Comes h i (end_of role link) outboxes inboxes (served_fed G sees role before after status (fed_life G sees role before after status s) ++ lives)
+  by_feeding before after status tells out_at in_at later configured s = by_fed_life G sees role before after status tells
+      (λ l. Comes h i (end_of role link) outboxes inboxes (served_fed G sees role before after status l ++ lives))
+      (λ kept. unlived G told sees.session role link fits h i entries (session_of before) (session_of after) outboxes inboxes lives out_at in_at later kept)
+      (λ l. lived_on G told sees.session role link fits h i entries (session_of before) (session_of after) outboxes inboxes lives out_at in_at later
+      l.begun l.configuration.link (configured l.configuration l.spelled) (submitting (fed_plans l.configuration.trade.senders l.lived.opening.made l.lived.gifts)) l.lived.old l.lived.new l.lived.result
+      (over_before G sees role before after status tells l)) s
+
+  by_run : (r : Run S K D N C) → IsAt sees.session outboxes r.before.out_disk → IsAt sees.session inboxes r.before.in_disk → Later r.after → IsSpelled r.before → (s : IsRun G sees role r)
+      → Comes h i (end_of role link) outboxes inboxes (served_of_run G sees role r s ++ lives)
+  by_run r out_at in_at later configured (inl steps) = by_steps G told sees.session role link fits h i entries r.before r.after outboxes inboxes lives out_at in_at later r.status configured steps
+  by_run r out_at in_at later configured (inr fed) = by_feeding fed.before fed.after r.status fed.tells
+      (subst (λ (b : SessionOutside S K D N C). IsAt sees.session outboxes b.out_disk) fed.begins out_at)
+      (subst (λ (b : SessionOutside S K D N C). IsAt sees.session inboxes b.in_disk) fed.begins in_at)
+      (subst Later fed.ends later)
+      (subst IsSpelled fed.begins configured)
+      fed.steps
+
+module _ {S I K A D N C J : Type 0} (G : Ghosts J) (told : G.tells) (sees : FeedSees S I K A D N C) (role : Role) (link : Link) (flows : Flows) (fits : LinkFits link) (h : History) (i : List InboxRecord) (entries : IsOutbox h.made)
+    (outbox inbox : List ℕ) (outbox_is : IsJournal outbox (records_of_history h)) (inbox_is : IsJournal inbox (records_of_inbox i)) where
+  spelled_so : (r : Run S K D N C) → ConfiguresLink sees.session role link r → (c : Configuration) → IsConfigured role (sees.session.left r.before.config) c → c.link ≡ link
+  spelled_so r k c spelled = let t = some_of (sees.session.left r.before.config) (HasLink role link) k in t.2 c (spelled t.0 t.1)
+
+  pub comes : (runs : List (Run S K D N C)) (outboxes inboxes : List ℕ → Type 0) (o : RunsOver sees.session (WasRun G sees role flows) runs outboxes inboxes outbox inbox) → AllByRecursion (ConfiguresLink sees.session role link) runs
       → Comes h i (end_of role link) outboxes inboxes (served_over G sees role flows outbox inbox runs outboxes inboxes o)
   comes [] outboxes inboxes o configured = record {
     opened = h;
@@ -325,6 +360,6 @@ module _ {S K D N C J : Type 0} (G : Ghosts J) (told : G.tells) (sees : Sees S K
     way = λ e found. record { behind = e; legs = []; links = tt; path = arrives; found = found; closes = λ _. tt; left = λ x f. absurd (cc f); over = λ s f. absurd (cc f) };
   }
   comes (r ∷ later) outboxes inboxes o configured =
-      by_steps G told sees role link fits h i entries r.before r.after outboxes inboxes
-      (served_over G sees role flows outbox inbox later (sees.may_leave r.after.out_disk) (sees.may_leave r.after.in_disk) o.3) o.0 o.1
-      (comes later (sees.may_leave r.after.out_disk) (sees.may_leave r.after.in_disk) o.3 configured.1) r.status (spelled_so r configured.0) o.2.steps
+      by_run G told sees role link fits h i entries outboxes inboxes
+      (served_over G sees role flows outbox inbox later (sees.session.may_leave r.after.out_disk) (sees.session.may_leave r.after.in_disk) o.3) r o.0 o.1
+      (comes later (sees.session.may_leave r.after.out_disk) (sees.session.may_leave r.after.in_disk) o.3 configured.1) (spelled_so r configured.0) o.2.steps

@@ -19,7 +19,7 @@ use Rattle.jr_boxes.specs.Outboxes.{outbox_of, records_of_history}
 use Rattle.jr_boxes.specs.Inboxes.{records_of_inbox, peer_last_in}
 use Rattle.cmd_config.specs.declared.configuration.Link.{Link}
 use Rattle.cmd_session.specs.Inputs.{end_of}
-use Rattle.cmd_session.specs.Outsides.{Sees}
+use Rattle.cmd_feed.specs.Outsides.{FeedSees}
 use Rattle.run_laws.specs.Several.{Flows, IsEmptyJournal, brought, HasRun}
 use Rattle.run_laws.specs.Linked.{LinkedCarried}
 use Rattle.run_laws.proofs.Telling.{same_outbox, same_inbox}
@@ -46,7 +46,7 @@ use Rattle.run_laws.proofs.Carrying.{linked_are_carried, runs_brought}
 abbrev nothing : History
 nothing = record { made = []; finished = false }
 
-module _ {S K D N C J : Type 0} (G : Ghosts J) (sees : Sees S K D N C) (role : Role) (link : Link) (e : EndRan G sees role link) where
+module _ {S I K A D N C J : Type 0} (G : Ghosts J) (sees : FeedSees S I K A D N C) (role : Role) (link : Link) (e : EndRan G sees role link) where
   -- the end before its first life
   abbrev pub unlived : End
   unlived = record { outbox = e.outbox; state = fresh (end_of role link) unwritten (2 ^ 26); inbox = [] }
@@ -67,7 +67,7 @@ module _ {S K D N C J : Type 0} (G : Ghosts J) (sees : Sees S K D N C) (role : R
     entries = entries;
   }
 
-module _ {S K D N C J : Type 0} (G : Ghosts J) (told : G.tells) (sees : Sees S K D N C) (role : Role) (link : Link) (e : EndRan G sees role link) where
+module _ {S I K A D N C J : Type 0} (G : Ghosts J) (told : G.tells) (sees : FeedSees S I K A D N C) (role : Role) (link : Link) (e : EndRan G sees role link) where
   abbrev config : EndConfig
   config = end_of role link
 
@@ -93,7 +93,7 @@ module _ {S K D N C J : Type 0} (G : Ghosts J) (told : G.tells) (sees : Sees S K
   way = came.way first (subst (λ (o : History). Found e.outbox config first o came.waiting) (sym none_opened)
       (subst (λ (i : List InboxRecord). Found e.outbox config first nothing i) (sym none_waiting) unlived_found))
 
-module _ {S K D N C J : Type 0} (G : Ghosts J) (told : G.tells) (sees : Sees S K D N C) (li la : Link) (i : EndRan G sees Initiator li) (a : EndRan G sees Acceptor la) (l : AreLinked G sees li la i a) where
+module _ {S I K A D N C J : Type 0} (G : Ghosts J) (told : G.tells) (sees : FeedSees S I K A D N C) (li la : Link) (i : EndRan G sees Initiator li) (a : EndRan G sees Acceptor la) (l : AreLinked G sees li la i a) where
   match : Match (end_of Initiator li) (end_of Acceptor la)
   match = record {
     initiates = refl;
@@ -126,13 +126,13 @@ module _ {S K D N C J : Type 0} (G : Ghosts J) (told : G.tells) (sees : Sees S K
   all_close = (way_i.closes both.initiator, way_a.closes both.acceptor)
 
   -- the links are linked by what they carried, so each inbox holds of the other outbox what its flow promises
-  carried : LinkedCarried (flat_map (brought sees) i.runs) (flat_map (brought sees) a.runs)
-  carried = linked_are_carried (flat_map (brought sees) i.runs) (flat_map (brought sees) a.runs) (legs_of (lives G sees Initiator li i)) (legs_of (lives G sees Acceptor la a))
+  carried : LinkedCarried (flat_map (brought sees.session) i.runs) (flat_map (brought sees.session) a.runs)
+  carried = linked_are_carried (flat_map (brought sees.session) i.runs) (flat_map (brought sees.session) a.runs) (legs_of (lives G sees Initiator li i)) (legs_of (lives G sees Acceptor la a))
       (runs_brought G sees Initiator (flows_in li) i.ran.outbox i.ran.inbox i.runs IsEmptyJournal IsEmptyJournal i.ran.over)
       (runs_brought G sees Acceptor (flows_in la) a.ran.outbox a.ran.inbox a.runs IsEmptyJournal IsEmptyJournal a.ran.over)
       (time_is_linked (legs_of (lives G sees Initiator li i)) (legs_of (lives G sees Acceptor la a)) l.in_time)
 
-pub runs_end_in_time : {S K D N C J : Type 0} (G : Ghosts J) (sees : Sees S K D N C) → RunsEndInTime G sees
+pub runs_end_in_time : {S I K A D N C J : Type 0} (G : Ghosts J) (sees : FeedSees S I K A D N C) → RunsEndInTime G sees
 runs_end_in_time G sees told li la i a l = all_close G told sees li la i a l
 
 -- ---- an inbox that has the finish of its peer
@@ -182,7 +182,7 @@ whole flow h inbox next holds = record {
       all_is_equal h.made inbox applies (next (ap is_sequenced e));
 }
 
-pub runs_hold_so : {S K D N C J : Type 0} (G : Ghosts J) (told : G.tells) (sees : Sees S K D N C) (li la : Link) (i : EndRan G sees Initiator li) (a : EndRan G sees Acceptor la) → AreLinked G sees li la i a
+pub runs_hold_so : {S I K A D N C J : Type 0} (G : Ghosts J) (told : G.tells) (sees : FeedSees S I K A D N C) (li la : Link) (i : EndRan G sees Initiator li) (a : EndRan G sees Acceptor la) → AreLinked G sees li la i a
     → Holds li.client_flow i.outbox.made a.inbox × Holds la.server_flow a.outbox.made i.inbox
 runs_hold_so G told sees li la i a l =
     let same : flows_in la ≡ flows_in li =
@@ -190,7 +190,7 @@ runs_hold_so G told sees li la i a l =
     let holds = runs_hold G sees told (flows_in li) i.runs a.runs i.outbox a.outbox i.inbox a.inbox i.ran (subst (λ (f : Flows). HasRun G sees Acceptor f a.runs a.outbox a.inbox) same a.ran) (carried G told sees li la i a l) in
     (holds.0, subst (λ (f : Flow). Holds f a.outbox.made i.inbox) (sym l.matches.server) holds.1)
 
-pub finish_is_whole : {S K D N C J : Type 0} (G : Ghosts J) (sees : Sees S K D N C) → FinishIsWhole G sees
+pub finish_is_whole : {S I K A D N C J : Type 0} (G : Ghosts J) (sees : FeedSees S I K A D N C) → FinishIsWhole G sees
 finish_is_whole G sees told li la i a l =
     let b = both G told sees li la i a l in
     let x = way_i G told sees li la i a l in

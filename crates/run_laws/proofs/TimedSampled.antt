@@ -9,7 +9,7 @@ use Rattle.jr_kept.specs.Inbox.{HoldsBox}
 use Rattle.cmd_config.specs.declared.configuration.Configuration.{Configuration}
 use Rattle.cmd_session.specs.Inputs.{configuration_at}
 use Rattle.run_laws.specs.Pieces.{LinkFits}
-use Rattle.run_laws.specs.Samples.{configured, config_text, memory, with_one, nothing, runs_of_initiator, runs_of_acceptor}
+use Rattle.run_laws.specs.Samples.{configured, config_text, fed_memory, with_one, nothing, runs_of_initiator, runs_of_acceptor}
 use Rattle.run_laws.proofs.Sampled.{leg_i, leg_a, ran_i, ran_a}
 use Rattle.run_laws.proofs.Spelled.{spelled_initiator, spelled_acceptor}
 use Rattle.honest_turns.specs.Links.{initiator_turns, acceptor_turns, OverOneLink}
@@ -33,7 +33,7 @@ over_link = record {
 }
 
 module _ {J : Type 0} {G : Ghosts J} (box : Inbox J G) (held : HoldsBox box [] []) where
-  abbrev of_i : EndRan G memory Initiator configured.link
+  abbrev of_i : EndRan G fed_memory Initiator configured.link
   of_i = record {
     runs = runs_of_initiator config_text;
     outbox = with_one;
@@ -45,7 +45,7 @@ module _ {J : Type 0} {G : Ghosts J} (box : Inbox J G) (held : HoldsBox box [] [
     few = omega arith;
   }
 
-  abbrev of_a : EndRan G memory Acceptor configured.link
+  abbrev of_a : EndRan G fed_memory Acceptor configured.link
   of_a = record {
     runs = runs_of_acceptor config_text;
     outbox = nothing;

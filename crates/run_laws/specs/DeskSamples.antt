@@ -6,7 +6,7 @@ use Rattle.jr_kept.specs.declared.inbox.Inbox.{Inbox}
 use Rattle.jr_kept.specs.Inbox.{HoldsBox}
 use Rattle.cmd_config.specs.declared.configuration.Configuration.{Configuration}
 use Rattle.run_laws.specs.Several.{IsEmptyJournal, RunsOver}
-use Rattle.run_laws.specs.Samples.{configured, config_text, nothing, journal_of, memory, cut_run, of_acceptor}
+use Rattle.run_laws.specs.Samples.{configured, config_text, nothing, journal_of, memory, fed_memory, cut_run, of_acceptor}
 use Rattle.run_laws.specs.Desks.{RunsDesks}
 
 -- what the text spells
@@ -20,5 +20,5 @@ module _ {J : Type 0} {G : Ghosts J} where
   -- The premises on runs are met, where an inbox holds no records, as one does that was opened on a journal without records
   abbrev pub DesksSample : Inbox J G → Type 0
   DesksSample empty = HoldsBox empty [] []
-      → RunsOver memory (RunsDesks G memory Acceptor with_desks.trade) (cut_run desks_text nothing of_acceptor ∷ []) IsEmptyJournal IsEmptyJournal
+      → RunsOver memory (RunsDesks G fed_memory Acceptor with_desks.trade) (cut_run desks_text nothing of_acceptor ∷ []) IsEmptyJournal IsEmptyJournal
       (journal_of nothing) (journal_of nothing)

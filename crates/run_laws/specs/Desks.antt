@@ -14,7 +14,7 @@ use Rattle.cmd_config.specs.declared.configuration.Configuration.{Configuration}
 use Rattle.cmd_session.specs.Journals.{IsJournal}
 use Rattle.cmd_session.specs.Inputs.{configuration_at}
 use Rattle.cmd_session.specs.Answers.{answerers}
-use Rattle.cmd_session.specs.Outsides.{Sees}
+use Rattle.cmd_feed.specs.Outsides.{FeedSees}
 use Rattle.run_laws.specs.Completeness.{IsOfConnections}
 use Rattle.run_laws.specs.Several.{Run, IsEmptyJournal, RunsOver, IsRun}
 
@@ -65,16 +65,16 @@ module _ {S K D N C : Type 0} where
     pub finished : h.finished ≡ true → SentToFinish trade inbox h
     pub settled : EndsByConnections runs → LeavesNone trade inbox h
 
-module _ {S K D N C J : Type 0} where
-  -- a run that CONFIG gives these desks
-  pub record RunsDesks (G : Ghosts J) (sees : Sees S K D N C) (role : Role) (trade : Trade) (r : Run S K D N C) : Type 0 where
-    pub config : IsSomeAnd (sees.left r.before.config) (HasDesks role trade)
+module _ {S I K A D N C J : Type 0} where
+  -- a run that CONFIG gives these desks; one that is fed is refused there
+  pub record RunsDesks (G : Ghosts J) (sees : FeedSees S I K A D N C) (role : Role) (trade : Trade) (r : Run S K D N C) : Type 0 where
+    pub config : IsSomeAnd (sees.session.left r.before.config) (HasDesks role trade)
     pub steps : IsRun G sees role r
 
   -- So it is behind any runs of one end, from journals without records on, whatever its peer does: of each history that a stop may leave of the one
   -- disk, beside each list that it may leave of the other. Each disk is one that tells its content
-  abbrev pub DesksHold : Ghosts J → Sees S K D N C → Type 0
+  abbrev pub DesksHold : Ghosts J → FeedSees S I K A D N C → Type 0
   DesksHold G sees = G.tells → (role : Role) (trade : Trade) (runs : List (Run S K D N C)) (outbox inbox : List ℕ) (h : History) (i : List InboxRecord)
-      → RunsOver sees (RunsDesks G sees role trade) runs IsEmptyJournal IsEmptyJournal outbox inbox
+      → RunsOver sees.session (RunsDesks G sees role trade) runs IsEmptyJournal IsEmptyJournal outbox inbox
       → IsJournal outbox (records_of_history h) → IsJournal inbox (records_of_inbox i)
       → HoldsAnswers trade runs i h

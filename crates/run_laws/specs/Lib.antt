@@ -1,5 +1,6 @@
 pub mod Completeness
 pub mod Several
+pub mod FedLives
 pub mod Linked
 pub mod Holding
 pub mod Pieces
@@ -7,6 +8,7 @@ pub mod Senders
 pub mod Promise
 pub mod Samples
 pub mod Standing
+pub mod FedLaws
 pub mod Served
 pub mod TimedRuns
 pub mod TimedLaws

@@ -1,4 +1,4 @@
--- What a user may rely on of one run of `accept` or `connect`, said of both journals, in the words of the session model: no connection, turn, thread
+-- What a user may rely on of one run of `accept` or `connect` that is not fed, said of both journals, in the words of the session model: no connection, turn, thread
 -- or gate has to be known. What two ends hold of each other behind any runs is `Holds`, by `RunsHold`.
 use Rattle.std.specs.Prelude.{◌⊎◌, ℕ, List, map, IsSomeAnd}
 use Rattle.std.specs.Option.{ForSome}
@@ -17,7 +17,7 @@ use Rattle.cmd_session.specs.Lived.{LeavesImages, IsKept}
 use Rattle.cmd_session.specs.Outsides.{Sees}
 use Rattle.cmd_session.specs.declared.outside.SessionOutside.{SessionOutside}
 use Rattle.run_laws.specs.Senders.{HasNoDesks}
-use Rattle.run_laws.specs.Several.{Run, Flows, HasFlows, IsRun}
+use Rattle.run_laws.specs.Several.{Run, Flows, HasFlows, IsUnfed}
 
 module _ {S K D N C : Type 0} where
   -- Both journals were kept: a stop leaves no more of a disk than before the run, or the records that it told
@@ -43,8 +43,8 @@ module _ {S K D N C : Type 0} where
   KeepsSession sees own peer before after = KeepsBoth sees before after ⊎ LivedOne sees own peer before after
 
 module _ {S K D N C J : Type 0} where
-  -- so it is of each run over disks that tell their content, whose CONFIG tells these flows and has no desks, whatever its peer does
+  -- so it is of each run that was not fed, over disks that tell their content, whose CONFIG tells these flows and has no desks, whatever its peer does
   abbrev pub RunKeeps : Ghosts J → Sees S K D N C → Type 0
   RunKeeps G sees = G.tells → (role : Role) (flows : Flows) (r : Run S K D N C)
-      → IsSomeAnd (sees.left r.before.config) (HasFlows role flows) → IsSomeAnd (sees.left r.before.config) (HasNoDesks role) → IsRun G sees role r
+      → IsSomeAnd (sees.left r.before.config) (HasFlows role flows) → IsSomeAnd (sees.left r.before.config) (HasNoDesks role) → IsUnfed G sees role r
       → KeepsSession sees (own_flow role flows.client flows.server) (peer_flow role flows.client flows.server) r.before r.after

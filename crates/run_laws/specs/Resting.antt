@@ -8,7 +8,7 @@ use Rattle.conn_turns.specs.Lines.{Line}
 use Rattle.turn_laws.specs.Legs.{TurnedLeg}
 use Rattle.jr_dated.specs.declared.journal.Journal.{Ghosts}
 use Rattle.cmd_config.specs.declared.configuration.Link.{Link}
-use Rattle.cmd_session.specs.Outsides.{Sees}
+use Rattle.cmd_feed.specs.Outsides.{FeedSees}
 use Rattle.honest_ends.specs.Resting.{IsIdle}
 use Rattle.honest_turns.specs.Links.{OverOneLink}
 use Rattle.honest_turns.specs.Sides.{NothingLeft}
@@ -50,7 +50,7 @@ pub record WereOver (i a : List Served) : Type 0 where
   pub initiator : finishes_exchanged (around machine_i 0 0) machine_i.facts ≡ true
   pub acceptor : finishes_exchanged (around machine_a 0 0) machine_a.facts ≡ true
 
-module _ {S K D N C J : Type 0} (G : Ghosts J) (sees : Sees S K D N C) where
+module _ {S I K A D N C J : Type 0} (G : Ghosts J) (sees : FeedSees S I K A D N C) where
   -- then, over disks that tell their content, each inbox has all of the other end's outbox
   abbrev pub RestIsWhole : Type 0
   RestIsWhole = G.tells → (li la : Link) (i : EndRan G sees Initiator li) (a : EndRan G sees Acceptor la) → Matching li la

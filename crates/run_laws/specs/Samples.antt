@@ -24,6 +24,7 @@ use Rattle.conn_lines.specs.declared.close.Close.TheVariants.{LinkFault}
 use Rattle.cmd_base.specs.declared.status.Status.TheVariants.{JournalFault, Unfinished}
 use Rattle.cmd_session.specs.Outsides.{Sees}
 use Rattle.cmd_session.specs.declared.outside.SessionOutside.{SessionOutside}
+use Rattle.cmd_feed.specs.Outsides.{FeedSees}
 use Rattle.run_laws.specs.Several.{Run, Flows, brought, HasRun}
 use Rattle.run_laws.specs.Linked.{LinkedCarried}
 
@@ -104,6 +105,17 @@ memory = record {
   dials = λ _. 0;
 }
 
+-- and so where a session is fed; an OUT in memory keeps what it takes
+abbrev pub fed_memory : FeedSees (Option (List ℕ)) (Option (List ℕ)) (List ℕ) (List ℕ) MemoryDisk DialerTold (Unit {0})
+fed_memory = record {
+  session = memory;
+  keeps = true;
+  left = λ text. text;
+  taken = λ out. Some out;
+  input = λ _. 0;
+  accepted = λ _. 0;
+}
+
 abbrev pub settled : History → MemoryDisk
 settled h = record { told = journal_of h; left = journal_of h ∷ []; failed = 0 }
 
@@ -154,6 +166,6 @@ module _ {J : Type 0} {G : Ghosts J} where
   -- All premises on runs are met, where an inbox holds no records, as one does that was opened on a journal without records
   abbrev pub RunsSample : Inbox J G → Type 0
   RunsSample empty = HoldsBox empty [] []
-      → HasRun G memory Initiator both_recoverable (runs_of_initiator config_text) with_one []
-      × HasRun G memory Acceptor both_recoverable (runs_of_acceptor config_text) nothing []
+      → HasRun G fed_memory Initiator both_recoverable (runs_of_initiator config_text) with_one []
+      × HasRun G fed_memory Acceptor both_recoverable (runs_of_acceptor config_text) nothing []
       × LinkedCarried (flat_map (brought memory) (runs_of_initiator config_text)) (flat_map (brought memory) (runs_of_acceptor config_text))

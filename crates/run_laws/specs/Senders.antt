@@ -12,7 +12,7 @@ use Rattle.life_laws.specs.Plans.{plan_in}
 use Rattle.cmd_config.specs.declared.configuration.Configuration.{Configuration}
 use Rattle.cmd_session.specs.Inputs.{configuration_at}
 use Rattle.cmd_session.specs.Outsides.{Sees}
-use Rattle.run_laws.specs.Several.{Run, IsEmptyJournal, RunsOver, IsRun}
+use Rattle.run_laws.specs.Several.{Run, IsEmptyJournal, RunsOver, IsUnfed}
 
 -- a CONFIG that spells a configuration for an end of this role spells one without desks
 abbrev pub HasNoDesks : Role → List ℕ → Type 0
@@ -44,14 +44,14 @@ module _ {S K D N C : Type 0} where
     pub finished : h.finished ≡ true → SomeSent sees runs h
 
 module _ {S K D N C J : Type 0} where
-  -- a run that CONFIG gives no desks, and whose INPUT tells a part of this plan
+  -- a run that was not fed, that CONFIG gives no desks, and whose INPUT tells a part of this plan
   pub record SendsPart (G : Ghosts J) (sees : Sees S K D N C) (role : Role) (plan : ℕ → List (List ℕ)) (r : Run S K D N C) : Type 0 where
     pub config : IsSomeAnd (sees.left r.before.config) (HasNoDesks role)
     pub input : IsSomeAnd (sees.left r.before.input) (IsPartOf plan)
-    pub steps : IsRun G sees role r
+    pub steps : IsUnfed G sees role r
 
 module _ {S K D N C J : Type 0} where
-  -- So it is behind any runs of one end, from journals without records on, whatever its peer does
+  -- So it is behind any such runs of one end, from journals without records on, whatever its peer does
   abbrev pub SendersHold : Ghosts J → Sees S K D N C → Type 0
   SendersHold G sees = (role : Role) (plan : ℕ → List (List ℕ)) (runs : List (Run S K D N C)) (outbox inbox : List ℕ) (h : History)
       → RunsOver sees (SendsPart G sees role plan) runs IsEmptyJournal IsEmptyJournal outbox inbox → IsJournal outbox (records_of_history h)
@@ -79,13 +79,13 @@ module _ {S K D N C : Type 0} where
     pub finished : h.finished ≡ true → SomeSent sees runs h
 
 module _ {S K D N C J : Type 0} where
-  -- a run that CONFIG gives no desks, and whose INPUT tells its text
+  -- a run that was not fed, that CONFIG gives no desks, and whose INPUT tells its text
   pub record TellsInput (G : Ghosts J) (sees : Sees S K D N C) (role : Role) (r : Run S K D N C) : Type 0 where
     pub config : IsSomeAnd (sees.left r.before.config) (HasNoDesks role)
     pub input : IsTrue (is_some (sees.left r.before.input))
-    pub steps : IsRun G sees role r
+    pub steps : IsUnfed G sees role r
 
-  -- So it is behind any runs of one end, from journals without records on, whatever INPUT each had
+  -- So it is behind any such runs of one end, from journals without records on, whatever INPUT each had
   abbrev pub InputsHold : Ghosts J → Sees S K D N C → Type 0
   InputsHold G sees = (role : Role) (runs : List (Run S K D N C)) (outbox inbox : List ℕ) (h : History)
       → RunsOver sees (TellsInput G sees role) runs IsEmptyJournal IsEmptyJournal outbox inbox → IsJournal outbox (records_of_history h)

@@ -1,6 +1,6 @@
 -- Runs of one end, one behind another, on the same two disks. Between two of them the process may have stopped, and the disks are
 -- left as the stop left them (this project's profile).
-use Rattle.std.specs.Prelude.{◌≡◌, ℕ, List, [], ◌∷◌, length, drop, Option, Some, None, Ok, IsSomeAnd, IsTrue, is_some}
+use Rattle.std.specs.Prelude.{◌≡◌, ◌⊎◌, ℕ, List, [], ◌∷◌, length, drop, Option, Some, None, Ok, IsSomeAnd, IsTrue, is_some}
 use Rattle.std.specs.List.{AllByRecursion}
 use Rattle.session_model.specs.Journal.{Entry, History}
 use Rattle.session_model.specs.Inbox.{InboxRecord}
@@ -19,6 +19,9 @@ use Rattle.cmd_session.specs.Inputs.{configuration_at}
 use Rattle.cmd_session.specs.Outsides.{Sees}
 use Rattle.cmd_session.specs.Steps.{Steps}
 use Rattle.cmd_session.specs.declared.outside.SessionOutside.{SessionOutside}
+use Rattle.cmd_feed.specs.declared.outside.FeedOutside.{FeedOutside}
+use Rattle.cmd_feed.specs.Outsides.{FeedSees, session_of}
+use Rattle.cmd_feed.specs.Steps.{Steps as FedSteps}
 
 -- a run: its devices before and behind it, and the status that came with them
 pub record Run (S K D N C : Type 0) : Type 0 where
@@ -66,23 +69,38 @@ module _ {S K D N C : Type 0} where
       × RunsOver sees Was later (sees.may_leave r.after.out_disk) (sees.may_leave r.after.in_disk) outbox inbox
 
 module _ {S K D N C J : Type 0} where
-  -- it ended as `run_session` ensures for an end of this role
-  abbrev pub IsRun : Ghosts J → Sees S K D N C → Role → Run S K D N C → Type 0
-  IsRun G sees role r = Steps G sees role r.before r.after r.status
+  -- it was not fed: it ended as `run_session` ensures for an end of this role
+  abbrev pub IsUnfed : Ghosts J → Sees S K D N C → Role → Run S K D N C → Type 0
+  IsUnfed G sees role r = Steps G sees role r.before r.after r.status
+
+module _ {S I K A D N C J : Type 0} where
+  -- It was fed: with an INPUT that is read as it comes and an ACCEPTED beside its devices, it ended as `run_feeding` ensures for an end of this role. Each
+  -- disk of its kind tells its content, also that of the inbox as it was opened
+  pub record IsFed (G : Ghosts J) (sees : FeedSees S I K A D N C) (role : Role) (r : Run S K D N C) : Type 0 where
+    pub before : FeedOutside S I K A D N C
+    pub after : FeedOutside S I K A D N C
+    pub begins : r.before ≡ session_of before
+    pub ends : r.after ≡ session_of after
+    pub steps : FedSteps G sees role before after r.status
+    pub tells : (disk : D) → IsTrue (is_some (sees.session.told disk))
+
+  -- a run of an end of this role was fed or was not
+  abbrev pub IsRun : Ghosts J → FeedSees S I K A D N C → Role → Run S K D N C → Type 0
+  IsRun G sees role r = IsUnfed G sees.session role r ⊎ IsFed G sees role r
 
   -- and so over a CONFIG that tells these flows, and a dialer that tells its links
-  pub record WasRun (G : Ghosts J) (sees : Sees S K D N C) (role : Role) (flows : Flows) (r : Run S K D N C) : Type 0 where
-    pub config : IsSomeAnd (sees.left r.before.config) (HasFlows role flows)
-    pub links : IsTrue (is_some (sees.carried r.before.dialer))
+  pub record WasRun (G : Ghosts J) (sees : FeedSees S I K A D N C) (role : Role) (flows : Flows) (r : Run S K D N C) : Type 0 where
+    pub config : IsSomeAnd (sees.session.left r.before.config) (HasFlows role flows)
+    pub links : IsTrue (is_some (sees.session.carried r.before.dialer))
     pub steps : IsRun G sees role r
 
   -- All runs of an end, from two journals without records on. Behind them a stop may leave, or leaves, a journal of this history, with payloads
   -- of application messages, and one of this list
-  pub record HasRun (G : Ghosts J) (sees : Sees S K D N C) (role : Role) (flows : Flows) (runs : List (Run S K D N C)) (h : History)
+  pub record HasRun (G : Ghosts J) (sees : FeedSees S I K A D N C) (role : Role) (flows : Flows) (runs : List (Run S K D N C)) (h : History)
       (i : List InboxRecord) : Type 0 where
     pub outbox : List ℕ
     pub inbox : List ℕ
-    pub over : RunsOver sees (WasRun G sees role flows) runs IsEmptyJournal IsEmptyJournal outbox inbox
+    pub over : RunsOver sees.session (WasRun G sees role flows) runs IsEmptyJournal IsEmptyJournal outbox inbox
     pub outbox_is : IsJournal outbox (records_of_history h)
     pub inbox_is : IsJournal inbox (records_of_inbox i)
     pub payloads : AllByRecursion (λ (e : Entry). IsApplication e.payload) h.made

@@ -1,5 +1,5 @@
 -- What a run acknowledged stands in the outbox behind all later runs: the history that its life closed on begins the one that is left.
-use Rattle.std.specs.Prelude.{⊤, ◌⊎◌, ℕ, List, [], ◌∷◌}
+use Rattle.std.specs.Prelude.{⊤, ◌⊎◌, ℕ, List, [], ◌∷◌, Option, Some, None}
 use Rattle.std.proofs.Common.{inl, inr}
 use Rattle.session_model.specs.Journal.{History, BeginsHistory}
 use Rattle.fixp_shake.specs.declared.config.EndConfig.{EndConfig}
@@ -16,7 +16,10 @@ use Rattle.cmd_session.specs.Lived.{LeftAll, HasLivedOver, Lived}
 use Rattle.cmd_session.specs.Outsides.{Sees}
 use Rattle.cmd_session.specs.Steps.{StopsAtInput, EndsBehindConfig, Steps}
 use Rattle.cmd_session.specs.declared.outside.SessionOutside.{SessionOutside}
+use Rattle.cmd_feed.specs.declared.outside.FeedOutside.{FeedOutside}
+use Rattle.cmd_feed.specs.Outsides.{FeedSees}
 use Rattle.run_laws.specs.Several.{Run, IsEmptyJournal, RunsOver, IsRun}
+use Rattle.run_laws.specs.FedLives.{FedLife, fed_life}
 
 module _ {S K D N C J : Type 0} (G : Ghosts J) (sees : Sees S K D N C) (role : Role) (before after : SessionOutside S K D N C) (status : Status) where
   -- what a life closed on, if one was lived, begins this history
@@ -35,22 +38,31 @@ module _ {S K D N C J : Type 0} (G : Ghosts J) (sees : Sees S K D N C) (role : R
   ConfigStands h c (inr (inl on)) = BoxesStand h c on.1.ended
   ConfigStands h c (inr (inr on)) = LifeStands h (end_of role c.link) (answerers c.trade) on.1.lived.lived
 
-  abbrev pub RunStands : (h : History) → Steps G sees role before after status → Type 0
-  RunStands h (inl stopped) = ⊤
-  RunStands h (inr was) = ConfigStands h was.configuration was.ended
+  abbrev pub StepsStand : (h : History) → Steps G sees role before after status → Type 0
+  StepsStand h (inl stopped) = ⊤
+  StepsStand h (inr was) = ConfigStands h was.configuration was.ended
 
-module _ {S K D N C J : Type 0} (G : Ghosts J) (sees : Sees S K D N C) (role : Role) (h : History) (outbox inbox : List ℕ) where
-  abbrev pub AllStand : (runs : List (Run S K D N C)) (outboxes inboxes : List ℕ → Type 0)
-      → RunsOver sees (IsRun G sees role) runs outboxes inboxes outbox inbox → Type 0
-  AllStand [] outboxes inboxes over = ⊤
-  AllStand (r ∷ later) outboxes inboxes over =
-      RunStands G sees role r.before r.after r.status h over.2
-      × AllStand later (sees.may_leave r.after.out_disk) (sees.may_leave r.after.in_disk) over.3
+module _ {S I K A D N C J : Type 0} (G : Ghosts J) (sees : FeedSees S I K A D N C) (role : Role) (h : History) where
+  -- and so of a life that was fed
+  abbrev pub FedStands : (before after : FeedOutside S I K A D N C) (status : Status) → Option (FedLife G sees role before after status) → Type 0
+  FedStands before after status None = ⊤
+  FedStands before after status (Some l) = BeginsHistory l.lived.over.closing h
 
-module _ {S K D N C J : Type 0} where
-  -- so it is behind any runs of one end, whatever its peer does, of whatever history a stop may leave
-  abbrev pub ClosingsStand : Ghosts J → Sees S K D N C → Type 0
+  abbrev pub RunStands : (r : Run S K D N C) → IsRun G sees role r → Type 0
+  RunStands r (inl steps) = StepsStand G sees.session role r.before r.after r.status h steps
+  RunStands r (inr fed) = FedStands fed.before fed.after r.status (fed_life G sees role fed.before fed.after r.status fed.steps)
+
+  module _ (outbox inbox : List ℕ) where
+    abbrev pub AllStand : (runs : List (Run S K D N C)) (outboxes inboxes : List ℕ → Type 0)
+        → RunsOver sees.session (IsRun G sees role) runs outboxes inboxes outbox inbox → Type 0
+    AllStand [] outboxes inboxes over = ⊤
+    AllStand (r ∷ later) outboxes inboxes over =
+        RunStands r over.2 × AllStand later (sees.session.may_leave r.after.out_disk) (sees.session.may_leave r.after.in_disk) over.3
+
+module _ {S I K A D N C J : Type 0} where
+  -- so it is behind any runs of one end, fed or not, whatever its peer does, of whatever history a stop may leave
+  abbrev pub ClosingsStand : Ghosts J → FeedSees S I K A D N C → Type 0
   ClosingsStand G sees = (role : Role) (h : History) (outbox inbox : List ℕ) (runs : List (Run S K D N C))
-      → (over : RunsOver sees (IsRun G sees role) runs IsEmptyJournal IsEmptyJournal outbox inbox)
+      → (over : RunsOver sees.session (IsRun G sees role) runs IsEmptyJournal IsEmptyJournal outbox inbox)
       → IsJournal outbox (records_of_history h)
       → AllStand G sees role h outbox inbox runs IsEmptyJournal IsEmptyJournal over

@@ -9,7 +9,7 @@ use Rattle.fixp_shake.specs.Flows.{is_sequenced}
 use Rattle.fixp_shake.specs.declared.config.Role.TheVariants.{Initiator, Acceptor}
 use Rattle.jr_dated.specs.declared.journal.Journal.{Ghosts}
 use Rattle.cmd_config.specs.declared.configuration.Link.{Link}
-use Rattle.cmd_session.specs.Outsides.{Sees}
+use Rattle.cmd_feed.specs.Outsides.{FeedSees}
 use Rattle.honest_turns.specs.Lives.{InTime}
 use Rattle.run_laws.specs.Served.{ClosesInTime}
 use Rattle.run_laws.specs.TimedRuns.{EndRan, lives, legs_of, ended_of}
@@ -31,7 +31,7 @@ pub record HasWhole (flow : Flow) (h : History) (inbox : List InboxRecord) : Typ
 abbrev pub FinishHas : Flow → History → List InboxRecord → Type 0
 FinishHas flow h inbox = has_peer_finished inbox ≡ true → (h.finished ≡ true) × HasWhole flow h inbox
 
-module _ {S K D N C J : Type 0} (G : Ghosts J) (sees : Sees S K D N C) where
+module _ {S I K A D N C J : Type 0} (G : Ghosts J) (sees : FeedSees S I K A D N C) where
   -- Two ends ran by matching links, and all their connections, in the order of time, are paired in the same order at both: in a pair what the
   -- link gave one end it had taken of the other by then, and one in no pair was given nothing
   pub record AreLinked (li la : Link) (i : EndRan G sees Initiator li) (a : EndRan G sees Acceptor la) : Type 0 where

@@ -23,10 +23,13 @@ use Rattle.cmd_session.specs.Answers.{answerers}
 use Rattle.cmd_session.specs.Inputs.{configuration_at, end_of}
 use Rattle.cmd_session.specs.Lived.{LeftAll, HasLivedOver, Lived}
 use Rattle.cmd_session.specs.Outsides.{Sees}
+use Rattle.cmd_feed.specs.declared.outside.FeedOutside.{FeedOutside}
+use Rattle.cmd_feed.specs.Outsides.{FeedSees}
 use Rattle.cmd_session.specs.Steps.{StopsAtInput, EndsBehindConfig, Steps}
 use Rattle.cmd_session.specs.declared.outside.SessionOutside.{SessionOutside}
 use Rattle.run_laws.specs.Pieces.{LinkFits}
-use Rattle.run_laws.specs.Several.{Run, Flows, IsEmptyJournal, RunsOver, WasRun, HasRun}
+use Rattle.run_laws.specs.Several.{Run, Flows, IsEmptyJournal, RunsOver, IsRun, WasRun, HasRun}
+use Rattle.run_laws.specs.FedLives.{FedLife, fed_life}
 
 -- the connections of a life: those that ended, and the one that was given up, if one was, with the line that its whole turns left; and the machine
 -- behind the last of them, if there is one
@@ -55,7 +58,7 @@ module _ {J : Type 0} {G : Ghosts J} {tells : Type 0} where
   }
 
 module _ {S K D N C J : Type 0} (G : Ghosts J) (sees : Sees S K D N C) (role : Role) (before after : SessionOutside S K D N C) (status : Status) where
-  -- those of the life that a run lived, if it lived one
+  -- those of the life that a run which was not fed lived, if it lived one
   abbrev pub served_in_life : (config : EndConfig) (senders : Senders)
       → LeftAll sees before after status ⊎ HasLivedOver G sees config senders before after status → List Served
   served_in_life config senders (inl left) = []
@@ -75,14 +78,25 @@ module _ {S K D N C J : Type 0} (G : Ghosts J) (sees : Sees S K D N C) (role : R
   served_in (inl stopped) = []
   served_in (inr was) = served_behind_config was.configuration was.ended
 
-module _ {S K D N C J : Type 0} (G : Ghosts J) (sees : Sees S K D N C) (role : Role) (flows : Flows) (outbox inbox : List ℕ) where
+module _ {S I K A D N C J : Type 0} (G : Ghosts J) (sees : FeedSees S I K A D N C) (role : Role) where
+  -- those of the life that was fed, if one was
+  abbrev pub served_fed : (before after : FeedOutside S I K A D N C) (status : Status) → Option (FedLife G sees role before after status) → List Served
+  served_fed before after status None = []
+  served_fed before after status (Some l) = served_of _ _ _ _ l.lived.over.served.life ∷ []
+
+  -- and so of a run
+  abbrev pub served_of_run : (r : Run S K D N C) → IsRun G sees role r → List Served
+  served_of_run r (inl steps) = served_in G sees.session role r.before r.after r.status steps
+  served_of_run r (inr fed) = served_fed fed.before fed.after r.status (fed_life G sees role fed.before fed.after r.status fed.steps)
+
+module _ {S I K A D N C J : Type 0} (G : Ghosts J) (sees : FeedSees S I K A D N C) (role : Role) (flows : Flows) (outbox inbox : List ℕ) where
   -- and of the lives of several runs, in order
   abbrev pub served_over : (runs : List (Run S K D N C)) (outboxes inboxes : List ℕ → Type 0)
-      → RunsOver sees (WasRun G sees role flows) runs outboxes inboxes outbox inbox → List Served
+      → RunsOver sees.session (WasRun G sees role flows) runs outboxes inboxes outbox inbox → List Served
   served_over [] outboxes inboxes over = []
   served_over (r ∷ later) outboxes inboxes over =
-      served_in G sees role r.before r.after r.status over.2.steps
-      ++ served_over later (sees.may_leave r.after.out_disk) (sees.may_leave r.after.in_disk) over.3
+      served_of_run G sees role r over.2.steps
+      ++ served_over later (sees.session.may_leave r.after.out_disk) (sees.session.may_leave r.after.in_disk) over.3
 
 -- their connections, by their turns, and those that ended
 abbrev pub legs_of : List Served → List TurnedLeg
@@ -115,19 +129,19 @@ module _ {S K D N C : Type 0} where
   abbrev pub ConfiguresLink : Sees S K D N C → Role → Link → Run S K D N C → Type 0
   ConfiguresLink sees role link r = IsSomeAnd (sees.left r.before.config) (HasLink role link)
 
-module _ {S K D N C J : Type 0} where
+module _ {S I K A D N C J : Type 0} where
   -- All runs of an end, from two journals without records on, each by a CONFIG with this link, which is one that CONFIG may spell; behind them a
   -- stop may leave, or leaves, a journal of this history, of no more entries than an end takes, and one of this list
-  pub record EndRan (G : Ghosts J) (sees : Sees S K D N C) (role : Role) (link : Link) : Type 0 where
+  pub record EndRan (G : Ghosts J) (sees : FeedSees S I K A D N C) (role : Role) (link : Link) : Type 0 where
     pub runs : List (Run S K D N C)
     pub outbox : History
     pub inbox : List InboxRecord
     pub ran : HasRun G sees role (flows_in link) runs outbox inbox
     pub fits : LinkFits link
     pub interval : 100 ≤ link.keepalive
-    pub configured : AllByRecursion (ConfiguresLink sees role link) runs
+    pub configured : AllByRecursion (ConfiguresLink sees.session role link) runs
     pub few : length outbox.made ≤ 2 ^ 26
 
   -- the lives of its runs
-  abbrev pub lives : (G : Ghosts J) (sees : Sees S K D N C) (role : Role) (link : Link) → EndRan G sees role link → List Served
+  abbrev pub lives : (G : Ghosts J) (sees : FeedSees S I K A D N C) (role : Role) (link : Link) → EndRan G sees role link → List Served
   lives G sees role link e = served_over G sees role (flows_in link) e.ran.outbox e.ran.inbox e.runs IsEmptyJournal IsEmptyJournal e.ran.over

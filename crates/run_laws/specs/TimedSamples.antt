@@ -5,22 +5,22 @@ use Rattle.fixp_shake.specs.declared.config.Role.TheVariants.{Initiator, Accepto
 use Rattle.jr_dated.specs.declared.journal.Journal.{Ghosts}
 use Rattle.jr_kept.specs.declared.inbox.Inbox.{Inbox}
 use Rattle.jr_kept.specs.Inbox.{HoldsBox}
-use Rattle.run_laws.specs.Samples.{configured, config_text, memory, runs_of_initiator, runs_of_acceptor}
+use Rattle.run_laws.specs.Samples.{configured, config_text, fed_memory, runs_of_initiator, runs_of_acceptor}
 use Rattle.run_laws.specs.TimedRuns.{EndRan, lives, legs_of}
 use Rattle.run_laws.specs.TimedLaws.{AreLinked}
 
 module _ {J : Type 0} (G : Ghosts J) where
   -- these runs, with two lives of each end and a connection of each, are linked in time
   pub record RunInTime : Type 0 where
-    pub initiator : EndRan G memory Initiator configured.link
-    pub acceptor : EndRan G memory Acceptor configured.link
+    pub initiator : EndRan G fed_memory Initiator configured.link
+    pub acceptor : EndRan G fed_memory Acceptor configured.link
     pub runs_i : initiator.runs ≡ runs_of_initiator config_text
     pub runs_a : acceptor.runs ≡ runs_of_acceptor config_text
-    pub lives_i : length (lives G memory Initiator configured.link initiator) ≡ 2
-    pub lives_a : length (lives G memory Acceptor configured.link acceptor) ≡ 2
-    pub legs_i : length (legs_of (lives G memory Initiator configured.link initiator)) ≡ 1
-    pub legs_a : length (legs_of (lives G memory Acceptor configured.link acceptor)) ≡ 1
-    pub linked : AreLinked G memory configured.link configured.link initiator acceptor
+    pub lives_i : length (lives G fed_memory Initiator configured.link initiator) ≡ 2
+    pub lives_a : length (lives G fed_memory Acceptor configured.link acceptor) ≡ 2
+    pub legs_i : length (legs_of (lives G fed_memory Initiator configured.link initiator)) ≡ 1
+    pub legs_a : length (legs_of (lives G fed_memory Acceptor configured.link acceptor)) ≡ 1
+    pub linked : AreLinked G fed_memory configured.link configured.link initiator acceptor
 
 module _ {J : Type 0} {G : Ghosts J} where
   -- so they are where an inbox holds no records, as one does that was opened on a journal without records

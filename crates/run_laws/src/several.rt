@@ -1,8 +1,11 @@
 //! Several runs of two ends.
 
+ghost use Rattle.std.specs.Prelude.{Bool};
 ghost use Rattle.cmd_session.specs.Outsides.{sees};
+ghost use Rattle.cmd_feed.specs.Outsides.{feed_sees};
 ghost use Rattle.run_laws.specs.DeskSamples.{DesksSample};
 ghost use Rattle.run_laws.specs.Desks.{DesksHold};
+ghost use Rattle.run_laws.specs.FedLaws.{FedHold};
 ghost use Rattle.run_laws.specs.Holding.{BoxesAreLeft, NoneIsLost, RunsHold};
 ghost use Rattle.run_laws.specs.Promise.{RunKeeps};
 ghost use Rattle.run_laws.specs.Samples.{RunsSample};
@@ -15,23 +18,24 @@ use jr_dated::Journal;
 use jr_kept::Inbox;
 use jr_segments::SegJournal;
 
-/// Two ends ran, each any number of times, over disks that tell their content: the inbox of each holds of the outbox of the other what its flow promises.
-pub fn runs_hold<S: Source, K: Sink, D: Disk, N: Dialer, C: Clock>()
-    ensures law { RunsHold ⟦<SegJournal<D> as Journal>⟧ (sees S.Source K.Sink D.Disk N.Dialer N.Link.Link C.Clock) }
+/// Two ends ran, each any number of times, fed or not, over disks that tell their content: the inbox of each holds of the outbox of the other what
+/// its flow promises.
+pub fn runs_hold<S: Source, I: Source, K: Sink, A: Sink, D: Disk, N: Dialer, C: Clock>()
+    ensures law { (keeps : Bool) → RunsHold ⟦<SegJournal<D> as Journal>⟧ (feed_sees (sees S.Source K.Sink D.Disk N.Dialer N.Link.Link C.Clock) keeps I.Source A.Sink) }
 {}
 
 /// Behind any runs of an end, whatever a stop leaves of its disks has a list of records.
-pub fn none_is_lost<S: Source, K: Sink, D: Disk, N: Dialer, C: Clock>()
-    ensures law { NoneIsLost ⟦<SegJournal<D> as Journal>⟧ (sees S.Source K.Sink D.Disk N.Dialer N.Link.Link C.Clock) }
+pub fn none_is_lost<S: Source, I: Source, K: Sink, A: Sink, D: Disk, N: Dialer, C: Clock>()
+    ensures law { (keeps : Bool) → NoneIsLost ⟦<SegJournal<D> as Journal>⟧ (feed_sees (sees S.Source K.Sink D.Disk N.Dialer N.Link.Link C.Clock) keeps I.Source A.Sink) }
 {}
 
-/// Behind any runs of an end, over INPUTs that are parts of one plan, the outbox holds each sender's messages once and in order, and
+/// Behind any runs of an end that were not fed, over INPUTs that are parts of one plan, the outbox holds each sender's messages once and in order, and
 /// where it has its finish, all that one of them had.
 pub fn senders_hold<S: Source, K: Sink, D: Disk, N: Dialer, C: Clock>()
     ensures law { SendersHold ⟦<SegJournal<D> as Journal>⟧ (sees S.Source K.Sink D.Disk N.Dialer N.Link.Link C.Clock) }
 {}
 
-/// Behind any runs of an end, whatever INPUT each had, the outbox holds each sender's messages once and in order, each of which INPUT of one
+/// Behind any runs of an end that were not fed, whatever INPUT each had, the outbox holds each sender's messages once and in order, each of which INPUT of one
 /// of them gave at its place; and where it has its finish, all that INPUT of one of them had.
 pub fn inputs_hold<S: Source, K: Sink, D: Disk, N: Dialer, C: Clock>()
     ensures law { InputsHold ⟦<SegJournal<D> as Journal>⟧ (sees S.Source K.Sink D.Disk N.Dialer N.Link.Link C.Clock) }
@@ -40,8 +44,8 @@ pub fn inputs_hold<S: Source, K: Sink, D: Disk, N: Dialer, C: Clock>()
 /// Behind any runs of an end whose CONFIGs name the same desks, the outbox holds each desk's messages once and in order, a beginning of what it
 /// is to send over the inbox; where it has its finish, all of it up to the peer's; and where the last run ended by its connections, none
 /// is left out.
-pub fn desks_hold<S: Source, K: Sink, D: Disk, N: Dialer, C: Clock>()
-    ensures law { DesksHold ⟦<SegJournal<D> as Journal>⟧ (sees S.Source K.Sink D.Disk N.Dialer N.Link.Link C.Clock) }
+pub fn desks_hold<S: Source, I: Source, K: Sink, A: Sink, D: Disk, N: Dialer, C: Clock>()
+    ensures law { (keeps : Bool) → DesksHold ⟦<SegJournal<D> as Journal>⟧ (feed_sees (sees S.Source K.Sink D.Disk N.Dialer N.Link.Link C.Clock) keeps I.Source A.Sink) }
 {}
 
 /// An end with desks meets the premises of `desks_hold` on runs, by a run in memory whose link is cut.
@@ -49,7 +53,7 @@ pub fn desks_sample<I: Journal>(empty: &Inbox<I>)
     ensures law { DesksSample empty.now }
 {}
 
-/// A run over disks that tell their content kept both journals, each by itself, or lived one life of the session model over them.
+/// A run that was not fed, over disks that tell their content, kept both journals, each by itself, or lived one life of the session model over them.
 pub fn run_keeps<S: Source, K: Sink, D: Disk, N: Dialer, C: Clock>()
     ensures law { RunKeeps ⟦<SegJournal<D> as Journal>⟧ (sees S.Source K.Sink D.Disk N.Dialer N.Link.Link C.Clock) }
 {}
@@ -61,11 +65,17 @@ pub fn runs_sample<I: Journal>(empty: &Inbox<I>)
 {}
 
 /// Behind any runs of an end, what each life closed on stands in the outbox: each message that was acknowledged, at its number.
-pub fn closings_stand<S: Source, K: Sink, D: Disk, N: Dialer, C: Clock>()
-    ensures law { ClosingsStand ⟦<SegJournal<D> as Journal>⟧ (sees S.Source K.Sink D.Disk N.Dialer N.Link.Link C.Clock) }
+pub fn closings_stand<S: Source, I: Source, K: Sink, A: Sink, D: Disk, N: Dialer, C: Clock>()
+    ensures law { (keeps : Bool) → ClosingsStand ⟦<SegJournal<D> as Journal>⟧ (feed_sees (sees S.Source K.Sink D.Disk N.Dialer N.Link.Link C.Clock) keeps I.Source A.Sink) }
 {}
 
 /// Behind any runs of an end, whatever records a stop leaves of its disks are those of a history in order, and of a list.
-pub fn boxes_are_left<S: Source, K: Sink, D: Disk, N: Dialer, C: Clock>()
-    ensures law { BoxesAreLeft ⟦<SegJournal<D> as Journal>⟧ (sees S.Source K.Sink D.Disk N.Dialer N.Link.Link C.Clock) }
+pub fn boxes_are_left<S: Source, I: Source, K: Sink, A: Sink, D: Disk, N: Dialer, C: Clock>()
+    ensures law { (keeps : Bool) → BoxesAreLeft ⟦<SegJournal<D> as Journal>⟧ (feed_sees (sees S.Source K.Sink D.Disk N.Dialer N.Link.Link C.Clock) keeps I.Source A.Sink) }
+{}
+
+/// Behind any runs of an end, fed or not, what each life that was fed accepted stands in the outbox at the number that ACCEPTED was told, behind
+/// what its sender had; and ACCEPTED took what came of the lines of INPUT, or a front of that where it, a journal or memory failed.
+pub fn fed_hold<S: Source, I: Source, K: Sink, A: Sink, D: Disk, N: Dialer, C: Clock>()
+    ensures law { (keeps : Bool) → FedHold ⟦<SegJournal<D> as Journal>⟧ (feed_sees (sees S.Source K.Sink D.Disk N.Dialer N.Link.Link C.Clock) keeps I.Source A.Sink) }
 {}

@@ -1,6 +1,8 @@
 //! Any runs of two ends, over links that gave in time what they took.
 
+ghost use Rattle.std.specs.Prelude.{Bool};
 ghost use Rattle.cmd_session.specs.Outsides.{sees};
+ghost use Rattle.cmd_feed.specs.Outsides.{feed_sees};
 ghost use Rattle.run_laws.specs.Served.{ServedHolds};
 ghost use Rattle.run_laws.specs.TimedLaws.{FinishIsWhole, RunsEndInTime};
 ghost use Rattle.run_laws.specs.Resting.{RestIsWhole};
@@ -21,19 +23,19 @@ pub fn served_holds<O: Journal, I: Journal>(inbox: &Inbox<I>)
 
 /// Two ends ran, each any number of times, by matching links: none of their connections that ended closed by a violation but silence
 /// and a late handshake, whichever call of a device failed and wherever they were stopped.
-pub fn runs_end_in_time<S: Source, K: Sink, D: Disk, N: Dialer, C: Clock>()
-    ensures law { RunsEndInTime ⟦<SegJournal<D> as Journal>⟧ (sees S.Source K.Sink D.Disk N.Dialer N.Link.Link C.Clock) }
+pub fn runs_end_in_time<S: Source, I: Source, K: Sink, A: Sink, D: Disk, N: Dialer, C: Clock>()
+    ensures law { (keeps : Bool) → RunsEndInTime ⟦<SegJournal<D> as Journal>⟧ (feed_sees (sees S.Source K.Sink D.Disk N.Dialer N.Link.Link C.Clock) keeps I.Source A.Sink) }
 {}
 
 /// Behind them an inbox that has the finish of its peer has all of the peer's outbox.
-pub fn finish_is_whole<S: Source, K: Sink, D: Disk, N: Dialer, C: Clock>()
-    ensures law { FinishIsWhole ⟦<SegJournal<D> as Journal>⟧ (sees S.Source K.Sink D.Disk N.Dialer N.Link.Link C.Clock) }
+pub fn finish_is_whole<S: Source, I: Source, K: Sink, A: Sink, D: Disk, N: Dialer, C: Clock>()
+    ensures law { (keeps : Bool) → FinishIsWhole ⟦<SegJournal<D> as Journal>⟧ (feed_sees (sees S.Source K.Sink D.Disk N.Dialer N.Link.Link C.Clock) keeps I.Source A.Sink) }
 {}
 
 /// Where both ends were at rest as their last runs left them, quiet or with both finishes exchanged, each inbox has all of the other end's
 /// outbox.
-pub fn rest_is_whole<S: Source, K: Sink, D: Disk, N: Dialer, C: Clock>()
-    ensures law { RestIsWhole ⟦<SegJournal<D> as Journal>⟧ (sees S.Source K.Sink D.Disk N.Dialer N.Link.Link C.Clock) }
+pub fn rest_is_whole<S: Source, I: Source, K: Sink, A: Sink, D: Disk, N: Dialer, C: Clock>()
+    ensures law { (keeps : Bool) → RestIsWhole ⟦<SegJournal<D> as Journal>⟧ (feed_sees (sees S.Source K.Sink D.Disk N.Dialer N.Link.Link C.Clock) keeps I.Source A.Sink) }
 {}
 
 /// Two runs of each of two ends in memory, the second of either a next life, meet all premises of `runs_end_in_time` on runs.
