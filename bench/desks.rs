@@ -1,10 +1,13 @@
 //! A venue that answers orders by desks, by hand and with no proof: one thread takes frames of orders from a socket, sixteen at a time; adds them to an
 //! inbox and the reports to an outbox, each batch with two writes and two syncs, on files in the form of the journals; writes a line for each order;
-//! and sends the reports. There is no session: no handshake, no heartbeat and no retransmission. What `fixpgw accept` does is compared with
-//! this. It is no part of the product. Usage:
-//!   desks venue FOLDER DESKS REFERENCE     prints its port, takes one connection, and then prints of each desk how many reports it sent, and a sum of them
-//!   desks broker PORT PLANS                sends the payloads of a text of plans, and takes what is answered
-//!   desks threads COUNT                    starts so many threads that do nothing, each joined before the next
+//! and sends the reports. There is no session: no handshake, no heartbeat and no retransmission. `desks_session.rs` is the same with a session. What
+//! `fixpgw accept` does is compared with both. They are no part of the product. Usage:
+//!   desks venue FOLDER DESKS REFERENCE         prints its port, takes one connection, and then prints of each desk how many reports it sent, and a sum of them
+//!   desks broker PORT PLANS                    sends the payloads of a text of plans, and takes what is answered
+//!   desks session FOLDER PORT DESKS REFERENCE  takes one connection of `fixpgw connect`, on the journals that stand in the folder
+//!   desks threads COUNT                        starts so many threads that do nothing, each joined before the next
+mod desks_session;
+
 use std::env;
 use std::fs::{self, File};
 use std::io::{Read, Write};
@@ -33,8 +36,19 @@ impl Journal {
         Journal { file, end: 16 }
     }
 
-    /// Appends records with the gate behind each, and then opens the gate before them.
-    fn append(&mut self, records: &[u8]) {
+    /// Opens a journal that has no records yet.
+    fn opened(path: PathBuf) -> Journal {
+        let file = File::options().read(true).write(true).open(path).expect("a journal");
+        let mut bytes = Vec::new();
+        file.sync_data().expect("a sync");
+        (&file).read_to_end(&mut bytes).expect("a journal");
+        assert_eq!(bytes, b"FIXPJRN2\0\0\0\0\0\0\0\0\0", "a journal without records");
+        Journal { file, end: 16 }
+    }
+
+    /// Appends records, each with the gate of the next behind it: closes the gate behind the last, and then opens the one before them.
+    fn append(&mut self, records: &mut [u8]) {
+        *records.last_mut().expect("a record") = 0;
         self.file.write_all_at(records, self.end + 1).expect("records");
         self.file.sync_data().expect("a sync");
         self.file.write_all_at(&[1], self.end).expect("a gate");
@@ -44,9 +58,9 @@ impl Journal {
 }
 
 /// Adds the front of a record: its kind, its moment and the size of its body.
-fn begin(records: &mut Vec<u8>, kind: u8, body: usize) {
+fn begin(records: &mut Vec<u8>, kind: u8, moment: u64, body: usize) {
     records.push(kind);
-    records.extend_from_slice(&0u64.to_le_bytes());
+    records.extend_from_slice(&moment.to_le_bytes());
     records.extend_from_slice(&(body as u32).to_le_bytes());
 }
 
@@ -65,6 +79,17 @@ fn number<const N: usize>(bytes: &[u8], at: usize) -> u64 {
     u64::from_le_bytes(number)
 }
 
+/// Adds the record of a message that was applied, and its line.
+fn apply(records: &mut Vec<u8>, lines: &mut Vec<u8>, moment: u64, number: u64, payload: &[u8]) {
+    begin(records, 2, moment, 8 + payload.len());
+    records.extend_from_slice(&number.to_le_bytes());
+    records.extend_from_slice(payload);
+    records.push(1);
+    write!(lines, "deliver {number} ").expect("a line");
+    lines.extend(payload.iter().flat_map(|byte| [DIGITS[usize::from(byte >> 4)], DIGITS[usize::from(byte & 15)]]));
+    lines.push(b'\n');
+}
+
 /// A desk: what it sent so far, and a sum of that.
 #[derive(Clone, Default)]
 struct Desk {
@@ -75,12 +100,18 @@ struct Desk {
 struct Venue {
     desks: Vec<Desk>,
     reference: i64,
+    /// That of its records, in milliseconds.
+    moment: u64,
     applied: u64,
     entries: Vec<u8>,
     frames: Vec<u8>,
 }
 
 impl Venue {
+    fn new(desks: usize, reference: i64) -> Venue {
+        Venue { desks: vec![Desk::default(); desks], reference, moment: 0, applied: 0, entries: Vec::new(), frames: Vec::new() }
+    }
+
     fn tell(&mut self, at: usize, cl_id: u64, kind: u8, code: u8, quantity: u32, price: i64) {
         let mut report = [0; 33];
         report[..10].copy_from_slice(&[0xEB, 0x50, 23, 0, 3, 0, 100, 0, 1, 0]);
@@ -91,11 +122,11 @@ impl Venue {
         let desk = &mut self.desks[at];
         desk.sent += 1;
         desk.sum = desk.sum.wrapping_add(desk.sent.wrapping_mul(report.iter().map(|byte| u64::from(*byte)).sum()));
-        begin(&mut self.entries, 1, 10 + report.len());
+        begin(&mut self.entries, 1, self.moment, 10 + report.len());
         self.entries.extend_from_slice(&(at as u16 + 1).to_le_bytes());
         self.entries.extend_from_slice(&desk.sent.to_le_bytes());
         self.entries.extend_from_slice(&report);
-        self.entries.push(0);
+        self.entries.push(1);
         self.frames.extend_from_slice(&(report.len() as u32 + 4).to_be_bytes());
         self.frames.extend_from_slice(&report);
     }
@@ -139,7 +170,7 @@ fn serve(folder: &Path, desks: usize, reference: i64) {
     stream.set_nodelay(true).expect("no delay");
     let (mut inbox, mut outbox) = (Journal::formatted(folder.join("in.jrn")), Journal::formatted(folder.join("out.jrn")));
     let mut out = File::create(folder.join("out.txt")).expect("OUT");
-    let mut venue = Venue { desks: vec![Desk::default(); desks], reference, applied: 0, entries: Vec::new(), frames: Vec::new() };
+    let mut venue = Venue::new(desks, reference);
     let (mut held, mut piece, mut records, mut lines) = (Vec::new(), vec![0; 65536], Vec::new(), Vec::new());
     loop {
         let got = stream.read(&mut piece).expect("bytes");
@@ -154,19 +185,13 @@ fn serve(folder: &Path, desks: usize, reference: i64) {
             for _ in 0..FRAMES {
                 let Some((payload, size)) = first(&held[taken..]) else { break };
                 number += 1;
-                begin(&mut records, 3, 8 + payload.len());
-                records.extend_from_slice(&number.to_le_bytes());
-                records.extend_from_slice(payload);
-                records.push(0);
-                write!(lines, "deliver {number} ").expect("a line");
-                lines.extend(payload.iter().flat_map(|byte| [DIGITS[usize::from(byte >> 4)], DIGITS[usize::from(byte & 15)]]));
-                lines.push(b'\n');
+                apply(&mut records, &mut lines, 0, number, payload);
                 taken += size;
             }
             if taken == from {
                 break;
             }
-            inbox.append(&records);
+            inbox.append(&mut records);
             records.clear();
             out.write_all(&lines).expect("lines");
             lines.clear();
@@ -176,7 +201,7 @@ fn serve(folder: &Path, desks: usize, reference: i64) {
                 venue.answer(payload);
                 at += size;
             }
-            outbox.append(&venue.entries);
+            outbox.append(&mut venue.entries);
             venue.entries.clear();
             stream.write_all(&venue.frames).expect("reports");
             venue.frames.clear();
@@ -210,6 +235,12 @@ fn main() {
     match words[0].as_str() {
         "venue" => serve(Path::new(&words[1]), words[2].parse().expect("desks"), words[3].parse().expect("a price")),
         "broker" => send(words[1].parse().expect("a port"), Path::new(&words[2])),
+        "session" => desks_session::serve(
+            Path::new(&words[1]),
+            words[2].parse().expect("a port"),
+            words[3].parse().expect("desks"),
+            words[4].parse().expect("a price"),
+        ),
         _ => (0..words[1].parse().expect("a count")).for_each(|_| thread::spawn(|| ()).join().expect("a thread")),
     }
 }
