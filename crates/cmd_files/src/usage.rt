@@ -3,7 +3,7 @@
 use crate::report::Report;
 use cmd_run::Status;
 use say_words::quoted;
-use session_files::role_of;
+use session_files::{are_both_standard, role_of};
 use std::alloc::{AllocError, Global};
 
 pub const VERSION: &str = "fixpgw 0.1.0";
@@ -15,6 +15,7 @@ const USAGE: &str =
                                         a session as the acceptor: listens at ADDRESS for up to N connections
   fixpgw connect ADDRESS N CONFIG INPUT OUTBOX INBOX OUT
                                         a session as the initiator: makes up to N connections to ADDRESS
+  fixpgw accept|connect .. OUT ACCEPTED the same, with INPUT sent as it comes, and told on ACCEPTED line by line
   fixpgw answer CONFIG INPUT WIRE OUT   answers the recorded client in INPUT: replies to WIRE, messages to OUT
   fixpgw check CONFIG OUT               checks the schema in CONFIG, and prints its layout to OUT
   fixpgw decode CONFIG INPUT OUT        prints the messages in the frames of INPUT as text to OUT
@@ -29,38 +30,46 @@ const USAGE: &str =
   fixpgw --version                      the name and the version
   fixpgw --quiet COMMAND ..             accept and connect say on standard error only what is refused, broken or lost
 
-OUT may be -, which is standard output. The last line on standard output is `status N NAME`, and N is the
+OUT may be -, which is standard output; so may ACCEPTED, where OUT is not. The last line on standard output is `status N NAME`, and N is the
 exit status: 0 done, 1 words, 2 config, 3 input-fault, 4 output-fault, 5 journal-fault, 6 journal-bad,
 7 dial-fault, 8 unfinished, 9 rejected, 10 full, 11 turns, 12 message, 13 undrained, 14 memory.";
 
-const ACCEPT: &str = "usage: fixpgw accept ADDRESS N CONFIG INPUT OUTBOX INBOX OUT
+const ACCEPT: &str = "usage: fixpgw accept ADDRESS N CONFIG INPUT OUTBOX INBOX OUT [ACCEPTED]
 
 A session as the acceptor, which listens: what INPUT gives is sent, and what the peer sends is taken, over one connection
 after another. On a recoverable flow each message arrives once and in order; on another one what is lost is not sent again.
 Run again with the same journals, it goes on where they stand. Where CONFIG has desks or a book, what is sent is what these
 report of the orders that the peer sends, and INPUT is not opened.
 
+With ACCEPTED, each line of INPUT is sent as it comes, until INPUT ends; desks are refused. ACCEPTED is told what each sender has,
+and of each line that it is stable, or why it was not sent. OUT is not emptied: it goes on behind what earlier runs told.
+
   ADDRESS  where it listens, as 127.0.0.1:15617
   N        how many connections there may be, 1 to 65535; each counts, also that of a stranger
   CONFIG   the configuration of the session, as TOML (read)
-  INPUT    what the senders send: lines `SENDER HEX` (read, but not where CONFIG has desks)
+  INPUT    what the senders send: lines `SENDER HEX` (read, but not where CONFIG has desks); with ACCEPTED - is standard input
   OUTBOX   the journal of what is sent, made by fixpgw format (read and written)
   INBOX    the journal of what is received, likewise
-  OUT      a line for each message received and each connection's end (written); - is standard output";
+  OUT      a line for each message received and each connection's end (written); - is standard output
+  ACCEPTED a line for each line of INPUT (written); - is standard output, where OUT is not";
 
-const CONNECT: &str = "usage: fixpgw connect ADDRESS N CONFIG INPUT OUTBOX INBOX OUT
+const CONNECT: &str = "usage: fixpgw connect ADDRESS N CONFIG INPUT OUTBOX INBOX OUT [ACCEPTED]
 
 A session as the initiator, which connects: what INPUT gives is sent, and what the peer sends is taken, over one connection
 after another. On a recoverable flow each message arrives once and in order; on another one what is lost is not sent again.
 Run again with the same journals, it goes on where they stand.
 
+With ACCEPTED, each line of INPUT is sent as it comes, until INPUT ends; ACCEPTED is told what each sender has, and of each line that
+it is stable, or why it was not sent. OUT is not emptied: it goes on behind what earlier runs told.
+
   ADDRESS  where the acceptor listens, as 127.0.0.1:15617
   N        how many connections there may be, 1 to 65535; each counts, however short
   CONFIG   the configuration of the session, as TOML (read)
-  INPUT    what the senders send: lines `SENDER HEX` (read)
+  INPUT    what the senders send: lines `SENDER HEX` (read); with ACCEPTED - is standard input
   OUTBOX   the journal of what is sent, made by fixpgw format (read and written)
   INBOX    the journal of what is received, likewise
-  OUT      a line for each message received and each connection's end (written); - is standard output";
+  OUT      a line for each message received and each connection's end (written); - is standard output
+  ACCEPTED a line for each line of INPUT (written); - is standard output, where OUT is not";
 
 const ANSWER: &str = "usage: fixpgw answer CONFIG INPUT WIRE OUT
 
@@ -175,18 +184,32 @@ pub fn asked(words: &[String]) -> Option<&'static str> {
     None
 }
 
-/// The N of as many words as a session has, if they are one's; where these are no listed form it is at fault.
+/// The N of as many words as a session has, if they are one's; where these are no listed form it is at fault, but for what both outputs may be.
 fn connections_of(words: &[String]) -> Option<&str> {
     match words {
-        [command, _, most, _, _, _, _, _] if role_of(command.as_str()).is_some() => {
-            Some(most.as_str())
-        }
+        [command, _, most, _, _, _, _, _] | [command, _, most, _, _, _, _, _, _]
+            if role_of(command.as_str()).is_some() => { Some(most.as_str()) }
         _ => None,
+    }
+}
+
+/// Whether OUT and ACCEPTED of as many words as a session has would both be standard output.
+fn has_two_for_one(words: &[String]) -> bool {
+    match words {
+        [command, _, _, _, _, _, _, out, accepted] if role_of(command.as_str()).is_some() => {
+            are_both_standard(out.as_str(), accepted.as_str())
+        }
+        _ => false,
     }
 }
 
 /// What is wrong with the words of a command, in front of its usage.
 fn fault_of(alloc: Global, words: &[String], usage: &str) -> Result<String, AllocError> {
+    if has_two_for_one(words) {
+        return format!(in alloc;
+            "OUT and ACCEPTED are both -, and standard output can stand for one of them\n\n{usage}"
+        );
+    }
     if let Some(most) = connections_of(words) {
         let most = quoted(alloc, most)?;
         return format!(in alloc; "N is {most}, and has to be a number from 1 to 65535\n\n{usage}");

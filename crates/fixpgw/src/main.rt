@@ -2,22 +2,26 @@
 //! the command run over them, prints its status and exits with it. What is between is the crate `cmd_run`.
 #![tactic(auto)]
 
+mod feeding;
 mod rehearsals;
 mod sessions;
 mod soaks;
 
 use cmd_files::{Report, VERSION, asked, finish, run_over_files, usage_fault};
 use cmd_run::{Status, command_of};
+use feeding::{AcceptedFile, Feeds, feed_over_sockets};
+use gw_fed_files::ComingFile;
 use gw_real::{FileDisk, Opening};
 use rehearsals::{RehearsalFiles, rehearse_over_files};
 use session_files::Session;
-use sessions::{SessionFiles, run_over_sockets};
+use sessions::{SessionFiles, hold_stream, run_over_sockets};
 use soaks::{SoakFile, soak_over_file};
 use std::fs::File;
 use std::io;
 use std::process::ExitCode;
 use std::rt::{Env, Files};
 use std::sync::Wait;
+use std::sync::atomic::AtomicBool;
 use std::thread::Threads;
 
 /// The words behind the program's name.
@@ -89,10 +93,8 @@ fn main(rt: HostRuntime) -> ExitCode {
     if let Some(text) = asked(words) {
         return show(&rt, text);
     }
-    // The form with ACCEPTED is none of the program's yet.
-    let session = match Session::of(words) {
-        Some(session) if session.accepted.is_none() => session,
-        _ => return run_words(&rt, words),
+    let Some(session) = Session::of(words) else {
+        return run_words(&rt, words);
     };
     let (others, journals) = (session.others(), session.journals());
     let files = SessionFiles {
@@ -100,5 +102,19 @@ fn main(rt: HostRuntime) -> ExitCode {
         in_disk: FileDisk::new(&rt, session.inbox, &journals, Opening::Write),
         others: &others,
     };
-    finish(&rt, run_over_sockets(&rt, session, files, is_quiet))
+    let Some(accepted) = session.accepted else {
+        return finish(&rt, run_over_sockets(&rt, session, files, is_quiet));
+    };
+    let over = AtomicBool::new(false);
+    let mut input = ComingFile::new(&rt, rt.alloc(), session.input.path, &over);
+    // It would take the number of a standard stream that is closed.
+    let held = (hold_stream(&rt), hold_stream(&rt), hold_stream(&rt));
+    input.open();
+    drop(held);
+    let feeds = Feeds {
+        input,
+        accepted: AcceptedFile::new(&rt, accepted, &others),
+        over: &over,
+    };
+    finish(&rt, feed_over_sockets(&rt, session, files, feeds, is_quiet))
 }

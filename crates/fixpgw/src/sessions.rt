@@ -83,7 +83,7 @@ fn devices<'a, 't, R: Files<File = File> + Print + AllocGlobal, D, N>(
 
 /// Whether an end pauses behind connections that came to nothing: one that makes them. One that listens would make those wait
 /// who come next.
-fn pauses_of(role: Role) -> Pauses {
+pub fn pauses_of(role: Role) -> Pauses {
     match role {
         Role::Initiator => Pauses::Longer,
         Role::Acceptor => Pauses::Never,
@@ -103,7 +103,7 @@ fn run_over<R: Threads + Wait + Sync, S: Source, K: Sink, D: Disk + Send, N: Dia
 }
 
 /// What running again can bring, looked for in the journals where it is said of this status.
-fn outlook_of<R: Clock + Eprint + Files<File = File>>(
+pub fn outlook_of<R: Clock + Eprint + Files<File = File>>(
     status: &Status,
     teller: &Teller<'_, R>,
 ) -> Outlook {
@@ -167,7 +167,7 @@ where
 }
 
 /// What stands at the number of a standard stream that is closed, while it is held.
-fn hold_stream<R: Files<File = File>>(rt: &R) -> io::Result<File> {
+pub fn hold_stream<R: Files<File = File>>(rt: &R) -> io::Result<File> {
     File::open(rt, "/dev/null")
 }
 
