@@ -1,4 +1,4 @@
--- The hands that a business gives out for a call, each of which works in a thread of its own (this project's profile).
+-- The hands that a business gives out for a call, which work at once, in threads where these can be made (this project's profile).
 use Rattle.std.specs.Prelude.{◌≡◌, ℕ, ◌<◌, List, [], length, slice_index_or, Option, Some, None}
 
 -- the hands that were given out, if any

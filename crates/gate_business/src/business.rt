@@ -44,8 +44,8 @@ pub enum ResumeFault {
 /// A business of an end: it has the passes of the first numbers of a gate, and each of them has a plan, which says for every list of applied
 /// messages what its sender is to send. It stores no list of applied messages.
 ///
-/// For a call it may give hands out, which do their parts at once, each in a thread of its own; then it takes them back and settles the call. One
-/// that works alone gives none out, and does all of its work as it settles.
+/// For a call it may give hands out, which do their parts at once, in threads where these can be made; then it takes them back and settles the
+/// call. One that works alone gives none out, and does all of its work as it settles.
 pub trait Business<J: Journal + Send> {
     /// What the passes are of: the outbox of `J` that the gate keeps.
     type Held;
