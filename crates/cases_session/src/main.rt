@@ -1,12 +1,13 @@
-//! Cases of the session machine, of its flows and timers, of peers that keep no rules, of two ends turn by turn, of whole lives of
-//! `run_session`, of the other commands, and of the words of CONFIG and of a command line, over devices in memory. A word on the command
-//! line names one section. What the program has to print stands in `stdout`, worked out by hand.
+//! Cases of the session machine, of its flows and timers, of peers that keep no rules, of two ends turn by turn, of lines that are fed to
+//! senders, of whole lives of `run_session`, of the other commands, and of the words of CONFIG and of a command line, over devices in
+//! memory. A word on the command line names one section. What the program has to print stands in `stdout`, worked out by hand.
 #![tactic(auto)]
 
 mod chance;
 mod commands;
 mod driven;
 mod entries;
+mod feeds;
 mod flows;
 mod hostile;
 mod machines;
@@ -38,6 +39,9 @@ fn main(rt: HostRuntime) -> io::Result<()> {
     }
     if begins(&rt, &asked, "words")? {
         words::print(&rt)?;
+    }
+    if begins(&rt, &asked, "feeds")? {
+        feeds::print(&rt)?;
     }
     if begins(&rt, &asked, "runs")? {
         runs::print(&rt)?;
