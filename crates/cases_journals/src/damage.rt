@@ -10,7 +10,7 @@ use jr_segments::SegJournal;
 use std::alloc::{AllocError, Global};
 
 /// What opening a disk finds.
-#[derive(Clone, Copy, Debug, PartialEq, Eq)]
+#[derive(Clone, Copy, PartialEq, Eq)]
 enum Found {
     /// A journal of so many records.
     Records(u64),

@@ -5,7 +5,7 @@ ghost use Rattle.cases_journals.specs.declared.ending.Ending.TheVariants as endi
 use std::alloc::{AllocError, AllocFailed};
 
 /// What the journal gave that the list does not.
-#[derive(Clone, Copy, Debug, PartialEq, Eq)]
+#[derive(Clone, Copy, Debug)]
 pub enum Difference {
     Opening,
     Size,
@@ -15,7 +15,7 @@ pub enum Difference {
 }
 
 /// Why a sequence went no further.
-#[derive(Clone, Copy, Debug, PartialEq, Eq)]
+#[derive(Clone, Copy)]
 pub enum Ending {
     Memory,
     Differs(Difference),

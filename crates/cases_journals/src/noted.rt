@@ -18,7 +18,7 @@ const LONG: [u8; 18] = [
 ];
 
 /// What a record is.
-#[derive(Clone, Copy, Debug, PartialEq, Eq)]
+#[derive(Clone, Copy)]
 pub enum Kind {
     Entry,
     Apply,
@@ -29,7 +29,7 @@ pub enum Kind {
 }
 
 /// A record in short, by its kind and its number, and its moment.
-#[derive(Clone, Copy, Debug, PartialEq, Eq)]
+#[derive(Clone, Copy)]
 pub struct Noted {
     pub kind: Kind,
     pub number: u64,

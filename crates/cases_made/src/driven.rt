@@ -30,7 +30,7 @@ use std::sync::Wait;
 const TURNS: u64 = 1 << 40;
 
 /// What an end is made with.
-#[derive(Clone, Copy, Debug)]
+#[derive(Clone, Copy)]
 pub struct Setup {
     pub role: Role,
     /// The 16 bytes of the session's UUID.

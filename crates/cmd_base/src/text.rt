@@ -15,7 +15,7 @@ pub const INPUT_LIMIT: usize = 1 << 26;
 const PIECE: usize = 32_768;
 
 /// Why no text was read.
-#[derive(Clone, Copy, Debug, PartialEq, Eq)]
+#[derive(Clone, Copy)]
 pub enum TextFault {
     /// The source failed.
     Source,

@@ -25,7 +25,7 @@ use toml_walk::{
 };
 
 /// What a configuration says of the session itself.
-#[derive(Debug, Drop)]
+#[derive(Drop)]
 pub struct Link {
     /// The 16 bytes of the session's UUID.
     pub session: [u8; 16],
@@ -42,7 +42,7 @@ pub struct Link {
 }
 
 /// What a configuration says of those who send and of their orders.
-#[derive(Clone, Copy, Debug, PartialEq, Eq)]
+#[derive(Clone, Copy)]
 pub struct Trade {
     /// How many senders there are, 0 to 16.
     pub senders: u8,
@@ -57,7 +57,7 @@ pub struct Trade {
 }
 
 /// A configuration: the values of all its keys.
-#[derive(Debug, Drop)]
+#[derive(Drop)]
 pub struct Configuration {
     /// The session, its flows and credentials.
     pub link: Link,

@@ -1,7 +1,7 @@
 //! What the values of a configuration are admitted to be, for readers and for messages.
 
 /// The whole numbers from the least to the greatest.
-#[derive(Clone, Copy, Debug)]
+#[derive(Clone, Copy)]
 pub struct Range {
     pub least: u64,
     pub greatest: u64,

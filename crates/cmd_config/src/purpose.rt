@@ -7,7 +7,7 @@ use fixp_msgs::Flow;
 use fixp_shake::Role;
 
 /// What a configuration is for.
-#[derive(Clone, Copy, Debug, PartialEq, Eq)]
+#[derive(Clone, Copy)]
 pub enum Purpose {
     /// `answer`: the acceptor over recorded bytes.
     Recorded,

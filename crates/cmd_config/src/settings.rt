@@ -14,7 +14,7 @@ use std::alloc::Global;
 use toml_walk::TomlFault;
 
 /// What a configuration says of the session.
-#[derive(Debug, Drop)]
+#[derive(Drop)]
 pub struct Settings {
     /// The 16 bytes of the session's UUID.
     pub session: [u8; 16],

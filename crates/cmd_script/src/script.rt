@@ -32,7 +32,7 @@ pub const MESSAGES: Range = Range {
 pub type Counts = List<u64>;
 
 /// What the two ends send.
-#[derive(Debug, Drop)]
+#[derive(Drop)]
 pub struct Load {
     /// How many messages each sender of the initiator sends: 1 to 16 senders, at most 100,000 messages in all.
     pub messages: Counts,
@@ -47,7 +47,7 @@ pub struct Load {
 }
 
 /// A script: the values of all its keys.
-#[derive(Debug, Drop)]
+#[derive(Drop)]
 pub struct Script {
     /// The session, its flows and credentials.
     pub link: Link,

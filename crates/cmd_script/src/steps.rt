@@ -31,7 +31,7 @@ pub const END_WORDS: &[&str] = &["initiator", "acceptor"];
 pub const PICK_WORDS: &[&str] = &["old", "kept", "noise"];
 
 /// A step of a rehearsal.
-#[derive(Clone, Copy, Debug, Drop)]
+#[derive(Clone, Copy, Drop)]
 pub enum Step {
     /// Each sender submits its next messages, `count` of them or what is left, and then so many rounds run.
     Burst { count: u32, rounds: u32 },

@@ -3,7 +3,7 @@
 use plan_feed::Wrong;
 
 /// Why a line of INPUT was not sent.
-#[derive(Clone, Copy, Debug, PartialEq, Eq)]
+#[derive(Clone, Copy)]
 pub enum Why {
     /// It gives no payload to a sender.
     Wrong(Wrong),

@@ -5,7 +5,6 @@ ghost use Rattle.conn_door.specs.Answers.{submit_fault, finish_fault, yields_to,
 
 use fixp_shake::Phase;
 use jr_boxes::{CloseFault, SubmitFault};
-use thiserror::Error;
 
 /// How the connections of a life ended that did not fail.
 #[derive(Clone, Copy)]
@@ -17,34 +16,26 @@ pub enum LifeEnd {
 }
 
 /// Why a life did not end with both finishes exchanged.
-#[derive(Clone, Copy, Debug, Error)]
+#[derive(Clone, Copy)]
 pub enum ServeFault {
     /// OUT failed: it has taken a front of the lines.
-    #[error("the output failed")]
     Output,
     /// A call of the disk of the inbox or of the outbox failed, now or since its opening.
-    #[error("a journal's disk failed")]
     Journal,
     /// The outbox's disk gave another record than was written at this index, from 0 on.
-    #[error("record {at} of the outbox has changed")]
     Changed { at: u64 },
     /// The dialer failed: it gave no further connection.
-    #[error("the dialer failed")]
     Dial,
     /// No connection is left, and none ended with both finishes exchanged. The phase is `Idle` where there was no connection,
     /// and else `Ended`.
-    #[error("no connection is left in phase {phase:?}")]
     Unfinished { phase: Phase },
     /// The peer rejected the session by a message of this template and code, on the last connection.
-    #[error("rejected by message {template} with code {code}")]
     Rejected { template: u16, code: u8 },
     /// A journal is at a limit for the record to be added: it has so many messages, and so many bytes.
-    #[error("a journal is full at {entries} messages and {bytes} bytes")]
     Full { entries: u64, bytes: u64 },
     /// One connection took 2^40 turns, and has not ended.
-    #[error("a connection took 2^40 turns")]
     Turns,
-    #[error("out of memory")]
+    /// There is not enough memory.
     Memory,
 }
 

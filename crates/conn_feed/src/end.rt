@@ -9,7 +9,7 @@ use conn_accepted::Why;
 use jr_boxes::SubmitFault;
 
 /// Why a feeding ended.
-#[derive(Clone, Copy, Debug, PartialEq, Eq)]
+#[derive(Clone, Copy)]
 pub enum FeedEnd {
     /// INPUT is at its end, and each of its lines is answered.
     Ended,

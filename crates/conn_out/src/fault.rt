@@ -7,24 +7,19 @@ ghost use Rattle.conn_out.specs.declared.fault.OutFault.TheVariants as out;
 
 use conn_tail::TailFault;
 use jr_dated::FetchFault;
-use thiserror::Error;
 
 /// Why OUT was not gone on with.
-#[derive(Clone, Copy, Debug, PartialEq, Eq, Error)]
+#[derive(Clone, Copy)]
 pub enum OutFault {
     /// OUT failed.
-    #[error("the output failed")]
     Output,
     /// OUT ended before its length.
-    #[error("the output is shorter than its length was")]
     Short,
     /// A call of the journal's disk failed, now or since its opening.
-    #[error("the journal's device failed")]
     Journal,
     /// The journal's disk gave no record where this one, from 0 on, was written.
-    #[error("a record of the journal has changed")]
     Changed { at: u64 },
-    #[error("out of memory")]
+    /// There is not enough memory.
     Memory,
 }
 

@@ -5,18 +5,15 @@ ghost use Rattle.conn_tail.specs.declared.fault.TailFault.TheVariants.{Device, M
 
 use gw_outside::Failed;
 use std::alloc::AllocError;
-use thiserror::Error;
 
 /// Why the end of a file was not read.
-#[derive(Clone, Copy, Debug, PartialEq, Eq, Error)]
+#[derive(Clone, Copy, Debug)]
 pub enum TailFault {
     /// The device failed.
-    #[error("the device failed")]
     Device,
     /// The file ended before its length.
-    #[error("the file is shorter than its length was")]
     Short,
-    #[error("out of memory")]
+    /// There is not enough memory.
     Memory,
 }
 

@@ -18,7 +18,7 @@ use std::alloc::{AllocError, Global};
 const LONGEST_LINE: u64 = 32_801;
 
 /// The end of a file of lines.
-#[derive(Clone, Copy, Debug, PartialEq, Eq)]
+#[derive(Clone, Copy, Debug)]
 pub struct Tail {
     /// How many bytes its whole lines have, all together: what stands behind them is no whole line.
     pub whole: u64,

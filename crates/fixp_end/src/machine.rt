@@ -37,7 +37,7 @@ use std::marker::Model;
 const RESERVED_FRAMES: u8 = 16;
 
 /// One end of a session, over any number of connections one after another.
-#[derive(Debug, Drop)]
+#[derive(Drop)]
 pub struct End {
     config: EndConfig,
     most: u64,

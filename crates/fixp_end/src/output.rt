@@ -20,7 +20,7 @@ fn drop_front(buffer: &mut Vec<u8>, count: usize)
 }
 
 /// A queue of bytes that can be seen as one slice.
-#[derive(Debug, Drop)]
+#[derive(Drop)]
 pub struct Output {
     buffer: Vec<u8>,
     start: usize,

@@ -1,7 +1,7 @@
 //! The session messages and their fields (FIXP 1.1), in the layout of this project's profile.
 
 /// What a handshake's message says of the number that its writer expects next of the other side's flow.
-#[derive(Clone, Copy, Debug, PartialEq, Eq)]
+#[derive(Clone, Copy, Debug)]
 pub enum Expected {
     /// Nothing: a message of version 0 has no such field.
     Absent,
@@ -12,7 +12,7 @@ pub enum Expected {
 }
 
 /// The client proposes a session: its identifier and its own flow.
-#[derive(Clone, Copy, Debug, PartialEq, Eq)]
+#[derive(Clone, Copy, Debug)]
 pub struct Negotiate<'a> {
     /// The 16 bytes of the session's UUID.
     pub session_id: [u8; 16],
@@ -31,7 +31,7 @@ impl Negotiate<'_> {
 }
 
 /// The server accepts a Negotiate.
-#[derive(Clone, Copy, Debug, PartialEq, Eq)]
+#[derive(Clone, Copy, Debug)]
 pub struct NegotiationResponse<'a> {
     /// The 16 bytes of the session's UUID.
     pub session_id: [u8; 16],
@@ -50,7 +50,7 @@ impl NegotiationResponse<'_> {
 }
 
 /// The server refuses a Negotiate.
-#[derive(Clone, Copy, Debug, PartialEq, Eq)]
+#[derive(Clone, Copy, Debug)]
 pub struct NegotiationReject<'a> {
     /// The 16 bytes of the refused request's UUID.
     pub session_id: [u8; 16],
@@ -69,7 +69,7 @@ impl NegotiationReject<'_> {
 }
 
 /// The client binds a negotiated session to a connection.
-#[derive(Clone, Copy, Debug, PartialEq, Eq)]
+#[derive(Clone, Copy, Debug)]
 pub struct Establish<'a> {
     /// The 16 bytes of the session's UUID.
     pub session_id: [u8; 16],
@@ -93,7 +93,7 @@ impl Establish<'_> {
 }
 
 /// The server accepts an Establish.
-#[derive(Clone, Copy, Debug, PartialEq, Eq)]
+#[derive(Clone, Copy, Debug)]
 pub struct EstablishmentAck {
     /// The 16 bytes of the session's UUID.
     pub session_id: [u8; 16],
@@ -115,7 +115,7 @@ impl EstablishmentAck {
 }
 
 /// The server refuses an Establish.
-#[derive(Clone, Copy, Debug, PartialEq, Eq)]
+#[derive(Clone, Copy, Debug)]
 pub struct EstablishmentReject<'a> {
     /// The 16 bytes of the refused request's UUID.
     pub session_id: [u8; 16],
@@ -135,7 +135,7 @@ impl EstablishmentReject<'_> {
 }
 
 /// The number of the sender's next application message; the heartbeat of a numbered flow.
-#[derive(Clone, Copy, Debug, PartialEq, Eq)]
+#[derive(Clone, Copy, Debug)]
 pub struct Sequence {
     /// At least 1 where an honest peer wrote it; as read.
     pub next_seq: u64,
@@ -148,7 +148,7 @@ impl Sequence {
 }
 
 /// The heartbeat of a flow without numbers.
-#[derive(Clone, Copy, Debug, PartialEq, Eq)]
+#[derive(Clone, Copy, Debug)]
 pub struct UnsequencedHeartbeat;
 
 impl UnsequencedHeartbeat {
@@ -158,7 +158,7 @@ impl UnsequencedHeartbeat {
 }
 
 /// The receiver asks for messages that it missed.
-#[derive(Clone, Copy, Debug, PartialEq, Eq)]
+#[derive(Clone, Copy, Debug)]
 pub struct RetransmitRequest {
     /// The 16 bytes of the session's UUID.
     pub session_id: [u8; 16],
@@ -177,7 +177,7 @@ impl RetransmitRequest {
 }
 
 /// The sender announces messages that are sent again.
-#[derive(Clone, Copy, Debug, PartialEq, Eq)]
+#[derive(Clone, Copy, Debug)]
 pub struct Retransmission {
     /// The 16 bytes of the session's UUID.
     pub session_id: [u8; 16],
@@ -196,7 +196,7 @@ impl Retransmission {
 }
 
 /// The sender refuses a RetransmitRequest.
-#[derive(Clone, Copy, Debug, PartialEq, Eq)]
+#[derive(Clone, Copy, Debug)]
 pub struct RetransmitReject<'a> {
     /// The 16 bytes of the refused request's UUID.
     pub session_id: [u8; 16],
@@ -215,7 +215,7 @@ impl RetransmitReject<'_> {
 }
 
 /// The receiver of an idempotent flow applied these numbers.
-#[derive(Clone, Copy, Debug, PartialEq, Eq)]
+#[derive(Clone, Copy, Debug)]
 pub struct Applied {
     /// The first number.
     pub from_seq: u64,
@@ -230,7 +230,7 @@ impl Applied {
 }
 
 /// The receiver of an idempotent flow did not apply these numbers, and will not.
-#[derive(Clone, Copy, Debug, PartialEq, Eq)]
+#[derive(Clone, Copy, Debug)]
 pub struct NotApplied {
     /// The first number.
     pub from_seq: u64,
@@ -245,7 +245,7 @@ impl NotApplied {
 }
 
 /// The sender's flow has ended.
-#[derive(Clone, Copy, Debug, PartialEq, Eq)]
+#[derive(Clone, Copy, Debug)]
 pub struct FinishedSending {
     /// The 16 bytes of the session's UUID.
     pub session_id: [u8; 16],
@@ -260,7 +260,7 @@ impl FinishedSending {
 }
 
 /// The receiver has all of the peer's flow.
-#[derive(Clone, Copy, Debug, PartialEq, Eq)]
+#[derive(Clone, Copy, Debug)]
 pub struct FinishedReceiving {
     /// The 16 bytes of the session's UUID.
     pub session_id: [u8; 16],
@@ -273,7 +273,7 @@ impl FinishedReceiving {
 }
 
 /// The end of the session's connection.
-#[derive(Clone, Copy, Debug, PartialEq, Eq)]
+#[derive(Clone, Copy, Debug)]
 pub struct Terminate<'a> {
     /// The 16 bytes of the session's UUID.
     pub session_id: [u8; 16],
@@ -291,7 +291,7 @@ impl Terminate<'_> {
 }
 
 /// A session message.
-#[derive(Clone, Copy, Debug, PartialEq, Eq)]
+#[derive(Clone, Copy, Debug)]
 pub enum SessionMsg<'a> {
     Negotiate(Negotiate<'a>),
     NegotiationResponse(NegotiationResponse<'a>),

@@ -103,7 +103,7 @@ fn next(number: Option<u64>) -> Option<u64>
 
 /// Counts the implied numbers of the application messages in one direction of a connection. Contracts see it as the
 /// number of the next one, where one stands announced and is below 2^64.
-#[derive(Debug, Drop)]
+#[derive(Drop)]
 pub struct Counter {
     standing: Option<u64>,
 }

@@ -16,16 +16,13 @@ use crate::messages::{
     FinishedSending, Negotiate, NegotiationReject, NegotiationResponse, NotApplied, Retransmission,
     RetransmitReject, RetransmitRequest, Sequence, SessionMsg, Terminate, UnsequencedHeartbeat,
 };
-use thiserror::Error;
 
 /// Why no session message was read.
-#[derive(Clone, Copy, Debug, PartialEq, Eq, Error)]
+#[derive(Clone, Copy, Debug)]
 pub enum MsgFault {
     /// The template is none of the session's, which are 1 to 16.
-    #[error("no session message has template {id}")]
     BadTemplate { id: u16 },
     /// The block or the data of the template do not stand whole in the bytes.
-    #[error("session message too short")]
     Short,
 }
 

@@ -3,7 +3,7 @@
 use fixp_shake::Violation;
 
 /// What the caller is to do about a frame. Acts that are records are made stable before `End::did`.
-#[derive(Clone, Copy, Debug, PartialEq, Eq)]
+#[derive(Clone, Copy, Debug)]
 pub enum Act {
     /// Nothing.
     Nothing,
@@ -38,7 +38,7 @@ impl Act {
 }
 
 /// How a connection ended.
-#[derive(Clone, Copy, Debug, PartialEq, Eq)]
+#[derive(Clone, Copy, Debug)]
 pub enum Ending {
     /// Both finishes were exchanged before.
     Finished,

@@ -9,7 +9,7 @@ use flow_recover::Numbers;
 use flow_retrans::Requester;
 
 /// What the journals of an end record: the facts that outlive a connection.
-#[derive(Clone, Copy, Debug, PartialEq, Eq)]
+#[derive(Clone, Copy)]
 pub struct EndState {
     /// Whether the session was negotiated.
     pub negotiated: bool,
@@ -24,7 +24,7 @@ pub struct EndState {
 }
 
 /// How far the own finish has come on a connection (FIXP 1.1, FinishedSending and FinishedReceiving).
-#[derive(Clone, Copy, Debug, PartialEq, Eq)]
+#[derive(Clone, Copy)]
 pub enum OwnFinish {
     /// FinishedSending was not written.
     Open,
@@ -35,7 +35,7 @@ pub enum OwnFinish {
 }
 
 /// How far the peer's finish has come on a connection.
-#[derive(Clone, Copy, Debug, PartialEq, Eq)]
+#[derive(Clone, Copy)]
 pub enum PeerFinish {
     /// FinishedSending did not come.
     Open,
@@ -46,7 +46,7 @@ pub enum PeerFinish {
 }
 
 /// What an end knows of the connection that it is in. It is made anew at each connection's beginning.
-#[derive(Clone, Copy, Debug, PartialEq, Eq)]
+#[derive(Clone, Copy)]
 pub struct Connection {
     pub phase: Phase,
     /// What is expected of the peer's flow, where it is recoverable.
@@ -82,7 +82,7 @@ impl Connection {
 }
 
 /// What a reply depends on, beside what stands around it: what is recorded, and what is known of the connection.
-#[derive(Clone, Copy, Debug, PartialEq, Eq)]
+#[derive(Clone, Copy)]
 pub struct Facts {
     pub recorded: EndState,
     pub connection: Connection,
@@ -90,7 +90,7 @@ pub struct Facts {
 
 /// What stands around a reply: the configuration, the greatest number of an application message, the place of the frame
 /// in the connection's bytes, the moment in milliseconds, and the least number of a message that is held past a gap.
-#[derive(Clone, Copy, Debug)]
+#[derive(Clone, Copy)]
 pub struct Around<'a> {
     pub config: &'a EndConfig,
     pub most: u64,

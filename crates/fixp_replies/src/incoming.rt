@@ -7,7 +7,7 @@ use fixp_msgs::{FrameKind, MsgFault, SessionMsg, kind, read};
 use sbe_prim::Order;
 
 /// The message of a frame, classified.
-#[derive(Clone, Copy, Debug)]
+#[derive(Clone, Copy)]
 pub enum Incoming<'a> {
     /// It is an application message, in this byte order.
     Application { order: Order, message: &'a [u8] },

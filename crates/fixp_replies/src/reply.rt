@@ -14,7 +14,7 @@ use fixp_shake::Violation;
 
 /// A message that an end writes, of its session where it names none. Timestamps are the clock's milliseconds times 1,000,000,
 /// or repeat that of the request which is answered.
-#[derive(Clone, Copy, Debug, PartialEq, Eq)]
+#[derive(Clone, Copy, Debug)]
 pub enum Outgoing {
     Negotiate {
         timestamp: u64,

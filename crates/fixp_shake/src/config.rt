@@ -4,7 +4,7 @@ use fixp_msgs::Flow;
 use sbe_value::Bytes;
 
 /// Which side of the session an end is (FIXP 1.1, "Session roles").
-#[derive(Clone, Copy, Debug, PartialEq, Eq)]
+#[derive(Clone, Copy, Debug)]
 pub enum Role {
     /// The client, which opens each connection.
     Initiator,
@@ -13,7 +13,7 @@ pub enum Role {
 }
 
 /// The configuration of one end.
-#[derive(Debug, Drop)]
+#[derive(Drop)]
 pub struct EndConfig {
     pub role: Role,
     /// The 16 bytes of the session's UUID.

@@ -8,7 +8,7 @@ use crate::config::EndConfig;
 use fixp_msgs::{Establish, Negotiate};
 
 /// Why a Negotiate is rejected (FIXP 1.1, NegotiationReject; the numbers are this project's profile).
-#[derive(Clone, Copy, Debug, PartialEq, Eq)]
+#[derive(Clone, Copy, Debug)]
 pub enum NegotiationCode {
     /// 1. It names another session.
     Unspecified,
@@ -36,7 +36,7 @@ impl NegotiationCode {
 
 /// Why an Establish is rejected (FIXP 1.1, EstablishmentReject; the numbers are this project's profile). 1 and 4 are read, and
 /// never written.
-#[derive(Clone, Copy, Debug, PartialEq, Eq)]
+#[derive(Clone, Copy, Debug)]
 pub enum EstablishmentCode {
     /// 2. It names another session, or one that is not negotiated.
     Unnegotiated,
@@ -63,7 +63,7 @@ impl EstablishmentCode {
 }
 
 /// What an acceptor answers to a Negotiate.
-#[derive(Clone, Copy, Debug, PartialEq, Eq)]
+#[derive(Clone, Copy, Debug)]
 pub enum NegotiateAnswer {
     /// A NegotiationResponse.
     Respond,
@@ -72,7 +72,7 @@ pub enum NegotiateAnswer {
 }
 
 /// What an acceptor answers to an Establish.
-#[derive(Clone, Copy, Debug, PartialEq, Eq)]
+#[derive(Clone, Copy, Debug)]
 pub enum EstablishAnswer {
     /// An EstablishmentAck, if its announcement stands.
     Ack,

@@ -4,7 +4,7 @@ ghost use Rattle.std.specs.Prelude.{◌≡◌};
 ghost use Rattle.fixp_shake.specs.Phases.{is_closing, is_established, is_establishing, is_idle, is_negotiating, is_shaken};
 
 /// How far a connection has come (FIXP 1.1, "Session lifecycle").
-#[derive(Clone, Copy, Debug, PartialEq, Eq)]
+#[derive(Clone, Copy, Debug)]
 pub enum Phase {
     /// Begun, and nothing agreed on.
     Idle,

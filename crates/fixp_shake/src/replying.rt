@@ -10,7 +10,7 @@ use crate::violation::Violation;
 use fixp_msgs::SessionMsg;
 
 /// The next step of an initiator's handshake.
-#[derive(Clone, Copy, Debug, PartialEq, Eq)]
+#[derive(Clone, Copy, Debug)]
 pub enum ShakeStep {
     /// The session is negotiated: write Establish.
     Establish,

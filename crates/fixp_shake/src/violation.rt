@@ -4,7 +4,7 @@ use crate::phase::Phase;
 use thiserror::Error;
 
 /// A rule of the session that the peer broke (FIXP 1.1; the numbers are this project's profile).
-#[derive(Clone, Copy, Debug, PartialEq, Eq, Error)]
+#[derive(Clone, Copy, Debug, Error)]
 pub enum Violation {
     /// 1. The framing, the byte order or the layout of a session message is wrong.
     #[error("malformed frame at byte {at}")]

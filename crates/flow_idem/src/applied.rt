@@ -15,7 +15,7 @@ use std::marker::Model;
 const RESERVED: u8 = 16;
 
 /// The receiving end of an idempotent flow (FIXP 1.1, idempotent flow type).
-#[derive(Debug, Drop)]
+#[derive(Drop)]
 pub struct Applied {
     all: Runs,
     untold: Runs,

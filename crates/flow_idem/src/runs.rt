@@ -10,7 +10,7 @@ use std::alloc::{AllocError, Global};
 use std::marker::Model;
 
 /// Numbers that rise, without memory for each. The last run is from `first` up to `end`, and empty where they are equal.
-#[derive(Debug, Drop)]
+#[derive(Drop)]
 pub struct Runs {
     whole: Vec<Range>,
     first: u64,

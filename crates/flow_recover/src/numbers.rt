@@ -6,14 +6,12 @@ ghost use Rattle.flow_recover.specs.Receiving.{fresh, expected, announced, retra
 
 use fixp_msgs::Range;
 use std::marker::Model;
-use thiserror::Error;
 
 /// How far past the number that the inbox waits for a message may lie, to be held.
 pub const REACH: u64 = 256;
 
 /// An announcement goes back: its number is below the one expected.
-#[derive(Clone, Copy, Debug, PartialEq, Eq, Error)]
-#[error("announced number {announced} is below {expected}")]
+#[derive(Clone, Copy, PartialEq, Eq)]
 pub struct Back {
     /// The number announced.
     pub announced: u64,
@@ -22,7 +20,7 @@ pub struct Back {
 }
 
 /// What becomes of an application message, with its number.
-#[derive(Clone, Copy, Debug, PartialEq, Eq)]
+#[derive(Clone, Copy)]
 pub enum Seen {
     /// It is the one that the inbox waits for, and is delivered.
     Deliver(u64),
@@ -35,7 +33,7 @@ pub enum Seen {
 }
 
 /// The numbers of the receiving end of a recoverable flow on one connection (FIXP 1.1, recoverable flow type).
-#[derive(Clone, Copy, Debug, PartialEq, Eq)]
+#[derive(Clone, Copy)]
 pub struct Numbers {
     next: u64,
     live: u64,

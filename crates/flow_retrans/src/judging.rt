@@ -9,7 +9,7 @@ use fixp_msgs::Range;
 pub const REQUEST_LIMIT: u32 = 256;
 
 /// Why a request is refused (FIXP 1.1, RetransmitReject; the numbers are this project's profile).
-#[derive(Clone, Copy, Debug, PartialEq, Eq)]
+#[derive(Clone, Copy)]
 pub enum RetransmitCode {
     /// 1. The flow is not recoverable, or the range holds a number that was not sent.
     OutOfRange,

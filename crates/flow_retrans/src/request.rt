@@ -3,7 +3,7 @@
 use fixp_msgs::Range;
 
 /// The request that is outstanding, if there is one.
-#[derive(Clone, Copy, Debug, PartialEq, Eq)]
+#[derive(Clone, Copy)]
 pub enum Request {
     /// There is none.
     Nothing,

@@ -8,18 +8,16 @@ use crate::judging::REQUEST_LIMIT;
 use crate::request::Request;
 use fixp_msgs::Range;
 use std::marker::Model;
-use thiserror::Error;
 
 /// A message does not fit the retransmission: a number or a count stands where another was expected. 0 stands for none.
-#[derive(Clone, Copy, Debug, PartialEq, Eq, Error)]
-#[error("retransmission gives {found} where {expected} was asked for")]
+#[derive(Clone, Copy)]
 pub struct BadStart {
     pub expected: u64,
     pub found: u64,
 }
 
 /// What a receiver has asked for (FIXP 1.1, RetransmitRequest). Contracts see it as its request.
-#[derive(Clone, Copy, Debug, PartialEq, Eq)]
+#[derive(Clone, Copy)]
 pub struct Requester {
     request: Request,
 }

@@ -9,7 +9,7 @@ use std::marker::Model;
 const LONGEST_PAYLOAD: usize = 16_386;
 
 /// Room for a payload, and the payload that it holds, if there is one.
-#[derive(Debug, Drop)]
+#[derive(Drop)]
 pub struct Place {
     is_taken: bool,
     bytes: Vec<u8>,

@@ -15,7 +15,7 @@ use std::alloc::{AllocError, Global};
 use std::marker::Model;
 
 /// The receiving end of a recoverable flow on one connection, with its window (FIXP 1.1, recoverable flow type).
-#[derive(Debug, Drop)]
+#[derive(Drop)]
 pub struct Receiver {
     numbers: Numbers,
     window: Window,

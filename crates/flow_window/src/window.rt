@@ -19,7 +19,7 @@ const PLACES: usize = 257;
 
 /// Messages that are held, and the number that the inbox waits for. It has room for every number from that one to 256 past
 /// it: 257 places of 16,386 bytes. Only `new` takes memory.
-#[derive(Debug, Drop)]
+#[derive(Drop)]
 pub struct Window {
     next: u64,
     count: u64,

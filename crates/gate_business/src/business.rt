@@ -28,16 +28,13 @@ use sbe_value::Payloads;
 use std::alloc::Global;
 use std::sync::Wait;
 use std::thread::Threads;
-use thiserror::Error;
 
 /// Why a business does not stand behind its inbox.
-#[derive(Clone, Copy, Debug, PartialEq, Eq, Error)]
+#[derive(Clone, Copy)]
 pub enum ResumeFault {
     /// An applied message was not read.
-    #[error("an applied message was not read")]
     Fetch(FetchFault),
     /// A message of its own was refused.
-    #[error("a message of the business was refused")]
     Submit(SubmitFault),
 }
 

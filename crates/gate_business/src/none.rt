@@ -16,7 +16,7 @@ use sbe_value::Payloads;
 use std::sync::Wait;
 
 /// No business: it has no passes, and does nothing.
-#[derive(Clone, Copy, Debug, Drop)]
+#[derive(Clone, Copy, Drop)]
 pub struct NoBusiness;
 
 impl<J: Journal + Send> Business<J> for NoBusiness {

@@ -29,7 +29,7 @@ pub trait Door {
 }
 
 /// The door that lets all pass.
-#[derive(Clone, Copy, Debug, Drop)]
+#[derive(Clone, Copy, Drop)]
 pub struct OpenDoor;
 
 impl Door for OpenDoor {

@@ -2,7 +2,7 @@
 use jr_kept::SubmitFault;
 
 /// What came of messages that one sender submitted in one turn.
-#[derive(Clone, Copy, Debug, PartialEq, Eq)]
+#[derive(Clone, Copy, Debug)]
 pub struct Submission {
     /// How many entries there are then: the number of the last one.
     pub number: u64,

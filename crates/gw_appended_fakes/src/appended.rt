@@ -15,7 +15,7 @@ use std::alloc::{AllocError, Global};
 use std::marker::Model;
 
 /// A sink into memory of a fixed room, which held something at first.
-#[derive(Debug, Drop)]
+#[derive(Drop)]
 pub struct MemAppended {
     content: Vec<u8>,
     room: usize,

@@ -3,7 +3,7 @@
 use std::marker::Model;
 
 /// The calls of one device in memory that fail, counted from 1.
-#[derive(Debug, Drop)]
+#[derive(Drop)]
 pub struct Calls {
     numbers: Vec<u64>,
 }

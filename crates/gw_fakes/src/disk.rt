@@ -18,7 +18,7 @@ const LIMIT: usize = 1 << 40;
 const NOISE: u8 = 0xA5;
 
 /// What a stop makes of the writes that no sync followed.
-#[derive(Clone, Copy, Debug, PartialEq, Eq)]
+#[derive(Clone, Copy, Debug)]
 pub enum Pick {
     /// None of them stands: the content of the last sync.
     Old,
@@ -29,7 +29,7 @@ pub enum Pick {
 }
 
 /// A disk in memory of a fixed room.
-#[derive(Debug, Drop)]
+#[derive(Drop)]
 pub struct MemDisk {
     content: Vec<u8>,
     synced: Vec<u8>,

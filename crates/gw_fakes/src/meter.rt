@@ -8,7 +8,7 @@ use crate::calls::Calls;
 use gw_outside::Failed;
 
 /// The calls made and failed so far, and those that are to fail.
-#[derive(Debug, Drop)]
+#[derive(Drop)]
 pub(crate) struct Meter {
     /// The calls that fail, counted from 1.
     pub(crate) fail: Calls,

@@ -1,7 +1,7 @@
 //! What is told of a line.
 
 /// A line that was found.
-#[derive(Clone, Copy, Debug, PartialEq, Eq)]
+#[derive(Clone, Copy)]
 pub enum Found {
     /// A line of at most `LONGEST` bytes, which the reader lends.
     Whole,

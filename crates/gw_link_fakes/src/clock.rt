@@ -9,7 +9,7 @@ use std::marker::Model;
 const LAST: u64 = (1 << 44) - 1;
 
 /// A clock that stands.
-#[derive(Debug, Drop)]
+#[derive(Drop)]
 pub struct MemClock {
     moment: u64,
 }

@@ -7,7 +7,7 @@ use gw_fakes::Calls;
 use gw_outside::Failed;
 
 /// The calls made and failed so far, and those that are to fail.
-#[derive(Debug, Drop)]
+#[derive(Drop)]
 pub(crate) struct Tally {
     /// The calls that fail, counted from 1.
     pub(crate) fail: Calls,

@@ -14,7 +14,7 @@ use std::alloc::{AllocError, Global};
 use std::marker::Model;
 
 /// A link over bytes in memory, which keeps what it takes within a fixed room.
-#[derive(Debug, Drop)]
+#[derive(Drop)]
 pub struct MemTape {
     bytes: Bytes,
     at: usize,

@@ -11,7 +11,6 @@ use gw_outside::Failed;
 use std::sync::atomic::AtomicBool;
 
 /// What a dialer answers that did not fail.
-#[derive(Debug)]
 pub enum Next<L> {
     /// The next connection.
     Link(L),
@@ -29,7 +28,7 @@ pub trait Wake {
 }
 
 /// What wakes nothing: of links that do not wait.
-#[derive(Clone, Copy, Debug, Drop)]
+#[derive(Clone, Copy, Drop)]
 pub struct NoWaker;
 
 impl Wake for NoWaker {

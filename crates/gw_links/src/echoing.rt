@@ -12,7 +12,7 @@ use gw_outside::Failed;
 use std::sync::atomic::AtomicBool;
 
 /// How an echo ended.
-#[derive(Clone, Copy, Debug, PartialEq, Eq)]
+#[derive(Clone, Copy, Debug)]
 pub enum Echoed {
     /// All that came was taken again, and more may wait.
     Whole,

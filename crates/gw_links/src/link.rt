@@ -7,7 +7,7 @@ ghost use Rattle.gw_links.specs.Links.{Carried, IsAnswer, IsWithin, LinkTold, Mo
 use gw_outside::Failed;
 
 /// What a receive found.
-#[derive(Clone, Copy, Debug, PartialEq, Eq)]
+#[derive(Clone, Copy, Debug)]
 pub enum Got {
     /// So many bytes, at least one.
     Bytes(usize),

@@ -1,8 +1,5 @@
 //! The fault that a device answers.
 
-use thiserror::Error;
-
 /// The only fault of a device: the call did not do what it was asked for.
-#[derive(Clone, Copy, Debug, PartialEq, Eq, Error)]
-#[error("the device failed")]
+#[derive(Clone, Copy, Debug)]
 pub struct Failed;

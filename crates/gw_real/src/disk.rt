@@ -15,7 +15,7 @@ use std::os::unix::fs::{FileExt, FileTypeExt};
 const LIMIT: u64 = 1 << 40;
 
 /// Why a call of a disk failed.
-#[derive(Clone, Copy, Debug)]
+#[derive(Clone, Copy)]
 pub enum DiskReason<'a> {
     /// What the system said.
     System(io::Error),
@@ -38,7 +38,7 @@ impl From<io::Error> for DiskReason<'_> {
 }
 
 /// How the files of a kind begin, so that one of another kind is known before it is written over.
-#[derive(Clone, Copy, Debug, PartialEq, Eq)]
+#[derive(Clone, Copy)]
 pub struct Begun {
     /// The bytes that each begins with, and those that one of an earlier form began with.
     pub mark: &'static [u8],
@@ -49,7 +49,7 @@ pub struct Begun {
 }
 
 /// How a file is opened.
-#[derive(Clone, Copy, Debug, PartialEq, Eq)]
+#[derive(Clone, Copy)]
 pub enum Opening {
     /// A file that stands there already, to be read: every write fails.
     Read,

@@ -5,7 +5,7 @@ use std::io;
 use std::os::unix::fs::{FileTypeExt, MetadataExt};
 
 /// A file of the command line.
-#[derive(Clone, Copy, Debug)]
+#[derive(Clone, Copy)]
 pub struct Named<'a> {
     /// What it is to the command, as `INPUT`.
     pub role: &'static str,
@@ -20,7 +20,7 @@ pub const STANDARD_OUTPUT: Named<'static> = Named {
 };
 
 /// Why a device fails.
-#[derive(Clone, Copy, Debug)]
+#[derive(Clone, Copy)]
 pub enum Reason<'a> {
     /// What the system said.
     System(io::Error),

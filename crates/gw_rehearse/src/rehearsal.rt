@@ -18,7 +18,7 @@ use std::sync::Wait;
 use std::thread::Threads;
 
 /// Why a rehearsal did not come to its end.
-#[derive(Clone, Copy, Debug)]
+#[derive(Clone, Copy)]
 pub enum RehearseFault {
     /// Both finishes were not exchanged within the rounds behind the last step, with all messages sent, those of a recoverable flow applied, and all
     /// that were applied reported on; the inboxes wait for these numbers.

@@ -8,7 +8,7 @@ use std::net::SocketAddrV4;
 use thiserror::Error;
 
 /// A text is no address.
-#[derive(Clone, Copy, Debug, PartialEq, Eq, Error)]
+#[derive(Clone, Copy, Debug, Error)]
 #[error("is no address of the form A.B.C.D:PORT, as 127.0.0.1:45617")]
 pub struct AddressFault;
 

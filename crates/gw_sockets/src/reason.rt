@@ -4,7 +4,7 @@ use crate::address::AddressFault;
 use std::{fmt, io};
 
 /// Why a call failed.
-#[derive(Clone, Copy, Debug)]
+#[derive(Clone, Copy)]
 pub enum SocketReason {
     /// What the system said.
     System(io::Error),

@@ -21,7 +21,7 @@ const LONGEST: u64 = 5_000;
 const PIECE: u64 = 100;
 
 /// How a dialer comes to its next connection.
-#[derive(Clone, Copy, Debug, PartialEq, Eq)]
+#[derive(Clone, Copy)]
 pub enum Approach {
     /// It listens now, and did not before.
     Listens,
@@ -41,7 +41,7 @@ pub trait Approaches: Dialer {
 }
 
 /// Whether a dialer pauses behind a connection on which the session was not established.
-#[derive(Clone, Copy, Debug, PartialEq, Eq)]
+#[derive(Clone, Copy)]
 pub enum Pauses {
     /// Not at all.
     Never,

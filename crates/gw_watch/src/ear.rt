@@ -4,7 +4,7 @@ use fixp_msgs::SessionMsg;
 use std::net::SocketAddr;
 
 /// What a watch sees.
-#[derive(Clone, Copy, Debug)]
+#[derive(Clone, Copy)]
 pub enum Heard<'a> {
     /// OUT is begun: CONFIG, both journals and INPUT are accepted, and nothing is added to a journal yet.
     Begun,

@@ -16,7 +16,7 @@ const MOST: usize = 16_390;
 const LITTLE_ENDIAN: [u8; 2] = [0xEB, 0x50];
 
 /// Which way bytes go.
-#[derive(Clone, Copy, Debug, PartialEq, Eq)]
+#[derive(Clone, Copy)]
 pub(crate) enum Way {
     In,
     Out,

@@ -7,14 +7,14 @@ use std::alloc::AllocError;
 use thiserror::Error;
 
 /// Which of the two boxes of an end.
-#[derive(Clone, Copy, Debug, PartialEq, Eq)]
+#[derive(Clone, Copy, Debug)]
 pub enum Which {
     Outbox,
     Inbox,
 }
 
 /// Why a journal is not one that a box can be opened on, or a disk is none that a journal can be made on.
-#[derive(Clone, Copy, Debug, PartialEq, Eq, Error)]
+#[derive(Clone, Copy, Debug, Error)]
 pub enum JournalCause {
     /// The first 16 bytes are not the header.
     #[error("not formatted as a journal")]
@@ -40,49 +40,41 @@ pub enum JournalCause {
 }
 
 /// Why a box was not opened on a journal.
-#[derive(Clone, Copy, Debug, PartialEq, Eq, Error)]
+#[derive(Clone, Copy, Debug)]
 pub enum BoxFault {
-    #[error("the journal's disk failed")]
+    /// The journal's disk failed.
     Fault,
     /// The record of this index, from 0 on, is the first that the box excludes.
-    #[error("wrong at record {at}")]
     Wrong { at: u64 },
-    #[error("out of memory")]
+    /// There is not enough memory.
     Memory,
 }
 
 /// Why nothing was added to an outbox.
-#[derive(Clone, Copy, Debug, PartialEq, Eq, Error)]
+#[derive(Clone, Copy, Debug, PartialEq, Eq)]
 pub enum SubmitFault {
     /// A call of the disk has failed since the opening.
-    #[error("the outbox is broken")]
     Broken,
     /// The Finish stands.
-    #[error("the outbox is closed")]
     Closed,
     /// The entry would pass a limit; the outbox has so many entries, and its journal so many bytes.
-    #[error("the outbox is full at {entries} entries and {bytes} bytes")]
     Full { entries: u64, bytes: u64 },
-    #[error("out of memory")]
+    /// There is not enough memory.
     Memory,
     /// A call of the disk failed: whether the entry is there shows when the outbox is opened again.
-    #[error("the outbox's disk failed")]
     Fault,
 }
 
 /// Why an outbox was not closed.
-#[derive(Clone, Copy, Debug, PartialEq, Eq, Error)]
+#[derive(Clone, Copy, Debug)]
 pub enum CloseFault {
     /// A call of the disk has failed since the opening.
-    #[error("the outbox is broken")]
     Broken,
     /// The Finish stands already.
-    #[error("the outbox is closed")]
     Closed,
-    #[error("out of memory")]
+    /// There is not enough memory.
     Memory,
     /// A call of the disk failed: whether the Finish is there shows when the outbox is opened again.
-    #[error("the outbox's disk failed")]
     Fault,
 }
 

@@ -11,7 +11,7 @@ use std::alloc::{AllocError, Global};
 
 /// What an inbox has settled: the next number, whether the session is negotiated, the peer's last number once it finished,
 /// and the place of each applied message among the records, from 0 on.
-#[derive(Debug, Drop)]
+#[derive(Drop)]
 pub struct Notes {
     pub next: u64,
     pub negotiated: bool,

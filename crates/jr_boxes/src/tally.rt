@@ -9,7 +9,7 @@ use fixp_msgs::is_application;
 use jr_record::Record;
 
 /// How many entries an outbox has, all and of each sender from 1 to 16, and whether its Finish stands.
-#[derive(Clone, Copy, Debug)]
+#[derive(Clone, Copy)]
 pub struct Tally {
     pub entries: u64,
     pub counts: [u64; 16],

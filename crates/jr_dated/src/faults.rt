@@ -4,20 +4,17 @@ ghost use Rattle.jr_dated.specs.declared.faults.FetchFault.TheVariants as fetch;
 
 use gw_outside::Failed;
 use std::alloc::{AllocError, AllocFailed};
-use thiserror::Error;
 
 /// Why a record was not read.
-#[derive(Clone, Copy, Debug, PartialEq, Eq, Error)]
+#[derive(Clone, Copy, Debug)]
 pub enum FetchFault {
     /// A call of the disk has failed since the opening.
-    #[error("the journal is broken")]
     Broken,
-    #[error("out of memory")]
+    /// There is not enough memory.
     Memory,
-    #[error("the journal's disk failed")]
+    /// The journal's disk failed.
     Fault,
     /// The disk gave other bytes than the record of this index, from 0 on, was written with.
-    #[error("record {at} of the journal has changed")]
     Changed { at: u64 },
 }
 

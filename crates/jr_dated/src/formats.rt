@@ -9,7 +9,7 @@ use jr_record::Record;
 use std::alloc::{AllocError, Global};
 
 /// How a journal is written.
-#[derive(Clone, Copy, Debug, PartialEq, Eq)]
+#[derive(Clone, Copy)]
 pub enum Format {
     /// Format 1, whose records carry no moments.
     One,

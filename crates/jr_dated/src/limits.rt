@@ -4,7 +4,7 @@ ghost use Rattle.std.specs.Prelude.{◌≤◌, ◌^◌};
 
 /// How large a journal may grow: at most `entries` entries or applied numbers, at most 2^26, and `bytes` bytes, at most
 /// 2^33. Control records are exempt from the bytes.
-#[derive(Clone, Copy, Debug, PartialEq, Eq)]
+#[derive(Clone, Copy)]
 pub struct Limits {
     pub entries: u64,
     pub bytes: u64,

@@ -44,7 +44,7 @@ pub fn not_closed(fault: AppendFault) -> CloseFault
 }
 
 /// Why a batch was not added.
-#[derive(Clone, Copy, Debug, PartialEq, Eq)]
+#[derive(Clone, Copy)]
 pub enum AddFault {
     Memory,
     /// A call of the disk failed.

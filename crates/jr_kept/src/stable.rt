@@ -8,7 +8,7 @@ use std::marker::Model;
 
 /// An entry that every later stop leaves: its number and its payload. Only an outbox makes one. Contracts see it as a
 /// numbered message.
-#[derive(Debug, Drop)]
+#[derive(Drop)]
 pub struct Stable {
     number: u64,
     payload: Bytes,

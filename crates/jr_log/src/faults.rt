@@ -4,28 +4,23 @@ ghost use Rattle.jr_log.specs.declared.faults.LayFault.TheVariants as lay_fault;
 
 use gw_outside::Failed;
 use std::alloc::AllocError;
-use thiserror::Error;
 
 /// Why a journal of format 1 was not moved to a disk as one of format 2.
-#[derive(Clone, Copy, Debug, PartialEq, Eq, Error)]
+#[derive(Clone, Copy, Debug)]
 pub enum MigrateFault {
-    #[error("out of memory")]
+    /// There is not enough memory.
     Memory,
-    #[error("the old journal's disk failed")]
+    /// The old journal's disk failed.
     OldFault,
     /// The old disk's first 16 bytes are not the header of format 1.
-    #[error("not formatted as a journal of format 1")]
     NotFormatted,
     /// No record and no end of the records stands at this byte of the old disk.
-    #[error("damaged at byte {at}")]
     Damaged { at: u64 },
-    #[error("the new journal's disk failed")]
+    /// The new journal's disk failed.
     NewFault,
     /// The new disk has 16 bytes or more, and its first is not 0.
-    #[error("neither empty nor what was begun of this journal")]
     NotFresh,
     /// The records would take more than 2^33 bytes; so many they are, and so many bytes they would take.
-    #[error("{entries} records would take {bytes} bytes")]
     Full { entries: u64, bytes: u64 },
 }
 

@@ -12,7 +12,7 @@ const HALF: u64 = 1 << 63;
 
 /// Numbers in order. Where each is at or past the first one, by less than 2^32, there are none in `far`; by less than 2^16, none in
 /// `near`. Neither holds more than a segment.
-#[derive(Debug, Drop)]
+#[derive(Drop)]
 pub struct Run {
     base: u64,
     close: Vec<u16>,

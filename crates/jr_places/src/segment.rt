@@ -10,7 +10,7 @@ use crate::run::Run;
 pub const SEGMENT: usize = 4080;
 
 /// Exactly 4,080 numbers.
-#[derive(Debug, Drop)]
+#[derive(Drop)]
 pub struct Segment {
     pub numbers: Run,
     ghost whole: { length (listed numbers) ≡ 4080 },

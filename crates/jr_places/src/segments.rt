@@ -17,7 +17,7 @@ const BEGUN: usize = 1100;
 const MOST: usize = 1 << 40;
 
 /// Numbers in order, in segments.
-#[derive(Debug, Drop)]
+#[derive(Drop)]
 pub struct Segments {
     alloc: Global,
     full: Vec<Segment>,

@@ -6,47 +6,39 @@ ghost use Rattle.jr_record.specs.declared.faults.FormatFault.TheVariants as form
 
 use gw_outside::Failed;
 use std::alloc::{AllocError, AllocFailed};
-use thiserror::Error;
 
 /// Why nothing was appended.
-#[derive(Clone, Copy, Debug, PartialEq, Eq, Error)]
+#[derive(Clone, Copy, Debug, PartialEq, Eq)]
 pub enum AppendFault {
     /// A call of the disk has failed since the opening.
-    #[error("the journal is broken")]
     Broken,
     /// The record would pass the limit of bytes; the journal has so many.
-    #[error("the journal is full at {bytes} bytes")]
     Full { bytes: u64 },
-    #[error("out of memory")]
+    /// There is not enough memory.
     Memory,
     /// A call of the disk failed: whether the record is there shows when the journal is opened again.
-    #[error("the journal's disk failed")]
     Fault,
 }
 
 /// Why a journal was not opened.
-#[derive(Clone, Copy, Debug, PartialEq, Eq, Error)]
+#[derive(Clone, Copy, Debug, PartialEq, Eq)]
 pub enum OpenFault {
-    #[error("out of memory")]
+    /// There is not enough memory.
     Memory,
-    #[error("the journal's disk failed")]
+    /// The journal's disk failed.
     Fault,
     /// The first 16 bytes are not the header.
-    #[error("not formatted as a journal")]
     NotFormatted,
     /// No record and no end of the records stands at this place.
-    #[error("damaged at byte {at}")]
     Damaged { at: u64 },
 }
 
 /// Why a disk was not formatted.
-#[derive(Clone, Copy, Debug, PartialEq, Eq, Error)]
+#[derive(Clone, Copy, Debug)]
 pub enum FormatFault {
     /// The disk begins as a journal does.
-    #[error("already formatted as a journal")]
     Already,
     /// A call of the disk failed: its first 17 bytes may hold anything.
-    #[error("the journal's disk failed")]
     Fault,
 }
 

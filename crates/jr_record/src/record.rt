@@ -7,7 +7,7 @@ use gw_outside::Bytes;
 use std::alloc::{AllocError, Global};
 
 /// One record of an outbound or an inbound journal.
-#[derive(Debug, Drop, PartialEq, Eq)]
+#[derive(Drop, PartialEq, Eq)]
 pub enum Record {
     /// A message that sender 1 to 16 handed in, the `k`-th of that sender.
     Entry { sender: u16, k: u64, payload: Bytes },

@@ -6,7 +6,7 @@ use gw_outside::Failed;
 use std::alloc::AllocError;
 
 /// Why records were not added.
-#[derive(Clone, Copy, Debug)]
+#[derive(Clone, Copy)]
 pub enum AddFault {
     Memory,
     /// A call of the disk failed.

@@ -7,7 +7,7 @@ use jr_places::Segments;
 use std::alloc::{AllocError, Global};
 
 /// Where the gate of each record stands, in bytes from the journal's beginning, and the greatest moment of the records.
-#[derive(Debug, Drop)]
+#[derive(Drop)]
 pub struct Index {
     pub places: Segments,
     pub moment: u64,

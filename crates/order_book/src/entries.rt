@@ -3,7 +3,7 @@
 use order_desk::{Side, Symbol};
 
 /// An order of the book: one that comes in, or one that rests.
-#[derive(Clone, Copy, Debug, PartialEq, Eq)]
+#[derive(Clone, Copy)]
 pub struct BookOrder {
     /// Its identifier, the client's own; less than 2^64 - 1.
     pub cl_id: u64,
@@ -18,7 +18,7 @@ pub struct BookOrder {
 }
 
 /// A match of an order that comes in with one that rests.
-#[derive(Clone, Copy, Debug, PartialEq, Eq)]
+#[derive(Clone, Copy)]
 pub struct Fill {
     /// The identifier of the order that rests.
     pub cl_id: u64,

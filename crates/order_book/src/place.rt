@@ -7,7 +7,7 @@ use crate::entries::BookOrder;
 use order_desk::{Side, Symbol};
 
 /// A place in a queue: by symbol and side, then the best price first, then by arrival.
-#[derive(Clone, Copy, Debug, PartialEq, Eq, PartialOrd, Ord)]
+#[derive(Clone, Copy, PartialEq, Eq, PartialOrd, Ord)]
 pub struct Place {
     /// The symbol of the queue.
     pub symbol: Symbol,

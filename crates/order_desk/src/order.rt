@@ -1,9 +1,7 @@
 //! Orders as their readers see them: enums and structs, with no raw number but identifiers, quantities and prices.
 
-use thiserror::Error;
-
 /// What a message of the order schema asks for.
-#[derive(Clone, Copy, Debug, PartialEq, Eq)]
+#[derive(Clone, Copy, Debug)]
 pub enum Order {
     /// To buy or to sell.
     New(NewOrder),
@@ -17,7 +15,7 @@ pub enum Order {
 }
 
 /// An order to buy or to sell.
-#[derive(Clone, Copy, Debug, PartialEq, Eq)]
+#[derive(Clone, Copy, Debug)]
 pub struct NewOrder {
     /// Its identifier, the client's own; less than 2^64 - 1.
     pub cl_id: u64,
@@ -48,12 +46,10 @@ pub struct Symbol {
 }
 
 /// Why there is no order.
-#[derive(Clone, Copy, Debug, PartialEq, Eq, Error)]
+#[derive(Clone, Copy, Debug)]
 pub enum OrderFault {
     /// The payload is no message of the order schema that asks for something, or has no identifier.
-    #[error("not an order")]
     NotAnOrder,
     /// There is not enough memory.
-    #[error("out of memory")]
     Memory,
 }

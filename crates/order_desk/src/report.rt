@@ -95,7 +95,7 @@ impl RejectCode {
 }
 
 /// The reports of one order, in order.
-#[derive(Clone, Copy, Debug, PartialEq, Eq)]
+#[derive(Clone, Copy)]
 pub struct ReportList {
     /// The first.
     pub first: Report,

@@ -12,7 +12,7 @@ const MOST_MESSAGES: u64 = 64;
 const MOST_BYTES: usize = 262_144;
 
 /// The messages that lines in a row give to one sender, in their order, as far as they go as one piece.
-#[derive(Debug, Drop)]
+#[derive(Drop)]
 pub struct Piece {
     sender: u16,
     plan: Plan,

@@ -15,7 +15,7 @@ use std::alloc::{AllocError, Global};
 use text_words::number_before;
 
 /// What a line says.
-#[derive(Debug, Drop)]
+#[derive(Drop)]
 pub enum Fed {
     /// It gives the payload of an application message to this sender.
     Payload { sender: u16, payload: Bytes },

@@ -8,7 +8,7 @@ use std::alloc::AllocError;
 use text_words::{push_hex, push_number};
 
 /// Why a line gives no payload to a sender: the first of these that is so.
-#[derive(Clone, Copy, Debug, PartialEq, Eq)]
+#[derive(Clone, Copy, Debug)]
 pub enum Wrong {
     /// There are no senders.
     NoSenders,

@@ -3,7 +3,7 @@
 use plan_values::Plan;
 
 /// How far the plan of a sender and its entries agree.
-#[derive(Clone, Copy, Debug)]
+#[derive(Clone, Copy)]
 pub struct Front {
     /// How many payloads at the front of the plan were sent, each at its place.
     pub places: u64,

@@ -4,16 +4,13 @@ ghost use Rattle.std.specs.Prelude.{◌≡◌};
 ghost use Rattle.plan_text.specs.declared.fault.PlanFault.TheVariants.{Memory};
 
 use std::alloc::{AllocError, AllocFailed};
-use thiserror::Error;
 
 /// Why a text has no plans.
-#[derive(Clone, Copy, Debug, PartialEq, Eq, Error)]
+#[derive(Clone, Copy)]
 pub enum PlanFault {
     /// The line of this number, from 1 on, is the first that gives no payload to a sender.
-    #[error("line {line} gives no payload to a sender")]
     Line { line: u64 },
     /// There is not enough memory.
-    #[error("out of memory")]
     Memory,
 }
 

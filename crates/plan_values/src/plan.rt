@@ -8,7 +8,7 @@ use sbe_value::{Bytes, Payloads};
 use std::alloc::{AllocError, Global};
 
 /// The payloads that a sender is to send, in order. Each is that of an application message.
-#[derive(Debug, Drop)]
+#[derive(Drop)]
 pub struct Plan {
     payloads: Payloads,
     ghost applications: { ∥ All IsApplication payloads ∥₁ },

@@ -14,7 +14,7 @@ use toml::Value;
 use toml_walk::TomlFault;
 
 /// What a command reads CONFIG as.
-#[derive(Clone, Copy, Debug)]
+#[derive(Clone, Copy)]
 pub enum Wanted {
     /// The configuration of a session, for this purpose.
     Session(Purpose),

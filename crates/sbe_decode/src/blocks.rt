@@ -18,7 +18,7 @@ use sbe_value::{Block, Blocks, Datums, Group, Groups, Items};
 use std::alloc::Global;
 
 /// A group's dimension (SBE 1.0, "Repeating group dimension encoding").
-#[derive(Debug, Clone, Copy, PartialEq, Eq)]
+#[derive(Clone, Copy)]
 pub struct Dimension {
     /// The length of an entry's block in bytes.
     pub size: u64,

@@ -11,7 +11,7 @@ use sbe_grammar::DecodeFault;
 use sbe_prim::{Order, Primitive, read};
 
 /// What holds for a whole message.
-#[derive(Debug, Clone, Copy, PartialEq, Eq)]
+#[derive(Clone, Copy)]
 pub struct Reading {
     /// The byte order of its numbers.
     pub order: Order,

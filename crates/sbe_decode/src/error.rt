@@ -5,16 +5,13 @@ ghost use Rattle.sbe_decode.specs.declared.error.DecodeError.TheVariants.{Fault,
 
 use sbe_grammar::DecodeFault;
 use std::alloc::{AllocError, AllocFailed};
-use thiserror::Error;
 
 /// Why there is no decoded message.
-#[derive(Debug, Drop, Error)]
+#[derive(Drop)]
 pub enum DecodeError {
     /// The bytes spell no message; this is their first fault.
-    #[error("the bytes spell no message of the schema")]
     Fault(DecodeFault),
     /// There is not enough memory.
-    #[error("out of memory")]
     Memory,
 }
 

@@ -12,7 +12,7 @@ use sbe_layout::{MessagePlan, Plan};
 use sbe_prim::{Order, Primitive};
 
 /// The four numbers of the message header (SBE 1.0, "Message header").
-#[derive(Debug, Clone, Copy, PartialEq, Eq)]
+#[derive(Clone, Copy)]
 pub struct Header {
     /// The length of the root block in bytes.
     pub size: u16,

@@ -14,7 +14,7 @@ use sbe_value::{Bytes, Item};
 use std::alloc::{AllocError, Global};
 
 /// The value of a field of a message, borrowed from its bytes.
-#[derive(Debug, Clone, Copy)]
+#[derive(Clone, Copy)]
 pub enum FieldView<'a> {
     /// An integer, the raw number of an enum or a set, or a character's code.
     Num(i128),
@@ -27,7 +27,7 @@ pub enum FieldView<'a> {
 }
 
 /// The value of an item, its text or its bytes still in the message.
-#[derive(Debug, Clone, Copy)]
+#[derive(Clone, Copy)]
 pub enum Value<'a> {
     /// A number.
     Num(i128),

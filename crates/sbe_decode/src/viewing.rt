@@ -15,7 +15,7 @@ use sbe_layout::{MessagePlan, Plan};
 use std::marker::Model;
 
 /// A message that its bytes spell, read where it stands. Contracts see it as the message.
-#[derive(Debug, Drop)]
+#[derive(Drop)]
 pub struct MessageView<'a> {
     plan: &'a Plan,
     message: &'a [u8],

@@ -10,7 +10,6 @@ ghost use Rattle.sbe_encode.specs.Writes.{Tells};
 
 use sbe_value::{Bytes, Path, Step};
 use std::alloc::{AllocError, AllocFailed, Global};
-use thiserror::Error;
 
 /// The first fault of a message that may not be written, with the path of its element; a block's path is that of
 /// its group and entry, and empty for the root.
@@ -36,13 +35,11 @@ pub enum EncodeFault {
 }
 
 /// Why a message is not written.
-#[derive(Debug, Drop, Error)]
+#[derive(Drop)]
 pub enum EncodeError {
     /// The message may not be written; this is its first fault.
-    #[error("the message may not be written")]
     Fault(EncodeFault),
     /// There is not enough memory.
-    #[error("out of memory")]
     Memory,
 }
 

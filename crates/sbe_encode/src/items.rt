@@ -58,7 +58,7 @@ fn write_item(
 }
 
 /// Where a block stands in what is written.
-#[derive(Debug, Clone, Copy)]
+#[derive(Clone, Copy)]
 pub struct Extent {
     /// The place of its first byte.
     pub start: usize,

@@ -1,7 +1,7 @@
 //! Why bytes spell no message.
 
 /// The first fault of bytes that spell no message by a plan. Places are counted in bytes from the message's first.
-#[derive(Clone, Copy, Debug, PartialEq, Eq)]
+#[derive(Clone, Copy, Debug)]
 pub enum DecodeFault {
     /// The header, block, dimension, length of data or data at this place is not whole.
     Truncated {

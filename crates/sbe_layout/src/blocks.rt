@@ -10,7 +10,7 @@ use std::marker::Model;
 
 /// A block.
 #[cycle(blocks)]
-#[derive(Debug, Drop)]
+#[derive(Drop)]
 pub struct BlockPlan {
     /// Its length in bytes.
     pub block_length: u128,
@@ -26,7 +26,7 @@ pub struct BlockPlan {
 
 /// A group of a block.
 #[cycle(blocks)]
-#[derive(Debug, Drop)]
+#[derive(Drop)]
 pub struct GroupPlan {
     /// Its name.
     pub name: Bytes,
@@ -42,7 +42,7 @@ pub struct GroupPlan {
 
 /// The groups of a block, in schema order.
 #[cycle(blocks)]
-#[derive(Debug, Drop)]
+#[derive(Drop)]
 pub struct GroupPlans {
     inner: Vec<GroupPlan>,
 }

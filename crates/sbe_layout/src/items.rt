@@ -6,7 +6,7 @@ use sbe_schema::Presence;
 use sbe_value::Bytes;
 
 /// The type of an item, as far as messages depend on it.
-#[derive(Debug, Clone, Copy, PartialEq, Eq)]
+#[derive(Clone, Copy)]
 pub enum ItemKind {
     /// A number, or an array of numbers where the length is 2 or more.
     Number {
@@ -38,7 +38,7 @@ pub enum ItemKind {
 }
 
 /// A field of a block, or a member of a field that is a composite.
-#[derive(Debug, Drop)]
+#[derive(Drop)]
 pub struct ItemPlan {
     /// The field's name, or `field.member`.
     pub name: Bytes,
@@ -55,7 +55,7 @@ pub struct ItemPlan {
 }
 
 /// Where a field ends, constants too.
-#[derive(Debug, Clone, Copy, PartialEq, Eq)]
+#[derive(Clone, Copy)]
 pub struct Mark {
     /// The version that the field came with.
     pub since: i128,
@@ -64,7 +64,7 @@ pub struct Mark {
 }
 
 /// A variable-length data field.
-#[derive(Debug, Drop)]
+#[derive(Drop)]
 pub struct DataPlan {
     /// Its name.
     pub name: Bytes,

@@ -8,7 +8,7 @@ use sbe_schema::{BitDefs, TypeDef, TypeKind, ValueDefs};
 use std::alloc::{AllocError, Global};
 
 /// What a type lists.
-#[derive(Debug, Drop)]
+#[derive(Drop)]
 pub enum Listing {
     /// Nothing: it is a number or a composite.
     Nothing,

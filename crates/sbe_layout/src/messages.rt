@@ -11,7 +11,7 @@ use std::collections::BTreeMap;
 use std::marker::Model;
 
 /// The messages of a schema, in schema order. Contracts see them as a list.
-#[derive(Debug, Drop)]
+#[derive(Drop)]
 pub struct MessagePlans {
     list: Vec<MessagePlan>,
     places: BTreeMap<u16, usize>,

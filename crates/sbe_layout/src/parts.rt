@@ -7,7 +7,7 @@ use sbe_schema::Presence;
 use sbe_value::Bytes;
 
 /// A member of a composite that is an item of each field of that type.
-#[derive(Debug, Drop)]
+#[derive(Drop)]
 pub struct Part {
     /// The member's name.
     pub name: Bytes,

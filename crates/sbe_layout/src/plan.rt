@@ -10,7 +10,7 @@ use sbe_prim::Order;
 use sbe_value::Bytes;
 
 /// A message.
-#[derive(Debug, Drop)]
+#[derive(Drop)]
 pub struct MessagePlan {
     /// Its name.
     pub name: Bytes,
@@ -23,7 +23,7 @@ pub struct MessagePlan {
 }
 
 /// Where everything in the messages of a schema stands.
-#[derive(Debug, Drop)]
+#[derive(Drop)]
 pub struct Plan {
     /// The schema's id.
     pub id: u16,

@@ -15,7 +15,7 @@ pub use ranges::{default_greatest, default_least};
 pub use word::{find_primitive, primitive_name};
 
 /// A primitive type (SBE 1.0, primitive encodings).
-#[derive(Debug, Clone, Copy, PartialEq, Eq)]
+#[derive(Clone, Copy, PartialEq, Eq)]
 pub enum Primitive {
     /// One character in one byte.
     Char,

@@ -6,7 +6,7 @@ ghost use Rattle.sbe_schema.specs.Checked.{is_checked};
 use crate::Schema;
 
 /// A schema that breaks no rule.
-#[derive(Debug, Drop)]
+#[derive(Drop)]
 pub struct Checked {
     /// The schema.
     pub schema: Schema,

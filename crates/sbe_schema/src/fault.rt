@@ -3,7 +3,7 @@
 use sbe_value::Path;
 
 /// A rule that a schema breaks. Where several are broken, the first of them in this order is reported.
-#[derive(Debug, Clone, Copy, PartialEq, Eq)]
+#[derive(Debug, Clone, Copy)]
 pub enum SchemaKind {
     /// A name that stands twice in one list or block, or a type named as a primitive.
     DuplicateName,
@@ -32,7 +32,7 @@ pub enum SchemaKind {
 }
 
 /// The first rule that a schema breaks, and the place of the table that breaks it.
-#[derive(Debug, Drop, PartialEq)]
+#[derive(Debug, Drop)]
 pub struct SchemaFault {
     /// The rule.
     pub kind: SchemaKind,
@@ -41,7 +41,7 @@ pub struct SchemaFault {
 }
 
 /// An array of tables in the text of a schema.
-#[derive(Debug, Clone, Copy, PartialEq, Eq)]
+#[derive(Clone, Copy)]
 pub enum TableArray {
     /// The types of the schema.
     Types,
@@ -62,7 +62,7 @@ pub enum TableArray {
 }
 
 /// A step of a path: a table of one array, by its place in it from 0.
-#[derive(Debug, Clone, Copy, PartialEq, Eq)]
+#[derive(Clone, Copy)]
 pub struct PathStep {
     /// The array.
     pub array: TableArray,

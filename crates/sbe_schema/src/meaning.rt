@@ -3,7 +3,7 @@
 use sbe_prim::Primitive;
 
 /// What the name of a type stands for, as far as fields and members depend on it.
-#[derive(Debug, Clone, Copy, PartialEq, Eq)]
+#[derive(Clone, Copy)]
 pub enum Meaning {
     /// Neither a primitive nor a type of the schema.
     Unknown,

@@ -1,7 +1,7 @@
 //! The block that holds an element.
 
 /// The block that holds an element.
-#[derive(Debug, Clone, Copy, PartialEq, Eq)]
+#[derive(Clone, Copy)]
 pub struct Parent {
     /// How deep its group lies: 0 for a message's root block, 4 for every depth from 4 on.
     pub depth: u8,

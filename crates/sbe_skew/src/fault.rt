@@ -3,7 +3,7 @@
 use sbe_value::Path;
 
 /// Why a schema is no later version of another.
-#[derive(Debug, Drop, PartialEq)]
+#[derive(Drop)]
 pub enum SkewFault {
     /// They differ; this is where they differ first.
     Differs {

@@ -4,22 +4,19 @@ ghost use Rattle.std.specs.Prelude.{◌≡◌};
 ghost use Rattle.sbe_text.specs.declared.error.Refusal.TheVariants.{Memory};
 
 use std::alloc::{AllocError, AllocFailed};
-use thiserror::Error;
 
 /// Why a text is no message.
-#[derive(Debug, Clone, Copy, PartialEq, Eq, Error)]
+#[derive(Clone, Copy)]
 pub enum TextError {
     /// The line of this number, from 1, is the first that is not as it has to be; it is one past the last where the
     /// text ends too early.
-    #[error("line {0} is not as it has to be")]
     Line(u64),
     /// There is not enough memory.
-    #[error("out of memory")]
     Memory,
 }
 
 /// Why lines are not read on.
-#[derive(Debug, Clone, Copy, PartialEq, Eq)]
+#[derive(Clone, Copy)]
 pub enum Refusal {
     /// So many lines are left, and the first of them is refused; none where the text ends too early.
     Left(u64),

@@ -154,7 +154,7 @@ pub fn datum(alloc: Global, text: &[u8]) -> Result<Option<Datum>, AllocError>
 }
 
 /// What the line of a group tells.
-#[derive(Debug, Clone, Copy, PartialEq, Eq)]
+#[derive(Clone, Copy)]
 pub enum Count {
     /// The group is absent.
     Absent,

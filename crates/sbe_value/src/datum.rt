@@ -8,7 +8,7 @@ use lists::{Element, List};
 use std::alloc::{AllocError, Global};
 
 /// One variable-length data field of a block.
-#[derive(Debug, Drop)]
+#[derive(Drop)]
 pub enum Datum {
     /// The message's version does not have it.
     Absent,

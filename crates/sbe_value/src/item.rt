@@ -8,7 +8,7 @@ use lists::{Element, List};
 use std::alloc::{AllocError, Global};
 
 /// The value of one field of a block.
-#[derive(Debug, Drop)]
+#[derive(Drop)]
 pub enum Item {
     /// An integer, the raw number of an enum or a set, or a character's code.
     Num(i128),

@@ -8,7 +8,7 @@ use lists::Element;
 use std::alloc::{AllocError, Global};
 
 /// A message: the id of its template, and its root block (SBE 1.0, message structure).
-#[derive(Debug, Drop)]
+#[derive(Drop)]
 pub struct Message {
     /// The template's id.
     pub template: u16,

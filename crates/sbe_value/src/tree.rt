@@ -12,7 +12,7 @@ use std::marker::Model;
 /// A block of fields with its repeating groups and its variable-length data,
 /// each list in schema order (SBE 1.0, message body).
 #[cycle(tree)]
-#[derive(Debug, Drop)]
+#[derive(Drop)]
 pub struct Block {
     /// The values of the fields.
     pub items: Items,
@@ -24,7 +24,7 @@ pub struct Block {
 
 /// A repeating group of a block.
 #[cycle(tree)]
-#[derive(Debug, Drop)]
+#[derive(Drop)]
 pub enum Group {
     /// The message's version does not have it.
     Absent,
@@ -34,14 +34,14 @@ pub enum Group {
 
 /// The groups of a block in schema order.
 #[cycle(tree)]
-#[derive(Debug, Drop)]
+#[derive(Drop)]
 pub struct Groups {
     inner: Vec<Group>,
 }
 
 /// The entries of a group in order.
 #[cycle(tree)]
-#[derive(Debug, Drop)]
+#[derive(Drop)]
 pub struct Blocks {
     inner: Vec<Block>,
 }

@@ -10,7 +10,7 @@ use toml_walk::TomlFault;
 pub const TEXT_LIMIT: usize = 1 << 20;
 
 /// Why a configuration was refused.
-#[derive(Debug, Drop, PartialEq)]
+#[derive(Debug, Drop)]
 pub enum ConfigFault {
     /// Its text spells none.
     Toml(TomlFault),

@@ -13,7 +13,7 @@ use std::marker::Model;
 
 /// A repeating group.
 #[cycle(groups)]
-#[derive(Debug, Drop)]
+#[derive(Drop)]
 pub struct GroupDef {
     /// Its name.
     pub name: Bytes,
@@ -37,7 +37,7 @@ pub struct GroupDef {
 
 /// The groups of a block, in order.
 #[cycle(groups)]
-#[derive(Debug, Drop)]
+#[derive(Drop)]
 pub struct GroupDefs {
     inner: Vec<GroupDef>,
 }

@@ -7,7 +7,7 @@ use sbe_prim::Primitive;
 use sbe_value::Bytes;
 
 /// A message template.
-#[derive(Debug, Drop, PartialEq)]
+#[derive(Drop, PartialEq)]
 pub struct MessageDef {
     /// Its name.
     pub name: Bytes,
@@ -26,7 +26,7 @@ pub struct MessageDef {
 }
 
 /// A field of a block.
-#[derive(Debug, Drop, PartialEq)]
+#[derive(Drop, PartialEq)]
 pub struct FieldDef {
     /// Its name.
     pub name: Bytes,
@@ -45,7 +45,7 @@ pub struct FieldDef {
 }
 
 /// A variable-length data field.
-#[derive(Debug, Drop, PartialEq)]
+#[derive(Drop, PartialEq)]
 pub struct DataDef {
     /// Its name.
     pub name: Bytes,

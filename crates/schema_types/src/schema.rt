@@ -4,7 +4,7 @@ use crate::{MessageDefs, TypeDefs};
 use sbe_prim::Order;
 
 /// A schema (SBE 1.0, message schema).
-#[derive(Debug, Drop, PartialEq)]
+#[derive(Drop, PartialEq)]
 pub struct Schema {
     /// Its id.
     pub id: u16,

@@ -5,7 +5,7 @@ use sbe_prim::Primitive;
 use sbe_value::Bytes;
 
 /// A named type of a schema.
-#[derive(Debug, Drop, PartialEq)]
+#[derive(Drop, PartialEq)]
 pub struct TypeDef {
     /// The name by which fields and members refer to it.
     pub name: Bytes,
@@ -14,7 +14,7 @@ pub struct TypeDef {
 }
 
 /// What a type is.
-#[derive(Debug, Drop, PartialEq)]
+#[derive(Drop, PartialEq)]
 pub enum TypeKind {
     /// A number, or an array of numbers where the length is 2 or more.
     Number {
@@ -51,7 +51,7 @@ pub enum TypeKind {
 }
 
 /// A listed value of an enum.
-#[derive(Debug, Drop, PartialEq)]
+#[derive(Drop, PartialEq)]
 pub struct ValueDef {
     /// Its name.
     pub name: Bytes,
@@ -60,7 +60,7 @@ pub struct ValueDef {
 }
 
 /// A named bit of a set.
-#[derive(Debug, Drop, PartialEq)]
+#[derive(Drop, PartialEq)]
 pub struct BitDef {
     /// Its name.
     pub name: Bytes,
@@ -69,7 +69,7 @@ pub struct BitDef {
 }
 
 /// Whether a field or a member is always there (SBE 1.0, field presence).
-#[derive(Debug, Clone, Copy, PartialEq, Eq)]
+#[derive(Clone, Copy, PartialEq, Eq)]
 pub enum Presence {
     /// It always has a value.
     Required,
@@ -80,7 +80,7 @@ pub enum Presence {
 }
 
 /// The value of a constant field or member.
-#[derive(Debug, Drop, PartialEq)]
+#[derive(Drop, PartialEq)]
 pub enum Constant {
     /// A number.
     Num(i128),
@@ -89,7 +89,7 @@ pub enum Constant {
 }
 
 /// A member of a composite.
-#[derive(Debug, Drop, PartialEq)]
+#[derive(Drop, PartialEq)]
 pub struct MemberDef {
     /// Its name.
     pub name: Bytes,

@@ -3,7 +3,7 @@
 use std::alloc::AllocError;
 
 /// What running a session again can bring.
-#[derive(Clone, Copy, Debug, PartialEq, Eq)]
+#[derive(Clone, Copy)]
 pub enum Outlook {
     /// It goes on.
     Open,

@@ -42,7 +42,7 @@ struct Records<'a, R> {
 }
 
 /// What a journal has.
-#[derive(Clone, Copy, Debug, Default)]
+#[derive(Clone, Copy, Default)]
 pub struct Walked {
     /// How many entries it has.
     pub entries: u64,

@@ -2,7 +2,7 @@
 //! Numbers are counted in `u128`, so that counting on from any announced number fits.
 
 /// The kind of a flow (FIXP 1.1, FlowType).
-#[derive(Clone, Copy, Debug, PartialEq, Eq)]
+#[derive(Clone, Copy)]
 pub enum Flow {
     /// Exactly once, in order.
     Recoverable,
@@ -15,7 +15,7 @@ pub enum Flow {
 }
 
 /// An entry of an outbound journal.
-#[derive(Clone, Copy, Debug, PartialEq, Eq)]
+#[derive(Clone, Copy)]
 pub struct Entry<'a> {
     /// Which sender handed it in.
     pub sender: u64,
@@ -25,7 +25,7 @@ pub struct Entry<'a> {
 }
 
 /// Who announces a number.
-#[derive(Clone, Copy, Debug, PartialEq, Eq)]
+#[derive(Clone, Copy)]
 pub enum Announcer {
     /// Establish or EstablishmentAck.
     Handshake,
@@ -34,7 +34,7 @@ pub enum Announcer {
 }
 
 /// An event of a flow on a connection.
-#[derive(Clone, Copy, Debug, PartialEq, Eq)]
+#[derive(Clone, Copy)]
 pub enum Event<'a> {
     /// An announcement of the next number, or of none.
     Announce(Announcer, Option<u64>),
@@ -43,21 +43,21 @@ pub enum Event<'a> {
 }
 
 /// A message with its implied number, from 1 on.
-#[derive(Clone, Copy, Debug, PartialEq, Eq)]
+#[derive(Clone, Copy, PartialEq, Eq)]
 pub struct Numbered<'a> {
     pub number: u128,
     pub payload: &'a [u8],
 }
 
 /// `count` numbers from `first` on.
-#[derive(Clone, Copy, Debug, PartialEq, Eq)]
+#[derive(Clone, Copy, PartialEq, Eq)]
 pub struct Range {
     pub first: u128,
     pub count: u128,
 }
 
 /// A record of an inbox.
-#[derive(Clone, Copy, Debug, PartialEq, Eq)]
+#[derive(Clone, Copy, PartialEq, Eq)]
 pub enum Record<'a> {
     /// A message was applied.
     Apply(Numbered<'a>),

@@ -11,7 +11,7 @@ use crate::header::FirstFrame;
 use std::alloc::{AllocError, Global};
 
 /// A frame with a message of its own.
-#[derive(Debug, Drop)]
+#[derive(Drop)]
 pub struct OwnedFrame {
     /// The byte order that the encoding type names.
     pub order: Order,
@@ -20,7 +20,7 @@ pub struct OwnedFrame {
 }
 
 /// Why no frame stands where the frames end.
-#[derive(Clone, Copy, Debug, PartialEq, Eq)]
+#[derive(Clone, Copy, Debug)]
 pub enum End {
     /// The bytes end, maybe inside a frame.
     Rest,
@@ -31,7 +31,7 @@ pub enum End {
 }
 
 /// The frames of some bytes, and what follows them.
-#[derive(Debug, Drop)]
+#[derive(Drop)]
 pub struct Split {
     /// The whole frames, in order.
     pub frames: Vec<OwnedFrame>,

@@ -7,7 +7,7 @@ use sbe_value::{Path, Step};
 use std::alloc::{AllocError, Global};
 
 /// The first thing that is wrong with a text, in the order in which its keys are visited.
-#[derive(Debug, Drop, PartialEq)]
+#[derive(Debug, Drop)]
 pub enum TomlFault {
     /// It is no TOML text.
     Text,

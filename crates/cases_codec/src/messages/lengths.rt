@@ -54,15 +54,18 @@ fn joined(
     Ok(bytes)
 }
 
-/// Whether two messages read as the same session message.
-fn read_alike(first: &[u8], second: &[u8]) -> bool {
-    if !is_session(first) || !is_session(second) {
-        return false;
+/// Whether it reads as a session message.
+fn is_read(message: &[u8]) -> bool {
+    is_session(message) && read(message).is_ok()
+}
+
+/// Whether two messages read as the same session message: what is said of one names all of it.
+fn read_alike(alloc: Global, first: &[u8], second: &[u8]) -> Result<bool, AllocError> {
+    if !is_read(first) || !is_read(second) {
+        return Ok(false);
     }
-    match (read(first), read(second)) {
-        (Ok(first), Ok(second)) => first == second,
-        _ => false,
-    }
+    let said = answer(alloc, first)?;
+    Ok(said == answer(alloc, second)?)
 }
 
 /// Whether it is a session message, so that it may be read.
@@ -78,7 +81,7 @@ fn short_fronts(message: &[u8]) -> u64 {
     let mut short = 0u64;
     for size in 8..message.len() {
         let (front, _) = message.split_at(size);
-        if is_session(front) && read(front) == Err(MsgFault::Short) {
+        if is_session(front) && matches!(read(front), Err(MsgFault::Short)) {
             short = short.saturating_add(1);
         }
     }
@@ -101,7 +104,7 @@ pub fn lengths_line(alloc: Global, name: &str, frame: &[u8]) -> Result<String, A
         &[0xEE; 3],
         &[0xDD; 2],
     )?;
-    let same = read_alike(longer.as_slice(), message);
+    let same = read_alike(alloc, longer.as_slice(), message)?;
     let short = short_fronts(message);
     let fronts = message.len().saturating_sub(8);
     format!(in alloc;

@@ -25,7 +25,7 @@ const ROOM: usize = 1 << 17;
 const LIVE: u64 = 16;
 
 /// What came of the turns.
-#[derive(Clone, Copy, Debug)]
+#[derive(Clone, Copy)]
 pub struct Came {
     /// How many messages were delivered.
     pub count: u64,
