@@ -36,8 +36,6 @@ pub fn push_rejected(line: &mut String, template: u16, code: u8) -> Result<(), A
     } else {
         ("Establish", "EstablishmentReject", establishment(code))
     };
-    write!(
-        line,
-        "the peer answered {asked} by {answer} {code}, {words}"
-    )
+    write!(line, "the peer answered {asked} by {answer} ")?;
+    write!(line, "{code}, {words}")
 }

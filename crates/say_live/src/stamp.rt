@@ -64,9 +64,8 @@ impl fmt::Display for Stamp {
         let minute = rest / 60_000 % 60;
         let second = rest / 1_000 % 60;
         let part = rest % 1_000;
-        write!(
-            f,
-            "{year:04}-{month:02}-{day:02}T{hour:02}:{minute:02}:{second:02}.{part:03}Z"
-        )
+        write!(f, "{year:04}-{month:02}-{day:02}")?;
+        write!(f, "T{hour:02}:{minute:02}")?;
+        write!(f, ":{second:02}.{part:03}Z")
     }
 }

@@ -1,7 +1,7 @@
 //! A journal that is missing, or was, and the other one that is there.
 
 use gw_real::Named;
-use say_words::push_file;
+use say_words::{push_all, push_file};
 use std::alloc::AllocError;
 use std::io::ErrorKind;
 use std::rt::Files;
@@ -53,17 +53,17 @@ pub fn push_other<R: Files>(
     }
     line.push_str("; only ")?;
     push_file(line, other.role, other.path)?;
-    line.push_str(if is_made {
+    let other_is = if is_made {
         " was missing, and is made now; "
     } else {
         " is missing; "
-    })?;
-    line.push_str(refused.role)?;
-    line.push_str(if has_records(rt, refused.path) {
+    };
+    let refused_has = if has_records(rt, refused.path) {
         " has records, so this is no new session"
     } else {
         " has no records, and may be removed for a new session"
-    })
+    };
+    push_all(line, &[other_is, refused.role, refused_has])
 }
 
 /// Adds behind a file that `format` could not make that the other one was made before, where there was none.

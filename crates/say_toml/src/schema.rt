@@ -103,6 +103,12 @@ impl<'a> Broken<'a> {
         }
     }
 
+    /// Adds what stands at a key, and what is wrong with it.
+    fn push_key_with(self, line: &mut String, key: &str, words: &str) -> Result<(), AllocError> {
+        push_key_of(line, self.table, key)?;
+        line.push_str(words)
+    }
+
     /// Adds what is wrong with the value of a field or a member.
     fn push_value_fault(self, line: &mut String) -> Result<(), AllocError> {
         let is_constant = text_in(self.table, "presence") == Some("constant");
@@ -112,16 +118,18 @@ impl<'a> Broken<'a> {
                 self.push_held(line)
             }
             (true, Some(_)) => {
-                push_key_of(line, self.table, "value")?;
-                line.push_str(" is not ")?;
+                self.push_key_with(line, "value", " is not ")?;
                 self.push_held(line)?;
                 line.push_str(", which its type ")?;
                 push_text_of(line, self.table, "type")?;
                 line.push_str(" holds")
             }
             (false, _) => {
-                push_key_of(line, self.table, "value")?;
-                line.push_str(" may stand there only with presence = \"constant\"")
+                self.push_key_with(
+                    line,
+                    "value",
+                    " may stand there only with presence = \"constant\"",
+                )
             }
         }
     }
@@ -133,13 +141,15 @@ impl<'a> Broken<'a> {
         };
         for key in ["null", "min", "max"] {
             if matches!(number_in(self.table, key), Some(number) if !can_hold(prim, number)) {
-                push_key_of(line, self.table, key)?;
-                line.push_str(" is not ")?;
+                self.push_key_with(line, key, " is not ")?;
                 return push_range(line, prim);
             }
         }
-        push_key_of(line, self.table, "length")?;
-        line.push_str(" makes it an array, which has to be of char or uint8")
+        self.push_key_with(
+            line,
+            "length",
+            " makes it an array, which has to be of char or uint8",
+        )
     }
 
     /// Adds which limit is passed.
@@ -155,8 +165,7 @@ impl<'a> Broken<'a> {
     /// Adds which limit of a message or a group is passed.
     fn push_size(self, line: &mut String) -> Result<(), AllocError> {
         if matches!(number_in(self.table, "block_length"), Some(length) if length > 16_384) {
-            push_key_of(line, self.table, "block_length")?;
-            return line.push_str(" is above 16384");
+            return self.push_key_with(line, "block_length", " is above 16384");
         }
         if self.list == "groups" {
             return line.push_str("groups lie in one another more than 4 deep");
@@ -190,16 +199,22 @@ impl<'a> Broken<'a> {
     /// Adds what is wrong with an enum, or one of its values.
     fn push_enum_fault(self, line: &mut String) -> Result<(), AllocError> {
         if self.list == "values" {
-            push_key_of(line, self.table, "value")?;
-            return line.push_str(" stands twice, or is not within the primitive of the enum");
+            return self.push_key_with(
+                line,
+                "value",
+                " stands twice, or is not within the primitive of the enum",
+            );
         }
         match primitive_in(self.table, "prim") {
             Some(Primitive::Char | Primitive::UInt8 | Primitive::UInt16) => {
                 line.push_str("it has no values, and an enum has one at least")
             }
             _ => {
-                push_key_of(line, self.table, "prim")?;
-                line.push_str(" is not char, uint8 or uint16, of which an enum is")
+                self.push_key_with(
+                    line,
+                    "prim",
+                    " is not char, uint8 or uint16, of which an enum is",
+                )
             }
         }
     }
@@ -207,11 +222,17 @@ impl<'a> Broken<'a> {
     /// Adds what is wrong with a set, or one of its bits.
     fn push_set_fault(self, line: &mut String) -> Result<(), AllocError> {
         if self.list == "bits" {
-            push_key_of(line, self.table, "bit")?;
-            return line.push_str(" stands twice, or is not below the width of the set");
+            return self.push_key_with(
+                line,
+                "bit",
+                " stands twice, or is not below the width of the set",
+            );
         }
-        push_key_of(line, self.table, "prim")?;
-        line.push_str(" is not uint8, uint16, uint32 or uint64, of which a set is")
+        self.push_key_with(
+            line,
+            "prim",
+            " is not uint8, uint16, uint32 or uint64, of which a set is",
+        )
     }
 
     /// Adds what is wrong with the version of an element.
@@ -237,8 +258,9 @@ impl<'a> Broken<'a> {
         if self.table.get("offset").is_none() {
             return line.push_str("it ends past 16384 bytes");
         }
-        push_key_of(line, self.table, "offset")?;
-        line.push_str(
+        self.push_key_with(
+            line,
+            "offset",
             " is below the end of what stands before it, or the field ends past 16384 bytes",
         )
     }
@@ -247,21 +269,16 @@ impl<'a> Broken<'a> {
     pub fn push(self, line: &mut String, kind: SchemaKind) -> Result<(), AllocError> {
         match kind {
             SchemaKind::DuplicateName => self.push_name_fault(line),
-            SchemaKind::DuplicateId => {
-                push_key_of(line, self.table, "id")?;
-                line.push_str(" stands twice")
-            }
+            SchemaKind::DuplicateId => { self.push_key_with(line, "id", " stands twice") }
             SchemaKind::UnknownType => self.push_unknown_type(line),
             SchemaKind::BadOffset => self.push_offset_fault(line),
             SchemaKind::ShortLength => {
-                push_key_of(line, self.table, "block_length")?;
-                line.push_str(" is below the end of its fields")
+                self.push_key_with(line, "block_length", " is below the end of its fields")
             }
             SchemaKind::BadEnum => self.push_enum_fault(line),
             SchemaKind::BadSet => self.push_set_fault(line),
             SchemaKind::BadData => {
-                push_key_of(line, self.table, "length")?;
-                line.push_str(" is not uint8, uint16 or uint32")
+                self.push_key_with(line, "length", " is not uint8, uint16 or uint32")
             }
             SchemaKind::IllegalExtension => self.push_since_fault(line),
             SchemaKind::OverLimit => self.push_limit(line),

@@ -88,15 +88,21 @@ pub fn push_path(line: &mut String, path: &Path) -> Result<(), AllocError> {
     Ok(())
 }
 
+/// Adds words, one behind the other.
+pub fn push_all(line: &mut String, words: &[&str]) -> Result<(), AllocError> {
+    for word in words {
+        line.push_str(word)?;
+    }
+    Ok(())
+}
+
 /// Adds a file of the command line: what it is to the command, and its path.
 pub fn push_file(line: &mut String, role: &str, path: &str) -> Result<(), AllocError> {
-    line.push_str(role)?;
-    line.push_str(" ")?;
     if is_bare(path) {
-        line.push_str(path)
-    } else {
-        push_quoted(line, path)
+        return push_all(line, &[role, " ", path]);
     }
+    push_all(line, &[role, " "])?;
+    push_quoted(line, path)
 }
 
 /// A text in quotes.

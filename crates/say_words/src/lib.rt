@@ -3,4 +3,4 @@
 
 mod escape;
 
-pub use escape::{push_file, push_path, push_quoted, quoted};
+pub use escape::{push_all, push_file, push_path, push_quoted, quoted};
