@@ -20,7 +20,7 @@ pub enum Bad {
     #[error("the input ends inside the frame at byte {at}")]
     Cut { at: u64 },
     /// The client broke a rule of the session by the frame at this place.
-    #[error("frame at byte {at}: {violation}")]
+    #[error("frame at byte {at} breaks a rule of the session")]
     Session { at: u64, violation: Violation },
     /// The frame of this number holds no message of the schema; this is its first fault.
     #[error("frame {frame} holds no message of the schema")]
