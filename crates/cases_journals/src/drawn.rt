@@ -1,7 +1,7 @@
 //! What a sequence draws: records, moments, limits, and what stops.
 
-use crate::chance::Chance;
 use crate::noted::{Kind, Noted};
+use cases_words::Chance;
 use gw_fakes::{MemDisk, Pick};
 use jr_dated::Limits;
 use std::alloc::{AllocError, Global};

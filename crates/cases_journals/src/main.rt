@@ -4,7 +4,6 @@
 #![tactic(auto)]
 
 mod bench;
-mod chance;
 mod damage;
 mod disks;
 mod drawn;

@@ -1,11 +1,11 @@
 //! A sequence of runs over one journal, of which each call is compared with a plain list.
 
-use crate::chance::Chance;
 use crate::drawn::{batch_length, fuse, limits, moment, noted, notes, stopped};
 use crate::ending::{Difference, Ending};
 use crate::met::{Met, count};
 use crate::noted::{Noted, records};
 use crate::plain::Plain;
+use cases_words::Chance;
 use gw_fakes::MemDisk;
 use jr_dated::{FetchFault, Journal};
 use jr_record::{AppendFault, OpenFault};

@@ -150,7 +150,7 @@ impl DrivenEnd {
         requires small { bytes ≤ 2 ^ 33 }
     {
         let Disks { outbox, inbox } = disks;
-        let outbox = open_outbox(alloc, outbox)?;
+        let outbox = open_outbox(alloc, outbox, LIMITS)?;
         let inbox = open_inbox(alloc, inbox, setup.peer_flow, bytes)?;
         let Ok((gate, passes)) = Gate::new(alloc, outbox, setup.senders) else {
             return None;

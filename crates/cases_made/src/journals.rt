@@ -6,6 +6,7 @@ ghost use Rattle.jr_kept.specs.Inbox as inboxes;
 
 use fixp_msgs::Flow;
 use gw_fakes::MemDisk;
+use gw_outside::Disk;
 use jr_dated::{Journal, Limits};
 use jr_kept::{Inbox, Outbox};
 use jr_record::Record;
@@ -24,6 +25,12 @@ pub(crate) const LIMITS: Limits = Limits {
     bytes: 1 << 30,
 };
 
+/// Limits that no case meets but those that give their own.
+pub const WIDE: Limits = Limits {
+    entries: 1000,
+    bytes: 100_000,
+};
+
 /// The disks of the outbox and of the inbox.
 #[derive(Drop)]
 pub struct Disks {
@@ -32,7 +39,7 @@ pub struct Disks {
 }
 
 /// A new journal on a disk of so many bytes; none where memory runs out.
-fn formatted(alloc: Global, room: usize) -> Option<MemDisk> {
+pub fn formatted(alloc: Global, room: usize) -> Option<MemDisk> {
     let mut disk = MemDisk::without_faults(alloc, room).ok()?;
     format(&mut disk).ok()?;
     Some(disk)
@@ -63,11 +70,14 @@ pub fn records(alloc: Global, disk: MemDisk) -> Option<Vec<Record>> {
     read_all(alloc, &mut journal)
 }
 
-/// The outbox on a disk; none where there is none.
-pub(crate) fn open_outbox(alloc: Global, disk: MemDisk) -> Option<Outbox<Log>>
+/// The outbox on a disk, with these limits; none where there is none.
+pub fn open_outbox<D: Disk + Drop>(
+    alloc: Global,
+    disk: D,
+    limits: Limits,
+) -> Option<Outbox<SegJournal<D>>>
     ensures sound { IfSome result (λ box. outboxes.is_broken box ≡ false) }
 {
-    let limits = LIMITS;
     let journal = SegJournal::open(alloc, disk, limits).ok()?;
     Outbox::open(alloc, journal, limits).ok()
 }

@@ -1,14 +1,12 @@
 //! Cases of frames and of the session machine: reads the frames of `frames.txt` and the cases of
 //! `sessions.txt`, and prints what each case shows. What it has to print stands in `stdout`, worked out by hand.
 
-pub mod ends;
+mod ends;
 mod frames;
-pub mod named;
-pub mod words;
 
-use crate::entries::entries;
 use crate::sessions::ends::Sources;
-use crate::sessions::named::Named;
+use cases_made::entries_of;
+use cases_words::Named;
 use std::alloc::{AllocError, Global};
 use std::rt::Files;
 use std::{fs, io};
@@ -60,7 +58,7 @@ fn print_cases<R: Print + AllocGlobal>(
 pub fn print<R: Files + Print + AllocGlobal>(rt: &R) -> io::Result<()> {
     let table = fs::read_to_string(rt, "frames.txt")?;
     let cases = fs::read_to_string(rt, "sessions.txt")?;
-    let entries = entries(rt.alloc(), &TEMPLATES)?;
+    let entries = entries_of(rt.alloc(), &TEMPLATES)?;
     let sources = Sources {
         named: Named::of(table.as_str()),
         entries: entries.as_slice(),

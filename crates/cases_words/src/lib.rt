@@ -1,7 +1,12 @@
-//! The words of a line of cases: numbers, bytes in hexadecimal, and the halves at a blank; and the sections that a program of cases
-//! is asked for. The programs of cases read theirs by these calls, and print bytes by `digits`.
+//! The words of a line of cases: numbers, bytes in hexadecimal, frames by name, and the halves at a blank; the sections that a program
+//! of cases is asked for; and numbers that are drawn. The programs of cases read theirs by these calls, and print bytes by `digits`.
 #![tactic(auto)]
 
+mod chance;
+mod named;
+
+pub use chance::Chance;
+pub use named::Named;
 use std::alloc::{AllocError, Global};
 use std::rt::Env;
 use std::{env, io};
@@ -13,7 +18,15 @@ pub fn number(word: &str) -> u64 {
 
 /// The words at both sides of the first blank; nothing on the right where there is none.
 pub fn halves(text: &str) -> (&str, &str) {
-    text.split_once(" ").unwrap_or((text, ""))
+    parted(text, " ")
+}
+
+/// The words at both sides of a mark; nothing on the right where it is not there.
+pub fn parted<'a>(text: &'a str, mark: &str) -> (&'a str, &'a str) {
+    match text.split_once(mark) {
+        Some(parts) => parts,
+        None => (text, ""),
+    }
 }
 
 /// The bytes that a word spells in hexadecimal; none where it spells none.

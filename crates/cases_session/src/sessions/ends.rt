@@ -2,11 +2,9 @@
 
 ghost use Rattle.std.specs.Prelude.{◌≤◌, length};
 
-use crate::driven::Driven;
-use crate::sessions::named::Named;
-use crate::sessions::words::parted;
-use cases_words::{digits, halves, number};
-use fixp_end::{Act, EndState, Flow, Role};
+use cases_made::{ToldEnd, flow_of, role_of};
+use cases_words::{Named, digits, halves, number, parted};
+use fixp_end::{Act, EndState};
 use jr_kept::Stable;
 use sbe_prim::Order;
 use sofh_frame::{FirstFrame, next};
@@ -17,24 +15,6 @@ const BEGINNING: u64 = 5;
 
 /// The place of every frame in the connection's bytes.
 const PLACE: u64 = 7;
-
-/// A flow by its name.
-pub fn flow_of(word: &str) -> Flow {
-    match word {
-        "recoverable" => Flow::Recoverable,
-        "idempotent" => Flow::Idempotent,
-        "unsequenced" => Flow::Unsequenced,
-        _ => Flow::None,
-    }
-}
-
-/// A role by its name.
-pub fn role_of(side: &str) -> Role {
-    match side {
-        "initiator" => Role::Initiator,
-        _ => Role::Acceptor,
-    }
-}
 
 /// What is recorded of a session: `NEGOTIATED NEXT SENT`, of which the numbers are the inbox's next one and how many entries were
 /// sent.
@@ -56,13 +36,13 @@ fn recorded_of(words: &str) -> EndState
 
 /// An end in its first connection: `SIDE OWN PEER NEGOTIATED NEXT SENT`, of which two are the flow that it sends and the one that it
 /// receives; nothing for a word that is not there. A side may have a version, as in `acceptor=1`.
-fn driven_of(alloc: Global, words: &str) -> Result<Driven, AllocError> {
+fn driven_of(alloc: Global, words: &str) -> Result<ToldEnd, AllocError> {
     let (side, rest) = halves(words);
     let (side, version) = parted(side, "=");
     let (own, rest) = halves(rest);
     let (peer, recorded) = halves(rest);
     let recorded = recorded_of(recorded);
-    Driven::new(
+    ToldEnd::new(
         alloc,
         role_of(side),
         flow_of(own),
@@ -76,7 +56,7 @@ fn driven_of(alloc: Global, words: &str) -> Result<Driven, AllocError> {
 /// Adds what an end does at a message, in words.
 fn push_heard(
     line: &mut String,
-    driven: &mut Driven,
+    driven: &mut ToldEnd,
     order: Order,
     message: &[u8],
 ) -> Result<(), AllocError>
@@ -90,7 +70,7 @@ fn push_heard(
 }
 
 /// Adds what an end does at a frame or at bytes that are none, in words.
-fn push_bytes(line: &mut String, driven: &mut Driven, bytes: &[u8]) -> Result<(), AllocError> {
+fn push_bytes(line: &mut String, driven: &mut ToldEnd, bytes: &[u8]) -> Result<(), AllocError> {
     match next(bytes) {
         FirstFrame::Frame { order, message, .. } if (8..=16384).contains(&message.len()) => {
             push_heard(line, driven, order, message)
@@ -103,7 +83,7 @@ fn push_bytes(line: &mut String, driven: &mut Driven, bytes: &[u8]) -> Result<()
 }
 
 /// Calls an end.
-fn call_end(driven: &mut Driven, entries: &[Stable], call: Call) {
+fn call_end(driven: &mut ToldEnd, entries: &[Stable], call: Call) {
     match call {
         Call::Begin => driven.begin(),
         Call::Tick(moment) => driven.tick(moment),
@@ -119,7 +99,7 @@ fn call_end(driven: &mut Driven, entries: &[Stable], call: Call) {
 fn push_taken(
     alloc: Global,
     line: &mut String,
-    driven: &mut Driven,
+    driven: &mut ToldEnd,
     mark: &str,
 ) -> Result<(), AllocError> {
     let written = digits(alloc, driven.out())?;
@@ -165,7 +145,7 @@ fn call_of(event: &str) -> Option<Call> {
 }
 
 /// Adds the held message that the inbox of an end awaits, and it is applied.
-fn push_held(alloc: Global, line: &mut String, driven: &mut Driven) -> Result<(), AllocError> {
+fn push_held(alloc: Global, line: &mut String, driven: &mut ToldEnd) -> Result<(), AllocError> {
     match driven.held() {
         Some((number, payload)) => {
             let payload = digits(alloc, payload)?;
@@ -188,7 +168,7 @@ pub struct Sources<'a> {
 fn push_event(
     alloc: Global,
     line: &mut String,
-    driven: &mut Driven,
+    driven: &mut ToldEnd,
     sources: Sources<'_>,
     event: &str,
 ) -> Result<(), AllocError> {
@@ -207,7 +187,7 @@ fn push_event(
 fn push_last(
     alloc: Global,
     line: &mut String,
-    driven: &mut Driven,
+    driven: &mut ToldEnd,
     sources: Sources<'_>,
     event: &str,
 ) -> Result<(), AllocError> {
@@ -223,7 +203,7 @@ fn push_last(
 fn push_event_line(
     alloc: Global,
     line: &mut String,
-    driven: &mut Driven,
+    driven: &mut ToldEnd,
     sources: Sources<'_>,
     event: &str,
 ) -> Result<(), AllocError> {
@@ -236,7 +216,7 @@ fn push_event_line(
 fn push_events(
     alloc: Global,
     line: &mut String,
-    driven: &mut Driven,
+    driven: &mut ToldEnd,
     sources: Sources<'_>,
     events: &str,
 ) -> Result<(), AllocError> {

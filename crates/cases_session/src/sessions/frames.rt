@@ -1,7 +1,6 @@
 //! The first frame of some bytes, and the frames of bytes that come in pieces.
 
-use crate::sessions::named::Named;
-use cases_words::{digits, halves, number};
+use cases_words::{Named, digits, halves, number};
 use sbe_prim::Order;
 use sofh_frame::{FirstFrame, Framer, OwnedFrame, Split, next, split_pieces};
 use std::alloc::{AllocError, Global};
