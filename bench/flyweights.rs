@@ -1,5 +1,5 @@
 //! Hand-written flyweights of the session messages, with no proof: an encoder and a decoder over bytes for each template.
-//! What `cases_threads bench` does with messages is compared with this; it is no part of the product.
+//! What `cases_bench bench` does with messages is compared with this; it is no part of the product.
 use std::env;
 
 const DATA: &[u8] = b"password";

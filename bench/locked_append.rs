@@ -1,5 +1,5 @@
 //! Threads that append the messages of their plans behind a Mutex, in the form of the journal and with its two writes and two
-//! syncs a message, on a disk in memory, hand-written and with no proof: what `cases_threads bench senders` does is compared
+//! syncs a message, on a disk in memory, hand-written and with no proof: what `cases_bench bench senders` does is compared
 //! with this. It is no part of the product.
 mod memory_disk;
 

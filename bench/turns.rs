@@ -1,6 +1,6 @@
 //! The work of two ends over their turns, by hand and with no proof: a sender's messages are appended to an outbox, framed, moved over
 //! a link in memory, taken out of their frames and appended to an inbox, on disks in memory, with the journals' two writes and two syncs a
-//! record of the outbox, and for all that a turn appends to the inbox. What `cases_threads bench turns` does is compared with this. It is no
+//! record of the outbox, and for all that a turn appends to the inbox. What `cases_bench bench turns` does is compared with this. It is no
 //! part of the product. Usage: turns COUNT SIZE
 mod memory_disk;
 

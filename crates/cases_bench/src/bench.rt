@@ -109,32 +109,26 @@ fn task_of_two(kind: &str, first: &str, count: &str) -> Task {
     }
 }
 
-/// A word that may be absent, which is no word then.
-fn word(given: &Option<String>) -> &str {
-    match given {
-        Some(word) => word.as_str(),
-        None => "",
+/// The task of the words behind the section's name; a short one of all kinds where there are none.
+fn task_of(words: &[String]) -> Task {
+    match words {
+        [] => Task::All(3),
+        [kind, count] => task_of_one(kind.as_str(), count.as_str()),
+        [kind, first, count] => task_of_two(kind.as_str(), first.as_str(), count.as_str()),
+        _ => Task::Usage,
     }
 }
 
-/// The task that the words behind the section's name ask for; a short one of all kinds where there are none.
-fn asked<R: Env + AllocGlobal>(rt: &R) -> io::Result<Task> {
+/// The words behind the section's name.
+fn words_of<R: Env + AllocGlobal>(rt: &R) -> io::Result<Vec<String>> {
     let mut args = std::env::args(rt)?;
     let _ = args.next();
     let _ = args.next();
-    let kind = args.next();
-    if kind.is_none() {
-        return Ok(Task::All(3));
+    let mut words = Vec::new(rt.alloc());
+    for word in args {
+        words.push(word)?;
     }
-    let first = args.next();
-    let second = args.next();
-    if first.is_none() || args.next().is_some() {
-        return Ok(Task::Usage);
-    }
-    if second.is_none() {
-        return Ok(task_of_one(word(&kind), word(&first)));
-    }
-    Ok(task_of_two(word(&kind), word(&first), word(&second)))
+    Ok(words)
 }
 
 /// One line for a message.
@@ -213,11 +207,12 @@ fn print_all<R: Print + Threads + Wait + Sync + AllocGlobal>(rt: &R, count: u64)
     print_turns(rt, count, 10)
 }
 
-/// Prints what the section shows.
-pub fn print<R: Print + Env + Threads + Wait + Clock + Sync + AllocGlobal>(
+/// Does a task, and prints what came of it.
+fn print_task<R: Print + Threads + Wait + Clock + Sync + AllocGlobal>(
     rt: &R,
+    task: Task,
 ) -> io::Result<()> {
-    match asked(rt)? {
+    match task {
         Task::All(count) => print_all(rt, count),
         Task::Codec(count) => print_all_codec(rt, count),
         Task::Write(template, count) => print_written(rt, template, count),
@@ -230,4 +225,12 @@ pub fn print<R: Print + Env + Threads + Wait + Clock + Sync + AllocGlobal>(
             "all COUNT, codec COUNT, write TEMPLATE COUNT, read TEMPLATE COUNT, senders SENDERS COUNT, plans SENDERS COUNT, turns COUNT SIZE or waits SENDERS COUNT",
         ),
     }
+}
+
+/// Prints what the section shows.
+pub fn print<R: Print + Env + Threads + Wait + Clock + Sync + AllocGlobal>(
+    rt: &R,
+) -> io::Result<()> {
+    let words = words_of(rt)?;
+    print_task(rt, task_of(words.as_slice()))
 }

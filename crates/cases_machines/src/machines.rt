@@ -9,6 +9,8 @@ mod side;
 
 use cases_made::entries_of;
 use fixp_end::Flow;
+use jr_kept::Stable;
+use std::alloc::{AllocError, Global};
 use std::io;
 
 /// The templates of the entries that an end sends, each of which is the entry's number.
@@ -28,23 +30,42 @@ const FLOWS: [Flow; 4] = [
 /// The versions of an initiator and of an acceptor, of which one at least is 1.
 const VERSIONS: [[u16; 2]; 3] = [[0, 1], [1, 0], [1, 1]];
 
+/// Adds a line for each way in which the sessions of two flows are run.
+fn push_lines(
+    alloc: Global,
+    lines: &mut String,
+    initiator: Flow,
+    acceptor: Flow,
+    entries: &[Stable],
+) -> Result<(), AllocError> {
+    cuts::push_at_once(alloc, lines, initiator, acceptor, entries)?;
+    lines.push_str("\n")?;
+    cuts::push_by_threes(alloc, lines, initiator, acceptor, entries)?;
+    for versions in VERSIONS {
+        lines.push_str("\n")?;
+        cuts::push_by_versions(alloc, lines, initiator, acceptor, entries, versions)?;
+    }
+    Ok(())
+}
+
+/// Prints the lines of two flows.
+fn print_lines<R: Print + AllocGlobal>(
+    rt: &R,
+    initiator: Flow,
+    acceptor: Flow,
+    entries: &[Stable],
+) -> io::Result<()> {
+    let mut lines = String::new(rt.alloc());
+    push_lines(rt.alloc(), &mut lines, initiator, acceptor, entries)?;
+    rt.println(lines)
+}
+
 /// Prints what the section shows.
 pub fn print<R: Print + AllocGlobal>(rt: &R) -> io::Result<()> {
-    let alloc = rt.alloc();
-    let entries = entries_of(alloc, &TEMPLATES)?;
+    let entries = entries_of(rt.alloc(), &TEMPLATES)?;
     for initiator in FLOWS {
         for acceptor in FLOWS {
-            rt.println(cuts::at_once(alloc, initiator, acceptor, entries.as_slice())?)?;
-            rt.println(cuts::by_threes(alloc, initiator, acceptor, entries.as_slice())?)?;
-            for versions in VERSIONS {
-                rt.println(cuts::by_versions(
-                    alloc,
-                    initiator,
-                    acceptor,
-                    entries.as_slice(),
-                    versions,
-                )?)?;
-            }
+            print_lines(rt, initiator, acceptor, entries.as_slice())?;
         }
     }
     Ok(())

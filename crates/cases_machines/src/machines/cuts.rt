@@ -133,65 +133,84 @@ impl<'a> Runs<'a> {
         Ok(())
     }
 
-    /// Whether all held, in words.
-    fn verdict(&self) -> Result<String, AllocError> {
+    /// Adds the flows of both ends.
+    fn push_flows(&self, line: &mut String) -> Result<(), AllocError> {
+        let (initiator, acceptor) = (self.initiator, self.acceptor);
+        write!(line, "{initiator:?} and {acceptor:?}")
+    }
+
+    /// Adds what one cut showed.
+    fn push_single(&self, line: &mut String) -> Result<(), AllocError> {
+        let (frames, places, requests) = (self.frames, self.places, self.requests);
+        write!(
+            line,
+            ": {frames} frames, one cut at {places} places with {requests} requests behind"
+        )
+    }
+
+    /// Adds whether all held.
+    fn push_verdict(&self, line: &mut String) -> Result<(), AllocError> {
         match self.fault {
             Some((first, second, what)) => {
-                format!(in self.alloc; "{what} where the cuts are at {first:?} and {second:?}")
+                write!(
+                    line,
+                    ", {what} where the cuts are at {first:?} and {second:?}"
+                )
             }
-            None => format!(in self.alloc; "holds"),
+            None => line.push_str(", holds"),
         }
     }
 }
 
-/// What the sessions with these flows show whose ends send all their messages in one turn: how many frames a connection carries
+/// Adds what the sessions with these flows show whose ends send all their messages in one turn: how many frames a connection carries
 /// that is not cut, at how many places one was cut and how many retransmissions were asked for behind that, and at how many
 /// places two were cut.
-pub fn at_once(
+pub fn push_at_once(
     alloc: Global,
+    line: &mut String,
     initiator: Flow,
     acceptor: Flow,
     entries: &[Stable],
-) -> Result<String, AllocError> {
+) -> Result<(), AllocError> {
     let mut runs = Runs::none(alloc, initiator, acceptor, entries, COUNT, [0, 0], ALL);
     runs.run_all()?;
-    format!(in alloc;
-        "{initiator:?} and {acceptor:?}: {} frames, one cut at {} places with {} requests behind, two cuts at {} places, {}",
-        runs.frames,
-        runs.places,
-        runs.requests,
-        runs.second_places,
-        runs.verdict()?
-    )
+    let second_places = runs.second_places;
+    runs.push_flows(line)?;
+    runs.push_single(line)?;
+    write!(line, ", two cuts at {second_places} places")?;
+    runs.push_verdict(line)
 }
 
 /// The same where each end sends three messages in a turn, at most: without the numbers that depend on what is under way at
 /// the cuts.
-pub fn by_threes(
+pub fn push_by_threes(
     alloc: Global,
+    line: &mut String,
     initiator: Flow,
     acceptor: Flow,
     entries: &[Stable],
-) -> Result<String, AllocError> {
+) -> Result<(), AllocError> {
     let mut runs = Runs::none(alloc, initiator, acceptor, entries, 3, [0, 0], ALL);
     runs.run_all()?;
-    format!(in alloc;
-        "{initiator:?} and {acceptor:?} by threes: {} frames, one cut at {} places and two cuts, {}",
-        runs.frames,
-        runs.places,
-        runs.verdict()?
-    )
+    let (frames, places) = (runs.frames, runs.places);
+    runs.push_flows(line)?;
+    write!(
+        line,
+        " by threes: {frames} frames, one cut at {places} places and two cuts"
+    )?;
+    runs.push_verdict(line)
 }
 
 /// The same where the ends are of these versions, of which one at least is 1. A second connection is cut too where both flows are
 /// recoverable.
-pub fn by_versions(
+pub fn push_by_versions(
     alloc: Global,
+    line: &mut String,
     initiator: Flow,
     acceptor: Flow,
     entries: &[Stable],
     versions: [u16; 2],
-) -> Result<String, AllocError> {
+) -> Result<(), AllocError> {
     let (most, twice) = match (initiator, acceptor) {
         (Flow::Recoverable, Flow::Recoverable) => (ALL, " and two cuts"),
         _ => (0, ""),
@@ -199,11 +218,9 @@ pub fn by_versions(
     let mut runs = Runs::none(alloc, initiator, acceptor, entries, COUNT, versions, most);
     runs.run_all()?;
     let [first, second] = versions;
-    format!(in alloc;
-        "{initiator:?} and {acceptor:?} of versions {first} and {second}: {} frames, one cut at {} places with {} requests behind{twice}, {}",
-        runs.frames,
-        runs.places,
-        runs.requests,
-        runs.verdict()?
-    )
+    runs.push_flows(line)?;
+    write!(line, " of versions {first} and {second}")?;
+    runs.push_single(line)?;
+    line.push_str(twice)?;
+    runs.push_verdict(line)
 }

@@ -1,90 +1,100 @@
 //! The receiver of an idempotent flow over announcements and messages.
 
 use cases_words::{halves, number};
-use fixp_msgs::Range;
 use flow_idem::Applied;
 use std::alloc::{AllocError, Global};
 
-/// A range as its first number and its count.
-fn range_words(alloc: Global, range: Range) -> Result<String, AllocError> {
-    format!(in alloc; "({}, {})", range.from, range.count)
-}
-
-/// What an announcement jumps over.
-fn announced(alloc: Global, receiver: &mut Applied, next_seq: u64) -> Result<String, AllocError> {
+/// Adds what an announcement jumps over.
+fn push_announced(
+    line: &mut String,
+    receiver: &mut Applied,
+    next_seq: u64,
+) -> Result<(), AllocError> {
     if receiver.room() == 0 {
-        return format!(in alloc; "no room");
+        return line.push_str("no room");
     }
     if next_seq < receiver.next() {
-        return format!(in alloc; "goes back");
+        return line.push_str("goes back");
     }
     match receiver.announce(next_seq) {
         Some(jump) => {
-            let words = range_words(alloc, jump)?;
-            format!(in alloc; "jumps {words}")
+            let (from, count) = (jump.from, jump.count);
+            write!(line, "jumps ({from}, {count})")
         }
-        None => format!(in alloc; "jumps none"),
+        None => line.push_str("jumps none"),
     }
 }
 
-/// The number of a message.
-fn heard(alloc: Global, receiver: &mut Applied) -> Result<String, AllocError> {
+/// Adds the number of a message.
+fn push_heard(line: &mut String, receiver: &mut Applied) -> Result<(), AllocError> {
     if receiver.next() == u64::MAX {
-        return format!(in alloc; "no number");
+        return line.push_str("no number");
     }
-    format!(in alloc; "applies {}", receiver.on_app())
+    let number = receiver.on_app();
+    write!(line, "applies {number}")
 }
 
-/// The runs that are to be told.
-fn told(alloc: Global, receiver: &Applied) -> Result<String, AllocError> {
-    let mut line = format!(in alloc; "told")?;
+/// Adds the runs that are to be told.
+fn push_told(line: &mut String, receiver: &Applied) -> Result<(), AllocError> {
+    line.push_str("told")?;
     for place in 0..receiver.run_count() {
-        let words = range_words(alloc, receiver.run(place))?;
-        line = format!(in alloc; "{line} {words}")?;
+        let run = receiver.run(place);
+        let (from, count) = (run.from, run.count);
+        write!(line, " ({from}, {count})")?;
     }
-    Ok(line)
+    Ok(())
 }
 
-/// What an event shows.
-fn event(alloc: Global, receiver: &mut Applied, word: &str) -> Result<String, AllocError> {
-    match word.split_once("-") {
-        Some(("announce", digits)) => announced(alloc, receiver, number(digits)),
-        Some(("applied", digits)) => {
-            format!(in alloc; "{digits} {}", receiver.is_applied(number(digits)))
+/// Adds what an event shows that has no number.
+fn push_plain(line: &mut String, receiver: &mut Applied, word: &str) -> Result<(), AllocError> {
+    match word {
+        "message" => push_heard(line, receiver),
+        "reserve" => {
+            receiver.reserve()?;
+            let room = receiver.room();
+            write!(line, "room {room}")
         }
-        _ => match word {
-            "message" => heard(alloc, receiver),
-            "reserve" => {
-                receiver.reserve()?;
-                format!(in alloc; "room {}", receiver.room())
-            }
-            "turn" => {
-                let line = told(alloc, receiver)?;
-                receiver.forget_runs();
-                Ok(line)
-            }
-            "cut" => {
-                receiver.forget_runs();
-                format!(in alloc; "cut")
-            }
-            _ => format!(in alloc; "?"),
-        },
+        "turn" => {
+            push_told(line, receiver)?;
+            receiver.forget_runs();
+            Ok(())
+        }
+        "cut" => {
+            receiver.forget_runs();
+            line.push_str("cut")
+        }
+        _ => line.push_str("?"),
     }
+}
+
+/// Adds what an event shows.
+fn push_event(line: &mut String, receiver: &mut Applied, word: &str) -> Result<(), AllocError> {
+    match word.split_once("-") {
+        Some(("announce", digits)) => push_announced(line, receiver, number(digits)),
+        Some(("applied", digits)) => {
+            let is_applied = receiver.is_applied(number(digits));
+            write!(line, "{digits} {is_applied}")
+        }
+        _ => push_plain(line, receiver, word),
+    }
+}
+
+/// Adds what the events show of a receiver, one behind another.
+fn push_events(line: &mut String, receiver: &mut Applied, words: &str) -> Result<(), AllocError> {
+    for word in words.split(" ") {
+        line.push_str(" ")?;
+        push_event(line, receiver, word)?;
+        line.push_str(",")?;
+    }
+    let (next, room) = (receiver.next(), receiver.room());
+    write!(line, " next {next} room {room}")
 }
 
 /// What the events show of a receiver that begins at a number.
 pub fn flow_line(alloc: Global, words: &str) -> Result<String, AllocError> {
-    let (first, mut rest) = halves(words);
+    let (first, events) = halves(words);
     let mut receiver = Applied::new(alloc, number(first))?;
     let mut line = format!(in alloc; "from {first}:")?;
-    for _ in 0..words.len() {
-        if rest.is_empty() {
-            break;
-        }
-        let (word, later) = halves(rest);
-        let shown = event(alloc, &mut receiver, word)?;
-        line = format!(in alloc; "{line} {shown},")?;
-        rest = later;
-    }
-    format!(in alloc; "{line} next {} room {}", receiver.next(), receiver.room())
+    push_events(&mut line, &mut receiver, events)?;
+    Ok(line)
 }

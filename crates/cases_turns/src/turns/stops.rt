@@ -410,6 +410,49 @@ fn push_full<R: Wait>(
     }
 }
 
+/// The journals of both ends, of which that of this role is to be stopped, and so many messages come to it; none where memory runs out.
+fn begun<R: Wait>(alloc: Global, role: Role, count: u8, rt: &R) -> Option<Begun> {
+    Some(Begun {
+        near: first_journals(alloc, role, OWN, rt)?,
+        far: first_journals(alloc, other(role), count, rt)?,
+    })
+}
+
+/// Adds what comes of an end that is stopped at a call of its inbox, which leaves each of what a stop may leave.
+fn push_picks<R: Wait>(
+    alloc: Global,
+    line: &mut String,
+    role: Role,
+    count: u8,
+    begun: &Begun,
+    rt: &R,
+) -> Result<(), AllocError> {
+    for pick in [Pick::Old, Pick::Kept, Pick::Noise] {
+        let stop = Stop::Inbox(pick);
+        write!(line, " {pick:?}")?;
+        push_stops(alloc, line, Kind { role, count, stop }, begun, rt)?;
+    }
+    Ok(())
+}
+
+/// Adds what comes of an end whose journals stand so, wherever it is stopped.
+fn push_all<R: Wait>(
+    alloc: Global,
+    line: &mut String,
+    role: Role,
+    count: u8,
+    begun: &Begun,
+    rt: &R,
+) -> Result<(), AllocError> {
+    push_picks(alloc, line, role, count, begun, rt)?;
+    line.push_str(", of its outbox")?;
+    let stop = Stop::Outbox;
+    push_stops(alloc, line, Kind { role, count, stop }, begun, rt)?;
+    line.push_str(", full before the last message")?;
+    let stop = Stop::Full;
+    push_full(alloc, line, Kind { role, count, stop }, begun, rt)
+}
+
 /// Adds what comes of an end of this role, to which so many messages come, wherever it is stopped.
 ///
 /// # Errors
@@ -425,26 +468,8 @@ pub fn push_stopped<R: Wait>(
         line,
         "{role:?} with {count} messages in a turn: stopped at a call of its inbox"
     )?;
-    let (Some(near), Some(far)) = (
-        first_journals(alloc, role, OWN, rt),
-        first_journals(alloc, other(role), count, rt),
-    ) else {
-        return line.push_str(" no journals");
-    };
-    let begun = Begun { near, far };
-    for pick in [Pick::Old, Pick::Kept, Pick::Noise] {
-        let kind = Kind {
-            role,
-            count,
-            stop: Stop::Inbox(pick),
-        };
-        write!(line, " {pick:?}")?;
-        push_stops(alloc, line, kind, &begun, rt)?;
+    match begun(alloc, role, count, rt) {
+        Some(begun) => push_all(alloc, line, role, count, &begun, rt),
+        None => line.push_str(" no journals"),
     }
-    line.push_str(", of its outbox")?;
-    let stop = Stop::Outbox;
-    push_stops(alloc, line, Kind { role, count, stop }, &begun, rt)?;
-    line.push_str(", full before the last message")?;
-    let stop = Stop::Full;
-    push_full(alloc, line, Kind { role, count, stop }, &begun, rt)
 }

@@ -5,21 +5,26 @@ use fixp_msgs::SessionMsg;
 use sofh_frame::{OwnedFrame, split_pieces};
 use std::alloc::{AllocError, Global};
 
+/// The name of a session message, and its numbers.
+fn parts_of(said: &SessionMsg<'_>) -> (&'static str, Option<u64>, Option<u32>) {
+    match said {
+        SessionMsg::Negotiate(_) => ("Negotiate", None, None),
+        SessionMsg::NegotiationResponse(_) => ("NegotiationResponse", None, None),
+        SessionMsg::Establish(_) => ("Establish", None, None),
+        SessionMsg::EstablishmentAck(_) => ("EstablishmentAck", None, None),
+        SessionMsg::Sequence(m) => ("Sequence", Some(m.next_seq), None),
+        SessionMsg::RetransmitRequest(m) => ("RetransmitRequest", Some(m.from_seq), Some(m.count)),
+        SessionMsg::Retransmission(m) => ("Retransmission", Some(m.next_seq), Some(m.count)),
+        _ => ("another", None, None),
+    }
+}
+
 /// Adds a session message in a word.
 fn push_session(line: &mut String, said: &SessionMsg<'_>) -> Result<(), AllocError> {
-    match said {
-        SessionMsg::Negotiate(_) => line.push_str(" Negotiate"),
-        SessionMsg::NegotiationResponse(_) => line.push_str(" NegotiationResponse"),
-        SessionMsg::Establish(_) => line.push_str(" Establish"),
-        SessionMsg::EstablishmentAck(_) => line.push_str(" EstablishmentAck"),
-        SessionMsg::Sequence(m) => write!(line, " Sequence({})", m.next_seq),
-        SessionMsg::RetransmitRequest(m) => {
-            write!(line, " RetransmitRequest({}, {})", m.from_seq, m.count)
-        }
-        SessionMsg::Retransmission(m) => {
-            write!(line, " Retransmission({}, {})", m.next_seq, m.count)
-        }
-        _ => line.push_str(" another"),
+    match parts_of(said) {
+        (name, Some(number), Some(count)) => write!(line, " {name}({number}, {count})"),
+        (name, Some(number), None) => write!(line, " {name}({number})"),
+        (name, None, _) => write!(line, " {name}"),
     }
 }
 
