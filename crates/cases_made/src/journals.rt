@@ -26,7 +26,7 @@ pub(crate) const LIMITS: Limits = Limits {
 };
 
 /// Limits that no case meets but those that give their own.
-pub const WIDE: Limits = Limits {
+pub(crate) const WIDE: Limits = Limits {
     entries: 1000,
     bytes: 100_000,
 };

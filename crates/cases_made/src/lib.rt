@@ -16,7 +16,7 @@ mod turning;
 
 pub use driven::{DrivenEnd, Setup};
 pub use entries::entries_of;
-pub use journals::{Disks, Log, WIDE, formatted, fresh_disks, open_outbox, records};
+pub use journals::{Disks, Log, formatted, fresh_disks, open_outbox, records};
 pub use names::{flow_of, role_of};
 pub use spoken::{is_application, session_in};
 pub use standing::Standing;
