@@ -5,7 +5,7 @@ ghost use Rattle.std.specs.Prelude.{◌≡◌};
 use conn_loop::{TurnEnd, TurnFault};
 
 /// Where an end stands.
-#[derive(Clone, Copy)]
+#[derive(Clone, Copy, PartialEq, Eq)]
 pub enum Standing {
     /// No connection was begun, or the last one has ended: the next may begin.
     Over,
