@@ -6,7 +6,7 @@ use Rattle.sbe_layout.specs.declared.plan.Plan.{Plan}
 use Rattle.sbe_text.specs.declared.error.Refusal.{Refusal}
 use Rattle.sbe_text.specs.declared.error.Refusal.TheVariants.{Left, Memory}
 use Rattle.sbe_text.specs.Answers.{Fails}
-use Rattle.sbe_text.specs.Lines.{lines_in, in_first, begins_with}
+use Rattle.text_words.specs.Lines.{lines_in, in_first, begins_with}
 use Rattle.sbe_text.specs.Reading.{read_message}
 use Rattle.cmd_codec.specs.Encoded.{AreRead}
 use Rattle.cmd_codec.specs.Encoding.{Spelled, HasRead, Reads}

@@ -2,7 +2,7 @@
 use Rattle.std.proofs.Common.{◌≡◌, ◌≢◌, ℕ, List, [], ◌∷◌, ◌++◌, Ok, Err, refl, sym, ◌∙◌, ap, subst, append-nil}
 use Rattle.sbe_value.specs.declared.message.Message.{Message}
 use Rattle.sbe_layout.specs.declared.plan.MessagePlan.{MessagePlan}
-use Rattle.sbe_text.specs.Lines.{Read}
+use Rattle.sbe_text.specs.Read.{Read}
 use Rattle.sbe_text.specs.Reading.{read_message}
 use Rattle.cmd_codec.specs.Encoded.{AreRead}
 

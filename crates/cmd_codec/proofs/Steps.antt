@@ -11,7 +11,7 @@ use Rattle.sbe_layout.specs.declared.plan.Plan.{Plan}
 use Rattle.sbe_encode.specs.declared.fault.EncodeFault.{EncodeFault}
 use Rattle.sbe_text.specs.declared.error.Refusal.{Refusal}
 use Rattle.sbe_text.specs.declared.error.Refusal.TheVariants.{Left, Memory}
-use Rattle.sbe_text.specs.Lines.{lines_in}
+use Rattle.text_words.specs.Lines.{lines_in}
 use Rattle.sbe_text.specs.Reading.{read_message}
 use Rattle.cmd_base.specs.declared.status.Bad.TheVariants as bad
 use Rattle.cmd_base.specs.declared.status.Status.TheVariants as status

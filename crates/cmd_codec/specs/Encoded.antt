@@ -8,7 +8,7 @@ use Rattle.sbe_layout.specs.declared.plan.Plan.{Plan}
 use Rattle.sbe_grammar.specs.Canonical.{canonical}
 use Rattle.sbe_encode.specs.declared.fault.EncodeFault.{EncodeFault}
 use Rattle.sbe_encode.specs.Faults.{encode_fault}
-use Rattle.sbe_text.specs.Lines.{lines_in}
+use Rattle.text_words.specs.Lines.{lines_in}
 use Rattle.sbe_text.specs.Reading.{read_message}
 use Rattle.cmd_base.specs.Texts.{input_limit}
 use Rattle.cmd_base.specs.declared.status.Bad.TheVariants as bad

@@ -1,7 +1,7 @@
 //! The whole text, read before anything is written.
 
 ghost use Rattle.std.specs.Prelude.{◌≡◌, ◌+◌, ◌-◌, ◌≤◌, length};
-ghost use Rattle.sbe_text.specs.Lines.{lines_in};
+ghost use Rattle.text_words.specs.Lines.{lines_in};
 ghost use Rattle.cmd_codec.specs.Encoding.{TellsLine};
 ghost use Rattle.gw_outside.specs.Faults.{HasRisen};
 ghost use Rattle.cmd_codec.specs.Encodes.{IsEncodeEnd, KeepsPromise, LeavesWire};

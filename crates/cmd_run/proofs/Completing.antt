@@ -15,7 +15,7 @@ use Rattle.cmd_codec.specs.Encoded.{AreSpelled, written}
 use Rattle.cmd_codec.specs.Encodes.{GaveFrames}
 use Rattle.cmd_codec.proofs.Rows.{one-row, not-refused}
 use Rattle.cmd_base.specs.declared.status.Bad.TheVariants as bads
-use Rattle.sbe_text.specs.Lines.{lines_in}
+use Rattle.text_words.specs.Lines.{lines_in}
 use Rattle.cmd_answer.proofs.Fronts.{one_answer}
 
 no_fault : {A : Type 0} (told : Result A ConfigFault) (a : A) (fault : ConfigFault) → told ≡ Ok a → told ≡ Err fault → ⊥

@@ -7,7 +7,7 @@ use Rattle.std.proofs.lemmas.List.Elements.{All-nil}
 use Rattle.jr_dated.specs.declared.journal.Journal.{Ghosts}
 use Rattle.gate_turn.specs.Views.{Part}
 use Rattle.gate_plans.specs.declared.sender.Sender.{Sender}
-use Rattle.sbe_text.specs.Lines.{lines_in, unreturned}
+use Rattle.text_words.specs.Lines.{lines_in, unreturned}
 use Rattle.gw_lines.specs.declared.found.Found.{Found}
 use Rattle.gw_lines.specs.Lines.{IsFeedless, with_feeds, IsTold}
 use Rattle.gw_lines.specs.Reading.{Reading, HasGiven, GivesNext, GivesLast}

@@ -3,8 +3,8 @@ use Rattle.std.proofs.Common.{◌≡◌, ℕ, ◌+◌, ◌≤◌, suc, ◌==◌,
 use Rattle.std.specs.Prelude.{All}
 use Rattle.std.proofs.lemmas.Bool.Decides.{nat_tests}
 use Rattle.std.proofs.lemmas.List.Elements.{All-head, All-tail}
-use Rattle.sbe_text.specs.Lines.{lines_in, unreturned}
-use Rattle.sbe_text.proofs.Feeds.{no_feeds, first_of_lines, last_of_lines}
+use Rattle.text_words.specs.Lines.{lines_in, unreturned}
+use Rattle.text_words.proofs.Feeds.{no_feeds, first_of_lines, last_of_lines}
 use Rattle.gw_lines.specs.Lines.{IsFeedless, with_feeds}
 
 none_is : (bytes : List ℕ) → IsFeedless bytes → no_feeds bytes ≡ true

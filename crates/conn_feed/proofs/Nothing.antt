@@ -4,7 +4,7 @@ use Rattle.std.specs.Prelude.{Option}
 use Rattle.std.proofs.KnownBytes.{Appends-nil, Consumes-nil}
 use Rattle.std.proofs.lemmas.List.Elements.{All-nil}
 use Rattle.gate_turn.specs.Views.{Part}
-use Rattle.sbe_text.specs.Lines.{lines_in}
+use Rattle.text_words.specs.Lines.{lines_in}
 use Rattle.conn_accepted.specs.declared.why.Why.TheVariants as whys
 use Rattle.conn_feed.specs.declared.end.FeedEnd.{FeedEnd}
 use Rattle.conn_feed.specs.declared.end.FeedEnd.TheVariants as ends

@@ -3,7 +3,7 @@
 ghost use Rattle.std.specs.Prelude.{◌≡◌, ◌≢◌, ℕ, ◌≤◌, List, [], length, IfOk, IfErr, OnOk, IsErrOf, IsFalse};
 ghost use Rattle.std.specs.Io.KnownBytes.{IsAtEnd};
 ghost use Rattle.gw_outside.specs.Faults.{HasRisen};
-ghost use Rattle.sbe_text.specs.Lines.{lines_in};
+ghost use Rattle.text_words.specs.Lines.{lines_in};
 ghost use Rattle.gw_lines.specs.Reading.{HasGiven};
 ghost use Rattle.conn_feed.specs.declared.end.FeedEnd.TheVariants as ends;
 

@@ -7,7 +7,7 @@ use Rattle.session_model.specs.Journal.{History, BeginsHistory}
 use Rattle.fixp_machine.specs.Machine.{State}
 use Rattle.gw_links.specs.Dialers.{DialerTold}
 use Rattle.gw_links.specs.declared.link.Link.{Ghosts as LinkGhosts}
-use Rattle.sbe_text.specs.Lines.{lines_in}
+use Rattle.text_words.specs.Lines.{lines_in}
 use Rattle.plan_text.specs.Plans.{Gift}
 use Rattle.jr_dated.specs.declared.journal.Journal.{Ghosts}
 use Rattle.jr_kept.specs.declared.inbox.Inbox.{Inbox}

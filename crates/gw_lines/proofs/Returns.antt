@@ -1,8 +1,8 @@
 -- A line without the carriage return at its end.
 use Rattle.std.proofs.Common.{◌≡◌, ℕ, ◌==◌, true, false, List, [], ◌∷◌, ◌++◌, length, take, refl, ap, sym, ◌∙◌}
 use Rattle.std.proofs.Math.Seq.{take-append_seam}
-use Rattle.sbe_text.specs.Lines.{unreturned}
-use Rattle.sbe_text.proofs.Feeds.{unreturned_last}
+use Rattle.text_words.specs.Lines.{unreturned}
+use Rattle.text_words.proofs.Feeds.{unreturned_last}
 
 taken_all : (xs : List ℕ) → take (length xs) xs ≡ xs
 taken_all [] = refl

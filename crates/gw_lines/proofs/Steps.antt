@@ -3,7 +3,7 @@ use Rattle.std.proofs.Common.{◌≡◌, ℕ, zero, suc, ◌+◌, ◌-◌, ◌<�
 use Rattle.std.specs.Prelude.{Option, Some, slice_range}
 use Rattle.std.proofs.lemmas.List.{drop-drop, drop-take}
 use Rattle.std.proofs.lemmas.List.Elements.{All-push, All-nil}
-use Rattle.sbe_text.specs.Lines.{unreturned}
+use Rattle.text_words.specs.Lines.{unreturned}
 use Rattle.gw_lines.specs.declared.found.Found.{Found}
 use Rattle.gw_lines.specs.declared.found.Found.TheVariants.{Whole, TooLong}
 use Rattle.gw_lines.specs.Lines.{IsFeedless, with_feeds, IsTold}

@@ -2,7 +2,7 @@
 use Rattle.std.specs.Prelude.{◌≡◌, ℕ, List, ◌++◌, Option, Some, None}
 use Rattle.gw_lines.specs.declared.found.Found.{Found}
 use Rattle.gw_lines.specs.declared.found.Found.TheVariants.{Whole, TooLong}
-use Rattle.sbe_text.specs.Lines.{unreturned}
+use Rattle.text_words.specs.Lines.{unreturned}
 use Rattle.gw_lines.specs.Reading.{kept}
 
 -- what is kept where more bytes stand behind it

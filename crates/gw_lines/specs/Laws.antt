@@ -1,6 +1,6 @@
 -- The lines that are given are those of the text.
 use Rattle.std.specs.Prelude.{◌≡◌, ℕ, List, [], ◌∷◌, ◌++◌, All, map}
-use Rattle.sbe_text.specs.Lines.{lines_in, unreturned}
+use Rattle.text_words.specs.Lines.{lines_in, unreturned}
 use Rattle.gw_lines.specs.Lines.{IsFeedless, with_feeds}
 
 -- what stands behind the last line feed is a line where it is not empty

@@ -1,6 +1,6 @@
 -- How far a text is read (this project's profile).
 use Rattle.std.specs.Prelude.{◌≡◌, ℕ, ◌+◌, ◌^◌, ◌-◌, ◌<◌, nat_le, min, if◌then◌else◌, List, [], ◌∷◌, ◌++◌, length, All, Option, Some, None}
-use Rattle.sbe_text.specs.Lines.{unreturned}
+use Rattle.text_words.specs.Lines.{unreturned}
 use Rattle.gw_lines.specs.declared.found.Found.{Found}
 use Rattle.gw_lines.specs.Lines.{longest, IsFeedless, with_feeds, IsTold}
 

@@ -3,7 +3,7 @@
 ghost use Rattle.std.specs.Prelude.{◌≡◌, ℕ, ◌+◌, ◌<◌, ◌≤◌, ◌-◌, ◌^◌, List, [], ◌∷◌, ◌++◌, length, min, take, drop, Some, IfOk, IfSome, IfNone, OnErr, vec_capacity};
 ghost use Rattle.std.specs.Io.KnownBytes.{Consumes, IsAtEnd, Keeps};
 ghost use Rattle.gw_outside.specs.Faults.{HasCause};
-ghost use Rattle.sbe_text.specs.Lines.{unreturned};
+ghost use Rattle.text_words.specs.Lines.{unreturned};
 ghost use Rattle.gw_lines.specs.Lines.{IsFeedless, with_feeds};
 ghost use Rattle.gw_lines.specs.Kept.{EndsAs};
 

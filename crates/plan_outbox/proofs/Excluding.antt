@@ -1,6 +1,6 @@
 -- A line that is past excludes that the plans of its text go on.
 use Rattle.std.proofs.Common.{◌≡◌, ℕ, ◌+◌, ◌-◌, ◌<◌, ◌≤◌, List, [], ◌∷◌, ◌++◌, length, get_or, Some, slice_get, refl, sym, ap, subst, ◌∙◌, arith, length-append}
-use Rattle.sbe_text.specs.Lines.{lines_in}
+use Rattle.text_words.specs.Lines.{lines_in}
 use Rattle.session_model.specs.Journal.{History}
 use Rattle.session_model.specs.Plans.{sent_by}
 use Rattle.plan_text.specs.Plans.{Gift, AreGiven, payloads_of_sender, payloads_of_senders, HasPlans}

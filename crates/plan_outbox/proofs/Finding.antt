@@ -5,7 +5,7 @@ use Rattle.std.proofs.lemmas.Option.{none-some, slice_get_within}
 use Rattle.std.proofs.lemmas.Bool.{cases_Bool, cases_lt}
 use Rattle.std.proofs.lemmas.Bool.Decides.{nat_tests}
 use Rattle.std.proofs.lemmas.List.{get_or-map, get_or_past}
-use Rattle.sbe_text.specs.Lines.{lines_in}
+use Rattle.text_words.specs.Lines.{lines_in}
 use Rattle.session_model.specs.Journal.{Entry, History, entry, entries_of, payloads}
 use Rattle.session_model.specs.Plans.{sent_by}
 use Rattle.jr_record.specs.declared.record.Record.{Record}

@@ -5,8 +5,8 @@ use Rattle.std.proofs.lemmas.List.{get_or-set_same, get_or-set_other, get_or_def
 use Rattle.std.proofs.lemmas.Bool.Decides.{nat_tests}
 use mathlib.Core.Logic.{dite}
 use native.Mathlib.Decide.{ℕ_discrete}
-use Rattle.sbe_text.specs.Lines.{lines_in}
-use Rattle.sbe_text.proofs.Feeds.{lines_within}
+use Rattle.text_words.specs.Lines.{lines_in}
+use Rattle.text_words.proofs.Feeds.{lines_within}
 use Rattle.plan_text.specs.Plans.{Gift, Gives, AreGiven, payloads_of_sender}
 use Rattle.plan_text.proofs.Gifts.{of_sender_more}
 use Rattle.plan_outbox.specs.declared.front.Front.{Front}

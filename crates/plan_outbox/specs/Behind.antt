@@ -1,6 +1,6 @@
 -- Whether plans go on from what an outbox holds of their senders (this project's profile).
 use Rattle.std.specs.Prelude.{◌≡◌, ◌⊎◌, ℕ, ◌+◌, ◌≤◌, Bool, false, List, [], ◌∷◌, ◌++◌, length, slice_get, slice_index_or, Some}
-use Rattle.sbe_text.specs.Lines.{lines_in}
+use Rattle.text_words.specs.Lines.{lines_in}
 use Rattle.session_model.specs.Journal.{History}
 use Rattle.session_model.specs.Plans.{sent_by}
 use Rattle.plan_text.specs.Plans.{Gift, AreGiven, payloads_of_sender, HasPlans}

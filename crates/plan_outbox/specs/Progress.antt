@@ -4,7 +4,7 @@ use Rattle.jr_record.specs.declared.record.Record.{Record}
 use Rattle.jr_record.specs.declared.record.Record.TheVariants.{Entry, Apply, Skip, Negotiated, PeerFinished, Finish}
 use Rattle.plan_values.specs.Plans.{payloads_of}
 use Rattle.plan_values.specs.declared.plan.Plan.{Plan}
-use Rattle.sbe_text.specs.Lines.{lines_in}
+use Rattle.text_words.specs.Lines.{lines_in}
 use Rattle.plan_text.specs.Plans.{Gift, AreGiven, payloads_of_sender}
 use Rattle.session_model.specs.Journal.{History, OutboxRecord}
 use Rattle.jr_dated.specs.declared.journal.Journal.{Ghosts}

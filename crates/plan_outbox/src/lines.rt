@@ -1,13 +1,13 @@
 //! The lines of a text, taken one after another from the fronts of their senders.
 
 ghost use Rattle.std.specs.Prelude.{◌≡◌, ◌≤◌, List, length, IfSome, IfNone};
-ghost use Rattle.sbe_text.specs.Lines.{lines_in};
+ghost use Rattle.text_words.specs.Lines.{lines_in};
 ghost use Rattle.plan_text.specs.Plans.{Gift, AreGiven};
 ghost use Rattle.plan_outbox.specs.Progress.{AllStandBy, IsLinePast};
 
 use crate::front::Front;
 use plan_text::sender_of;
-use sbe_text::first_line;
+use text_words::first_line;
 
 /// The number, from 1 on, of the first line that may not stand by its sender's front; none where all may.
 pub fn first_line_past(text: &[u8], left: &mut [Front], finished: bool) -> Option<u64>

@@ -1,6 +1,6 @@
 -- A text has one reading.
 use Rattle.std.proofs.Common.{◌≡◌, ℕ, suc, ◌<◌, ◌^◌, inl, List, [], ◌∷◌, ◌++◌, length, refl, ap, sym, ◌∙◌, arith, decimal}
-use Rattle.sbe_text.specs.Lines.{lines_in}
+use Rattle.text_words.specs.Lines.{lines_in}
 use Rattle.text_words.proofs.Decimals.{no_end, same_halves, one_number}
 use Rattle.plan_text.specs.Plans.{Gift, Gives, AreGiven, payloads_of_senders}
 use Rattle.plan_text.specs.Laws.{OneReading}

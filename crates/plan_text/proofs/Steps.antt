@@ -1,8 +1,8 @@
 -- The lines of a text, one after another.
 use Rattle.std.proofs.Common.{◌≡◌, ℕ, suc, ◌+◌, ◌<◌, ◌≤◌, ◌==◌, if◌then◌else◌, List, [], ◌∷◌, ◌++◌, length, get_or, refl, ap, sym, ◌∙◌, subst, append_assoc, append-nil, length-append, arith}
 use Rattle.std.specs.Prelude.{map}
-use Rattle.sbe_text.specs.Lines.{lines_in}
-use Rattle.sbe_text.proofs.Feeds.{lines_within}
+use Rattle.text_words.specs.Lines.{lines_in}
+use Rattle.text_words.proofs.Feeds.{lines_within}
 use Rattle.plan_values.specs.Plans.{payloads_of}
 use Rattle.plan_values.specs.declared.plan.Plan.{Plan}
 use Rattle.plan_text.specs.Plans.{Gift, Gives, AreGiven, payloads_of_sender, payloads_of_senders, HasPlans, IsRefusedAt}

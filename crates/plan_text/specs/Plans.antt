@@ -2,7 +2,7 @@
 use Rattle.std.specs.Prelude.{⊤, ◌≡◌, ℕ, zero, suc, ◌+◌, ◌≤◌, ◌==◌, if◌then◌else◌, List, [], ◌∷◌, ◌++◌, length, decimal, Ok}
 use Rattle.hex.specs.Hex.{decode_of}
 use Rattle.fixp_msgs.specs.Payload.{IsApplication}
-use Rattle.sbe_text.specs.Lines.{lines_in}
+use Rattle.text_words.specs.Lines.{lines_in}
 use Rattle.plan_text.specs.declared.fault.PlanFault.{PlanFault}
 use Rattle.plan_text.specs.declared.fault.PlanFault.TheVariants.{Line, Memory}
 

@@ -1,6 +1,6 @@
 -- How far the plans of a text are read. These are steps of the proof: nothing that a user relies on needs them.
 use Rattle.std.specs.Prelude.{◌≡◌, ℕ, ◌+◌, ◌<◌, ◌==◌, if◌then◌else◌, List, [], ◌∷◌, ◌++◌, length, slice_index_or}
-use Rattle.sbe_text.specs.Lines.{lines_in}
+use Rattle.text_words.specs.Lines.{lines_in}
 use Rattle.plan_values.specs.Plans.{payloads_of}
 use Rattle.plan_values.specs.declared.plan.Plan.{Plan}
 use Rattle.plan_text.specs.Plans.{Gift, AreGiven, payloads_of_sender}

@@ -1,5 +1,5 @@
-//! The plans of senders as lines of text, each of which gives a payload to a sender. Relies on `sbe_text` for the lines of a
-//! text, on `text_words` for numbers in decimal, and on `hex`.
+//! The plans of senders as lines of text, each of which gives a payload to a sender. Relies on `text_words` for the lines
+//! of a text and for numbers in decimal, and on `hex`.
 #![tactic(auto)]
 
 mod fault;

@@ -8,8 +8,8 @@ ghost use Rattle.plan_text.specs.Plans.{HasPlans, IsFaultOf};
 use crate::fault::PlanFault;
 use crate::line::add_line;
 use plan_values::Plan;
-use sbe_text::first_line;
 use std::alloc::{AllocError, Global};
+use text_words::first_line;
 
 /// So many plans without payloads.
 fn empty_plans(alloc: Global, senders: u16) -> Result<Vec<Plan>, AllocError>

@@ -8,9 +8,10 @@ use sbe_encode::EncodeFault;
 use sbe_grammar::DecodeFault;
 use sbe_layout::{ItemKind, ItemPlan, Plan};
 use sbe_prim::{Primitive, default_greatest, default_least};
-use sbe_text::{count_lines, first_line, first_message};
+use sbe_text::first_message;
 use sbe_value::{Item, Message, Path, text_of_path};
 use std::alloc::{AllocError, Global};
+use text_words::{count_lines, first_line};
 
 /// What is wrong with the bytes of a message.
 fn decode_fault(fault: DecodeFault) -> Filled {

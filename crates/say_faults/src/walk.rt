@@ -2,9 +2,10 @@
 
 use crate::codec::behind_message;
 use sbe_layout::{BlockPlan, DataPlan, GroupPlan, ItemPlan, MessagePlan, Plan};
-use sbe_text::{count_lines, first_line, names_begin};
+use sbe_text::names_begin;
 use sbe_value::{Block, Bytes, Datum, Group, Item, Message, Step};
 use std::alloc::{AllocError, Global};
+use text_words::{count_lines, first_line};
 
 /// How deep groups stand in one another at most.
 const DEEPEST: u8 = 8;

@@ -1,9 +1,8 @@
 //! A line of INPUT that gives a payload to a sender, found again by its number.
 
 use fixp_msgs::is_application;
-use sbe_text::first_line;
 use std::alloc::Global;
-use text_words::number_before;
+use text_words::{first_line, number_before};
 
 /// A line of plans that gives a payload to a sender.
 #[derive(Drop)]

@@ -22,7 +22,8 @@ use Rattle.sbe_grammar.specs.Reading.{Entry, group_before}
 use Rattle.sbe_text.specs.declared.token.Count.{Count}
 use Rattle.sbe_text.specs.declared.token.Count.TheVariants as count
 use Rattle.sbe_text.specs.Written.{before_in}
-use Rattle.sbe_text.specs.Lines.{Read, next, taken, read_line, read_each, lines_in}
+use Rattle.text_words.specs.Lines.{lines_in}
+use Rattle.sbe_text.specs.Read.{Read, next, taken, read_line, read_each}
 use Rattle.sbe_text.specs.Tokens.{also, behind, at_most, exactly, characters_of, raw_of, number_of, present_of, value_of, count_of, value_on, is_line}
 use Rattle.sbe_text.specs.Reading.{read_element, read_item, read_datum, read_elements, repeated, entry_at, read_counted, read_group, read_groups, layout_on, named, message_with, read_body, read_message, alone, numbered, message_of_text}
 

@@ -1,4 +1,3 @@
-pub mod Feeds
 pub mod Fitting
 pub mod Made
 pub mod Numerals

@@ -10,7 +10,7 @@ use Rattle.sbe_layout.specs.declared.blocks.GroupPlan.{GroupPlan}
 use Rattle.sbe_layout.specs.Views.{head_of, plans_of}
 use Rattle.sbe_grammar.specs.Reading.{Entry, group_before}
 use Rattle.sbe_text.specs.declared.error.Refusal.{Refusal}
-use Rattle.sbe_text.specs.Lines.{Read, read_each}
+use Rattle.sbe_text.specs.Read.{Read, read_each}
 use Rattle.sbe_text.specs.Reading.{read_group, read_groups, repeated}
 use Rattle.sbe_text.specs.Answers.{Fails, entry_of}
 use Rattle.sbe_text.proofs.Steps.{along, along_same, along_step, along_fails}

@@ -26,12 +26,13 @@ use Rattle.sbe_grammar.specs.Fits.{form_of, has_form, fit_items, fit_data, fit_g
 use Rattle.sbe_value.specs.declared.tree.Group.TheVariants as group
 use Rattle.sbe_grammar.specs.Reading.{Entry}
 use Rattle.sbe_text.specs.declared.token.Count.TheVariants as count
-use Rattle.sbe_text.specs.Lines.{lines_in, unreturned, Read, next, taken, read_line, read_each}
+use Rattle.text_words.specs.Lines.{lines_in, unreturned}
+use Rattle.sbe_text.specs.Read.{Read, next, taken, read_line, read_each}
 use Rattle.sbe_text.specs.Written.{is_plain, are_plain, quoted, raw_text, value_text, datum_text, element_line, before_in, lines_of_items, lines_of_data, lines_of_groups, lines_of_entries, message_line, end_line, lines_by, lines_of_message}
 use Rattle.sbe_text.specs.Tokens.{also, is_digit, are_digits, value_of, datum_of, count_of}
 use Rattle.sbe_text.specs.Reading.{read_element, read_item, read_datum, read_elements, entry_at, repeated, read_group, read_groups, named, layout_on, read_message, message_of_text}
 use Rattle.sbe_text.specs.Held.{are_bytes, is_number, is_item, are_items, is_datum, are_data, are_groups, are_blocks, is_message, is_word, items_have_words, data_have_words, groups_have_words, message_has_words, HaveOwnNames, HasWords}
-use Rattle.sbe_text.proofs.Feeds.{no_feeds, first_of_lines}
+use Rattle.text_words.proofs.Feeds.{no_feeds, first_of_lines}
 use Rattle.sbe_text.proofs.Fitting.{layout_found}
 use Rattle.sbe_text.proofs.Texts.{at_most_of, below_of, both, both_left, both_right, behind_joined, value_on_joined, digits_are, value_back, datum_back, count_back}
 

@@ -13,7 +13,8 @@ use Rattle.sbe_layout.specs.Trees.{PlanHead, PlanTree, no_plans, plan}
 use Rattle.sbe_grammar.specs.Reading.{Entry}
 use Rattle.sbe_text.specs.declared.token.Count.{Count}
 use Rattle.sbe_text.specs.declared.token.Count.TheVariants as count
-use Rattle.sbe_text.specs.Lines.{lines_in, Read, next, taken, read_line, read_each}
+use Rattle.text_words.specs.Lines.{lines_in}
+use Rattle.sbe_text.specs.Read.{Read, next, taken, read_line, read_each}
 use Rattle.sbe_text.specs.Tokens.{value_on}
 use Rattle.sbe_text.specs.Written.{before_in}
 use Rattle.sbe_text.specs.Reading.{read_element, read_item, read_datum, read_elements, repeated, entry_at, read_counted, read_group, read_groups, layout_on, read_body, read_message}

@@ -2,7 +2,7 @@
 use Rattle.std.proofs.Common.{◌≡◌, ℕ, Ok, Err, List, refl, ap, sym, ◌∙◌}
 use Rattle.sbe_text.specs.declared.error.Refusal.{Refusal}
 use Rattle.sbe_text.specs.declared.error.Refusal.TheVariants.{Left, Memory}
-use Rattle.sbe_text.specs.Lines.{Read, next}
+use Rattle.sbe_text.specs.Read.{Read, next}
 use Rattle.sbe_text.specs.Answers.{Fails}
 
 -- what is read, changed

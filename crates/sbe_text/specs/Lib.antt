@@ -1,6 +1,6 @@
 pub mod Answers
 pub mod Held
-pub mod Lines
+pub mod Read
 pub mod Reading
 pub mod Tokens
 pub mod Written

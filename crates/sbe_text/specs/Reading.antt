@@ -17,7 +17,8 @@ use Rattle.sbe_grammar.specs.Fits.{form_of}
 use Rattle.sbe_grammar.specs.Reading.{Entry, group_before}
 use Rattle.sbe_text.specs.declared.token.Count.{Count}
 use Rattle.sbe_text.specs.declared.token.Count.TheVariants as count
-use Rattle.sbe_text.specs.Lines.{lines_in, Read, next, taken, read_line, read_each}
+use Rattle.text_words.specs.Lines.{lines_in}
+use Rattle.sbe_text.specs.Read.{Read, next, taken, read_line, read_each}
 use Rattle.sbe_text.specs.Tokens.{also, behind, value_on, is_line, value_of, datum_of, count_of}
 use Rattle.sbe_text.specs.Written.{before_in}
 

@@ -5,7 +5,6 @@
 
 mod error;
 mod laws;
-mod line;
 mod parse;
 mod path;
 mod print;
@@ -15,7 +14,6 @@ mod values;
 
 pub use error::{Refusal, TextError};
 pub use laws::printed_reads_back;
-pub use line::{count_lines, first_line};
 pub use parse::{first_message, next_message, parse_message, refused_line};
 pub use path::names_begin;
 pub use print::{print_message, write_lines};

@@ -6,19 +6,21 @@ ghost use Rattle.std.specs.Option.{option_copied};
 ghost use Rattle.sbe_value.specs.Views.{groups_of, blocks_of};
 ghost use Rattle.sbe_layout.specs.Views.{head_of, plans_of};
 ghost use Rattle.sbe_grammar.specs.Fits.{Fits};
+ghost use Rattle.sbe_text.specs.declared.error.Refusal.TheVariants.{Left};
 ghost use Rattle.sbe_text.specs.Answers.{Gives, Tells, Numbers, entry_of};
-ghost use Rattle.sbe_text.specs.Lines.{lines_in, read_line, read_each};
+ghost use Rattle.text_words.specs.Lines.{lines_in};
+ghost use Rattle.sbe_text.specs.Read.{read_line, read_each};
 ghost use Rattle.sbe_text.specs.Tokens.{value_on, is_line};
 ghost use Rattle.sbe_text.specs.Reading.{read_item, read_datum, read_elements, read_entries, read_group, read_groups, named, layout_on, read_message, alone, message_of_text};
 
 use crate::error::{Refusal, TextError};
-use crate::line::{count_lines, first_line, refused};
 use crate::path::begin_names;
 use crate::spare::Spare;
 use crate::token::{Count, behind, datum, entry_count, value, value_on};
 use sbe_layout::{BlockPlan, DataPlan, GroupPlan, ItemPlan, MessagePlan, MessagePlans, Plan};
 use sbe_value::{Block, Blocks, Bytes, Datum, Datums, Group, Groups, Item, Items, Message};
 use std::alloc::{AllocError, Global};
+use text_words::{count_lines, first_line};
 
 /// The message that a text spells by the plan of its schema (this project's profile): the lines that `print_message`
 /// writes. Also taken are a carriage return before a line feed, hexadecimal digits of either case, raw bytes for an array
@@ -87,6 +89,13 @@ pub fn refused_line(lines: &[u8], left: u64) -> TextError
         Some(number) => TextError::Line(number),
         None => TextError::Memory,
     }
+}
+
+// That the first line of a text is refused.
+fn refused(text: &[u8]) -> Refusal
+    ensures { result ≡ Left (length (lines_in text.now)) }
+{
+    Refusal::Left(count_lines(text))
 }
 
 // The message that a whole text spells.

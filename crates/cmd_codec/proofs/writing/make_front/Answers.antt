@@ -1,6 +1,6 @@
 use Rattle.std.proofs.Common.{◌≢◌, [], None, rules, arith}
 use Rattle.std.proofs.lemmas.Grind.{common_steps}
-use Rattle.sbe_text.proofs.Feeds.{lines_within}
+use Rattle.text_words.proofs.Feeds.{lines_within}
 use Rattle.cmd_codec.proofs.Steps.{made-more, made-none, written-none}
 use Rattle.cmd_codec.proofs.writing.make_front.Goals as goal
 

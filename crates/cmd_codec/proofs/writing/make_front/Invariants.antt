@@ -1,5 +1,5 @@
 use Rattle.std.proofs.Common.{length}
-use Rattle.sbe_text.specs.Lines.{lines_in}
+use Rattle.text_words.specs.Lines.{lines_in}
 use Rattle.cmd_codec.specs.Encoding.{HasMade}
 use Rattle.cmd_codec.proofs.writing.make_front.Given as goal
 

@@ -1,6 +1,6 @@
 use Rattle.std.proofs.Common.{◌≡◌, [], rules, arith}
 use Rattle.std.proofs.lemmas.Grind.{common_steps}
-use Rattle.sbe_text.proofs.Feeds.{lines_within}
+use Rattle.text_words.proofs.Feeds.{lines_within}
 use Rattle.cmd_codec.proofs.Steps.{written-more, front-part, front-kept, front-one, stopped-at, stopped-part, written-all}
 use Rattle.cmd_codec.proofs.writing.write_all.Goals as goal
 

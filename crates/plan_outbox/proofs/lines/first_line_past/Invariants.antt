@@ -1,5 +1,5 @@
 use Rattle.std.proofs.Common.{length}
-use Rattle.sbe_text.specs.Lines.{lines_in}
+use Rattle.text_words.specs.Lines.{lines_in}
 use Rattle.plan_outbox.specs.Progress.{HaveTaken}
 use Rattle.plan_outbox.proofs.lines.first_line_past.Given as goal
 

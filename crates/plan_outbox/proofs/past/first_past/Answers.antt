@@ -1,5 +1,5 @@
 use Rattle.std.proofs.Common.{List, refl, sym, subst}
-use Rattle.sbe_text.specs.Lines.{lines_in}
+use Rattle.text_words.specs.Lines.{lines_in}
 use Rattle.jr_boxes.specs.Outboxes.{records_of_history}
 use Rattle.plan_text.specs.Plans.{AreGiven}
 use Rattle.plan_outbox.specs.declared.front.Front.{Front}

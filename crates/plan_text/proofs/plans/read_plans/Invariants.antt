@@ -1,5 +1,5 @@
 use Rattle.std.proofs.Common.{length}
-use Rattle.sbe_text.specs.Lines.{lines_in}
+use Rattle.text_words.specs.Lines.{lines_in}
 use Rattle.plan_text.specs.Progress.{HaveRead}
 use Rattle.plan_text.proofs.plans.read_plans.Given as goal
 

@@ -3,7 +3,7 @@ use Rattle.std.proofs.lemmas.Result.{err_from_is_err_and}
 use Rattle.sbe_layout.specs.Views.{head_of}
 use Rattle.sbe_text.specs.Answers.{Fails, entry_of}
 use Rattle.sbe_text.specs.Written.{before_in}
-use Rattle.sbe_text.specs.Lines.{lines_in}
+use Rattle.text_words.specs.Lines.{lines_in}
 use Rattle.sbe_text.specs.Reading.{read_elements, read_groups, entry_at}
 use Rattle.sbe_text.proofs.Made.{groups_step, groups_fail, groups_end, entries_step, entries_fail, entries_end}
 use Rattle.sbe_text.proofs.Weights.{weight_at}

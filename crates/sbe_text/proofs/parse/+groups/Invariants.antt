@@ -1,7 +1,7 @@
 use Rattle.std.proofs.Common.{◌≡◌, ◌+◌, ◌*◌, ◌-◌, drop}
 use Rattle.sbe_layout.specs.Trees.{weight_of}
 use Rattle.sbe_layout.specs.Views.{head_of, plans_of}
-use Rattle.sbe_text.specs.Lines.{lines_in}
+use Rattle.text_words.specs.Lines.{lines_in}
 use Rattle.sbe_text.specs.Reading.{read_groups, repeated, entry_at}
 use Rattle.sbe_text.proofs.Made.{groups_before, entries_before}
 use Rattle.sbe_text.proofs.parse.+groups.Given as goal

@@ -1,5 +1,6 @@
 use Rattle.std.proofs.Common.{◌≡◌, drop}
-use Rattle.sbe_text.specs.Lines.{lines_in, read_each}
+use Rattle.text_words.specs.Lines.{lines_in}
+use Rattle.sbe_text.specs.Read.{read_each}
 use Rattle.sbe_text.specs.Reading.{read_datum}
 use Rattle.sbe_text.proofs.Made.{before}
 use Rattle.sbe_text.proofs.parse.read_data.Given as goal

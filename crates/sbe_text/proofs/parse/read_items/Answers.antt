@@ -1,5 +1,5 @@
 use Rattle.std.proofs.lemmas.Result.{err_from_is_err_and}
-use Rattle.sbe_text.specs.Lines.{lines_in}
+use Rattle.text_words.specs.Lines.{lines_in}
 use Rattle.sbe_text.specs.Reading.{read_item}
 use Rattle.sbe_text.proofs.Made.{each_step, each_fails, each_end}
 use Rattle.sbe_text.proofs.parse.read_items.Goals as goal

@@ -1,7 +1,7 @@
 -- The first line of a text, by the place of its first line feed.
 use Rattle.std.proofs.Common.{◌≡◌, ℕ, zero, suc, ◌+◌, ◌<◌, ◌≤◌, ◌==◌, Bool, true, false, ◌&&◌, not, if◌then◌else◌, List, [], ◌∷◌, ◌++◌, length, take, drop, get_or, refl, ap, sym, ◌∙◌, arith, add-one}
 use Rattle.std.proofs.lemmas.Bool.{false≢true}
-use Rattle.sbe_text.specs.Lines.{lines_in, in_first, begins_with, unreturned}
+use Rattle.text_words.specs.Lines.{lines_in, in_first, begins_with, unreturned}
 
 -- no byte is a line feed
 abbrev pub no_feeds : List ℕ → Bool

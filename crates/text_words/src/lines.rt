@@ -1,10 +1,7 @@
 //! The lines of a text, one after another.
 
 ghost use Rattle.std.specs.Prelude.{◌≡◌, [], ◌∷◌, length, MatchOption};
-ghost use Rattle.sbe_text.specs.declared.error.Refusal.TheVariants.{Left};
-ghost use Rattle.sbe_text.specs.Lines.{lines_in, unreturned};
-
-use crate::error::Refusal;
+ghost use Rattle.text_words.specs.Lines.{lines_in, unreturned};
 
 /// The first line of a text, without what ends it, and the text behind it; none where the text is empty.
 #[tactic(auto, using(crate::proofs::Feeds::first_at, crate::proofs::Feeds::no_more_feeds, crate::proofs::Feeds::rest_is_line))]
@@ -48,11 +45,4 @@ pub fn count_lines(text: &[u8]) -> u64
         left = rest;
     }
     count
-}
-
-/// That the first line of a text is refused.
-pub fn refused(text: &[u8]) -> Refusal
-    ensures { result ≡ Left (length (lines_in text.now)) }
-{
-    Refusal::Left(count_lines(text))
 }

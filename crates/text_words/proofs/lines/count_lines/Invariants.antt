@@ -1,6 +1,6 @@
 use Rattle.std.proofs.Common.{◌≡◌, ◌+◌, length}
-use Rattle.sbe_text.specs.Lines.{lines_in}
-use Rattle.sbe_text.proofs.line.count_lines.Given as goal
+use Rattle.text_words.specs.Lines.{lines_in}
+use Rattle.text_words.proofs.lines.count_lines.Given as goal
 
 abbrev pub decreases-loop-rest : goal.decreases-loop-rest
 decreases-loop-rest l = length (lines_in l.left)
