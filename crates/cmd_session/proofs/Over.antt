@@ -16,8 +16,8 @@ use Rattle.fixp_machine.specs.Machine.{State, fresh}
 use Rattle.fixp_machine.specs.Accepting.{model_flow}
 use Rattle.connection_laws.specs.Living.{Opens}
 use Rattle.turn_laws.specs.Standing.{Has}
-use Rattle.two_ends.specs.Meeting.{life_in}
-use Rattle.two_ends.specs.Loops.{machine_life}
+use Rattle.turn_laws.specs.MachineLives.{life_in}
+use Rattle.turn_laws.specs.LoopLives.{machine_life}
 use Rattle.jr_dated.specs.declared.journal.Journal.{Ghosts}
 use Rattle.jr_record.specs.declared.record.Record.{Record}
 use Rattle.jr_dated.specs.declared.limits.Limits.{Limits as JournalLimits}

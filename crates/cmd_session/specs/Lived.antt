@@ -8,8 +8,8 @@ use Rattle.session_model.specs.Lives.{IsImage, KeepsContract}
 use Rattle.fixp_shake.specs.declared.config.EndConfig.{EndConfig}
 use Rattle.fixp_machine.specs.Machine.{fresh}
 use Rattle.fixp_machine.specs.Accepting.{model_flow}
-use Rattle.two_ends.specs.Meeting.{life_in}
-use Rattle.two_ends.specs.Loops.{machine_life}
+use Rattle.turn_laws.specs.MachineLives.{life_in}
+use Rattle.turn_laws.specs.LoopLives.{machine_life}
 use Rattle.jr_dated.specs.declared.journal.Journal.{Ghosts}
 use Rattle.jr_record.specs.declared.record.Record.{Record}
 use Rattle.jr_dated.specs.Images.{journal_size}

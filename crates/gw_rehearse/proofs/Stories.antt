@@ -25,7 +25,8 @@ use Rattle.turn_laws.specs.Standing.{Has}
 use Rattle.turn_laws.specs.Legs.{TurnedLeg, given_in, sent_in}
 use Rattle.turn_laws.specs.Turns.{line_received, adds_in, adds_cut}
 use Rattle.turn_laws.proofs.Tailing.{left_is}
-use Rattle.two_ends.specs.Driving.{EndNow, Beginning, Awaits, begun_leg, with_turn, cut_leg, Between, During}
+use Rattle.two_ends.specs.Driving.{EndNow, Beginning, Awaits, begun_leg, with_turn, Between, During}
+use Rattle.turn_laws.specs.Legs.{cut_leg}
 use Rattle.two_ends.specs.Stories.{IsOver}
 use Rattle.two_ends.proofs.Going.{leg_begins, turn_goes_on, leg_ends, cut_ends, life_ends, life_fails}
 use Rattle.two_ends.proofs.Moving.{turn_carries}

@@ -10,7 +10,7 @@ use Rattle.conn_turns.specs.Turns.{Turn}
 use Rattle.connection_laws.proofs.Written.{written_is_legal}
 use Rattle.turn_laws.specs.Legs.{all_turns, calls_on, given_in, given_on}
 use Rattle.turn_laws.proofs.Running.{leg_stands}
-use Rattle.two_ends.proofs.Given.{calls_fit}
+use Rattle.turn_laws.proofs.Given.{calls_fit}
 use Rattle.honest_ends.specs.PhaseLaws.{IsOfTime, EndsBy}
 use Rattle.honest_ends.specs.Worlds.{World, meets, after}
 use Rattle.honest_ends.proofs.FinishLaws.{only_time_ends}

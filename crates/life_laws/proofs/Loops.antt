@@ -16,9 +16,9 @@ use Rattle.connection_laws.specs.Ranges.{IsInRange}
 use Rattle.turn_laws.specs.Legs.{AreTurns, TurnedLeg, IsTimely, first_line}
 use Rattle.turn_laws.specs.Lives.{AllAreTurns, legs_of, state_after, inbox_after}
 use Rattle.turn_laws.proofs.Running.{all_run, turns_serve, turns_refused_tail}
-use Rattle.two_ends.specs.Loops.{RefusedLeg, IsRefusedOn}
-use Rattle.two_ends.specs.Driving.{cut_leg}
-use Rattle.two_ends.proofs.Failing.{FailsOn, fails_on}
+use Rattle.turn_laws.specs.LoopLives.{RefusedLeg, IsRefusedOn}
+use Rattle.turn_laws.specs.Legs.{cut_leg}
+use Rattle.turn_laws.proofs.Failing.{FailsOn, fails_on}
 use Rattle.conn_serve.specs.Connections.{Connection, IsFaithfulLeg, turned, all_of, refused_of_all}
 use Rattle.conn_serve.specs.Served.{WasGivenUp}
 use Rattle.life_laws.specs.Lives.{LifeOfLoop, LifeMayTurn, ServedKeeps}

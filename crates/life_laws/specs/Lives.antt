@@ -12,7 +12,7 @@ use Rattle.fixp_machine.specs.Machine.{State, fresh}
 use Rattle.fixp_machine.specs.Accepting.{model_flow}
 use Rattle.connection_laws.specs.Living.{Opens}
 use Rattle.connection_laws.specs.Ranges.{IsInRange}
-use Rattle.two_ends.specs.Meeting.{life_in}
+use Rattle.turn_laws.specs.MachineLives.{life_in}
 use Rattle.jr_dated.specs.declared.journal.Journal.{Ghosts}
 use Rattle.jr_kept.specs.declared.inbox.Inbox.{Inbox}
 use Rattle.jr_kept.specs.Inbox.{HoldsBox, next_of}
@@ -21,7 +21,7 @@ use Rattle.conn_loop.specs.Conn.{Looks}
 use Rattle.turn_laws.specs.Standing.{Has}
 use Rattle.turn_laws.specs.Legs.{IsTimely}
 use Rattle.turn_laws.specs.Lives.{AllAreTurns, state_after, inbox_after}
-use Rattle.two_ends.specs.Loops.{LoopLife, machine_life, IsRefusedOn, legs_in, MayTurn}
+use Rattle.turn_laws.specs.LoopLives.{LoopLife, machine_life, IsRefusedOn, legs_in, MayTurn}
 use Rattle.conn_door.specs.declared.answer.ServeFault.{ServeFault}
 use Rattle.conn_door.specs.declared.answer.LifeEnd.{LifeEnd}
 use Rattle.conn_serve.specs.Connections.{Connection, turned, all_of, adds_of, refused_of_all}

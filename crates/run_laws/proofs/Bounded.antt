@@ -23,9 +23,9 @@ use Rattle.turn_laws.specs.Legs.{TurnedLeg, calls_on, AreTurnsOf, course_on, IsT
 use Rattle.turn_laws.specs.Lives.{AllAreTurns, legs_of, state_after, inbox_after}
 use Rattle.turn_laws.proofs.Going.{may_append, after_append}
 use Rattle.turn_laws.proofs.Running.{leg_stands}
-use Rattle.two_ends.specs.Meeting.{served_with, Refusal}
-use Rattle.two_ends.specs.Loops.{RefusedLeg, refused_leg, IsRefusedOn, last_leg}
-use Rattle.two_ends.proofs.Given.{calls_fit}
+use Rattle.turn_laws.specs.MachineLives.{served_with, Refusal}
+use Rattle.turn_laws.specs.LoopLives.{RefusedLeg, refused_leg, IsRefusedOn, last_leg}
+use Rattle.turn_laws.proofs.Given.{calls_fit}
 use Rattle.run_laws.specs.Pieces.{ImagesWithin}
 use Rattle.run_laws.proofs.Steady.{calls_keep_most}
 

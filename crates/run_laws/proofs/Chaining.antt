@@ -18,8 +18,9 @@ use Rattle.connection_laws.specs.Living.{Opens}
 use Rattle.connection_laws.specs.Ranges.{IsInRange}
 use Rattle.gw_links.specs.Links.{Carried}
 use Rattle.turn_laws.specs.Legs.{TurnedLeg}
-use Rattle.two_ends.specs.Meeting.{life_in}
-use Rattle.two_ends.specs.Loops.{LoopLife, machine_life, lives_of, legs_in, MayTurn}
+use Rattle.turn_laws.specs.MachineLives.{life_in}
+use Rattle.turn_laws.specs.LoopLives.{LoopLife, machine_life, legs_in, MayTurn}
+use Rattle.two_ends.specs.Loops.{lives_of}
 use Rattle.jr_dated.specs.declared.journal.Journal.{Ghosts}
 use Rattle.jr_record.specs.declared.record.Record.{Record}
 use Rattle.cmd_session.specs.Journals.{IsJournal, Leaves}

@@ -14,7 +14,8 @@ use Rattle.fixp_shake.specs.declared.config.Role.{Role}
 use Rattle.fixp_shake.specs.declared.config.Role.TheVariants.{Initiator, Acceptor}
 use Rattle.gw_links.specs.Links.{Carried}
 use Rattle.two_ends.specs.Meeting.{Holds}
-use Rattle.two_ends.specs.Loops.{LoopLife, lives_of, legs_in, MayTurn}
+use Rattle.turn_laws.specs.LoopLives.{LoopLife, legs_in, MayTurn}
+use Rattle.two_ends.specs.Loops.{lives_of}
 use Rattle.two_ends.proofs.Ends.{loops_hold}
 use Rattle.jr_dated.specs.declared.journal.Journal.{Ghosts}
 use Rattle.cmd_session.specs.Journals.{IsJournal}

@@ -10,8 +10,8 @@ use Rattle.fixp_machine.specs.Accepting.{model_flow}
 use Rattle.fixp_shake.specs.declared.config.EndConfig.{EndConfig}
 use Rattle.fixp_shake.specs.declared.config.Role.{Role}
 use Rattle.plan_text.specs.Plans.{HasPlans}
-use Rattle.two_ends.specs.Meeting.{life_in}
-use Rattle.two_ends.specs.Loops.{machine_life}
+use Rattle.turn_laws.specs.MachineLives.{life_in}
+use Rattle.turn_laws.specs.LoopLives.{machine_life}
 use Rattle.jr_dated.specs.declared.journal.Journal.{Ghosts}
 use Rattle.jr_record.specs.declared.record.Record.{Record}
 use Rattle.cmd_session.specs.Journals.{IsJournal}

@@ -33,8 +33,8 @@ use Rattle.connection_laws.specs.Living.{Opens}
 use Rattle.gw_links.specs.Links.{Carried}
 use Rattle.turn_laws.specs.Legs.{TurnedLeg, IsTimely, first_line}
 use Rattle.turn_laws.specs.Standing.{Has}
-use Rattle.two_ends.specs.Meeting.{life_in}
-use Rattle.two_ends.specs.Loops.{machine_life}
+use Rattle.turn_laws.specs.MachineLives.{life_in}
+use Rattle.turn_laws.specs.LoopLives.{machine_life}
 use Rattle.jr_dated.specs.declared.journal.Journal.{Ghosts}
 use Rattle.jr_dated.specs.Dated.{dated}
 use Rattle.jr_dated.specs.Images.{journal_size}

@@ -6,7 +6,7 @@ use Rattle.session_model.specs.Inbox.{InboxRecord, next_number}
 use Rattle.session_model.specs.Lives.{IsImage}
 use Rattle.fixp_msgs.specs.declared.flow.Flow.{Flow}
 use Rattle.fixp_shake.specs.declared.config.Role.{Role}
-use Rattle.two_ends.specs.Loops.{LoopLife, MayTurn}
+use Rattle.turn_laws.specs.LoopLives.{LoopLife, MayTurn}
 use Rattle.jr_boxes.specs.Outboxes.{record_of}
 use Rattle.jr_boxes.specs.Inboxes.{records_of_inbox}
 use Rattle.cmd_config.specs.declared.configuration.Link.{Link}

@@ -9,3 +9,5 @@ pub mod Adding
 pub mod Repacking
 pub mod Tailing
 pub mod Within
+pub mod Given
+pub mod Failing

@@ -32,6 +32,10 @@ pub record TurnedLeg : Type 0 where
   pub turns : List Turn
   pub cut : Option Turn
 
+-- the same with this turn behind its whole ones, in which it was cut short
+abbrev pub cut_leg : TurnedLeg → Turn → TurnedLeg
+cut_leg t turn = record { moment = t.moment; turns = t.turns; cut = Some turn }
+
 abbrev pub all_turns : TurnedLeg → List Turn
 all_turns t = t.turns ++ option_to_list t.cut
 

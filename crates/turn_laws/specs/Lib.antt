@@ -4,3 +4,6 @@ pub mod Legs
 pub mod Lives
 pub mod Made
 pub mod Turned
+pub mod Came
+pub mod MachineLives
+pub mod LoopLives

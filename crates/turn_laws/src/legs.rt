@@ -1,6 +1,7 @@
 //! Connections that are lists of turns, and lives of them.
 
 ghost use Rattle.turn_laws.specs.Legs.{TurnsRun, RefusedWaits, HeldAwaits, TriedAdds, SentAreWritten, GivenUpBegins};
+ghost use Rattle.turn_laws.specs.Came.{GivenCame};
 ghost use Rattle.turn_laws.specs.Lives.{TurnsServe, TurnsRefused, TurnsRefusedHeld, TurnsRefusedTail};
 
 /// A connection that is a list of turns may run, with the frames that the link took whole.
@@ -21,6 +22,11 @@ pub fn held_awaits()
 /// Behind a turn that was cut short calls may come that add what a failed call of the inbox's disk tried.
 pub fn tried_adds()
     ensures law { TriedAdds }
+{}
+
+/// The frames that came in the turns of a connection are the first of the bytes that the link gave.
+pub fn given_came()
+    ensures law { GivenCame }
 {}
 
 /// A life whose connections are lists of turns keeps on them what the session model asks of it.

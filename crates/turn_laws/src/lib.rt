@@ -8,8 +8,8 @@ mod promised;
 mod turns;
 
 pub use legs::{
-    given_up_begins, held_awaits, refused_waits, sent_are_written, tried_adds, turns_refused,
-    turns_refused_held, turns_refused_tail, turns_run, turns_serve,
+    given_came, given_up_begins, held_awaits, refused_waits, sent_are_written, tried_adds,
+    turns_refused, turns_refused_held, turns_refused_tail, turns_run, turns_serve,
 };
 pub use promised::{cut_is_one, turn_is_one};
 pub use turns::{cut_adds, cut_may_stand, turn_adds, turn_may_stand};

@@ -19,8 +19,9 @@ use Rattle.connection_laws.proofs.Living.{opening_on}
 use Rattle.turn_laws.specs.Legs.{TurnedLeg, IsTimely}
 use Rattle.turn_laws.specs.Lives.{legs_of}
 use Rattle.turn_laws.proofs.Running.{all_run}
-use Rattle.two_ends.specs.Meeting.{life_in}
-use Rattle.two_ends.specs.Loops.{LoopLife, RefusedLeg, machine_life, lives_of, legs_in, MayTurn, LinkedLinks, no_more, paired}
+use Rattle.turn_laws.specs.MachineLives.{life_in}
+use Rattle.turn_laws.specs.LoopLives.{LoopLife, RefusedLeg, machine_life, legs_in, MayTurn}
+use Rattle.two_ends.specs.Loops.{lives_of, LinkedLinks, no_more, paired}
 use Rattle.two_ends.proofs.Ends.{loops_hold}
 use Rattle.two_ends.specs.Driving.{Beginning}
 use Rattle.two_ends.specs.Pairing.{ReadEachOther}

@@ -22,7 +22,7 @@ use Rattle.connection_laws.proofs.Living.{behind}
 use Rattle.connection_laws.specs.Ranges.{IsInRange}
 use Rattle.connection_laws.specs.LegalLaws.{StaysLegal}
 use Rattle.connection_laws.proofs.Written.{written_is_legal}
-use Rattle.two_ends.specs.Hearing.{came, AreFirstOf}
+use Rattle.turn_laws.specs.Came.{came, AreFirstOf}
 use Rattle.two_ends.specs.Meeting.{Run, heard_in, TookWhole, ReadsFrom, LinkedByBytes, runs_on, last_run, runs_of, MayRefuse, MayLive}
 use Rattle.two_ends.specs.Meeting
 use Rattle.two_ends.proofs.Sessions.{session_of_ends, ends_hold}
@@ -30,9 +30,10 @@ use Rattle.turn_laws.specs.Legs.{TurnedLeg, IsTimely, calls_on, AreTurnsOf, give
 use Rattle.turn_laws.specs.Lives.{AllAreTurns, legs_of, state_after, inbox_after}
 use Rattle.turn_laws.proofs.Running.{leg_stands, turns_run, all_run}
 use Rattle.turn_laws.proofs.Sent.{sent_are_written}
-use Rattle.two_ends.specs.Loops.{RefusedLeg, LoopLife, refused_leg, machine_life, IsRefusedOn, MayTurn, last_leg, legs_in, ReadsOf, LinkedLinks, machine_end, no_more, left_alone, right_alone, paired}
+use Rattle.turn_laws.specs.LoopLives.{RefusedLeg, LoopLife, refused_leg, machine_life, IsRefusedOn, MayTurn, last_leg, legs_in}
+use Rattle.two_ends.specs.Loops.{ReadsOf, LinkedLinks, machine_end, no_more, left_alone, right_alone, paired}
 use Rattle.two_ends.specs.LoopLaws.{LoopsAreEnds, LoopsAreASession, LoopsHold}
-use Rattle.two_ends.proofs.Given.{given_are_bytes, given_came, calls_fit}
+use Rattle.turn_laws.proofs.Given.{given_are_bytes, given_came, calls_fit}
 use Rattle.two_ends.proofs.Whole.{sent_are_whole}
 
 -- a run of the machine is these turns, begins where it may, and is in range

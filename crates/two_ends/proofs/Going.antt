@@ -25,9 +25,10 @@ use Rattle.turn_laws.proofs.Running.{TurnsStand, turns_stand, begin_stands, leg_
 use Rattle.turn_laws.proofs.Adding.{turn_adds}
 use Rattle.turn_laws.proofs.Adding.{cut_adds}
 use Rattle.turn_laws.proofs.Sent.{given_up_begins}
-use Rattle.two_ends.specs.Driving.{EndNow, Beginning, Awaits, WereMade, machine_behind, list_behind, with_turn, cut_leg, IsBetween, IsDuring}
+use Rattle.two_ends.specs.Driving.{EndNow, Beginning, Awaits, WereMade, machine_behind, list_behind, with_turn, IsBetween, IsDuring}
+use Rattle.turn_laws.specs.Legs.{cut_leg}
 use Rattle.two_ends.specs.Stories.{IsOver, life_of, served_by}
-use Rattle.two_ends.proofs.Failing.{FailsOn, failed_leg, fails_on}
+use Rattle.turn_laws.proofs.Failing.{FailsOn, failed_leg, fails_on}
 use Rattle.two_ends.specs.DrivingLaws.{LegBegins, TurnGoesOn, LegEnds, CutEnds, LifeEnds, LifeFails}
 
 -- ---- lists of turns, and of connections

@@ -25,7 +25,8 @@ use Rattle.connection_laws.specs.Standing.{Stands, MayStand, AllMayStand}
 use Rattle.connection_laws.proofs.Going.{call_keeps, calls_keep, connection_begins}
 use Rattle.two_ends.specs.Reading.{ReadsAs}
 use Rattle.two_ends.specs.Refusing.{Refusal, without_event, rejected, ended, closing, IsDeaf}
-use Rattle.two_ends.specs.Hearing.{came_by, came, AreFirstOf, TakesFrom, LinkedBytes}
+use Rattle.turn_laws.specs.Came.{came_by, came, AreFirstOf}
+use Rattle.two_ends.specs.Hearing.{TakesFrom, LinkedBytes}
 use Rattle.two_ends.proofs.Cutting.{written_is_read, event_is_carried}
 use Rattle.two_ends.proofs.Refused.{refusal_ends, closing_is_deaf}
 use Rattle.two_ends.proofs.Deaf.{deaf_step, stays_deaf, none_accepted}

@@ -4,11 +4,9 @@ pub mod Deaf
 pub mod Heard
 pub mod Sessions
 pub mod Sampled
-pub mod Given
 pub mod Whole
 pub mod Ends
 pub mod LoopSampled
-pub mod Failing
 pub mod Going
 pub mod Moving
 pub mod Driven

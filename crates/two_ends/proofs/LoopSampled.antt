@@ -19,12 +19,13 @@ use Rattle.connection_laws.specs.Writing.{said, bytes_written}
 use Rattle.connection_laws.specs.Samples.{sample_config}
 use Rattle.connection_laws.proofs.Framing.{is_session, frame_of_message}
 use Rattle.connection_laws.specs.Ranges.{IsInRange}
-use Rattle.two_ends.specs.Meeting.{life_in}
+use Rattle.turn_laws.specs.MachineLives.{life_in}
 use Rattle.two_ends.specs.Samples.{acceptor, opening, answer}
 use Rattle.two_ends.proofs.Sampled.{opening_is_legal, answer_is_legal, are_bytes, sends_nothing, nothing_left}
 use Rattle.turn_laws.specs.Turns.{Sends, line_received, Works}
 use Rattle.turn_laws.specs.Legs.{first_line, AreTurnsOf, given_in, given_on, moment_of, IsTimelyTurn}
-use Rattle.two_ends.specs.Loops.{machine_life, no_more, paired}
+use Rattle.turn_laws.specs.LoopLives.{machine_life}
+use Rattle.two_ends.specs.Loops.{no_more, paired}
 use Rattle.two_ends.specs.LoopSamples.{nothing, frame_of, hears, leg_a, leg_b, begins, life_on_leg, TurnsSample}
 
 -- what a turn that worked leaves, before and behind its sending

@@ -22,8 +22,10 @@ use Rattle.connection_laws.specs.Writing.{Piece, said, bytes_written}
 use Rattle.connection_laws.specs.Courses.{Course}
 use Rattle.connection_laws.specs.Samples.{sample_config}
 use Rattle.two_ends.specs.Reading.{incoming_of, ReadsAs}
-use Rattle.two_ends.specs.Hearing.{came, AreFirstOf, CameFrom}
-use Rattle.two_ends.specs.Meeting.{TookWhole, no_more, paired, life_in}
+use Rattle.turn_laws.specs.Came.{came, AreFirstOf}
+use Rattle.two_ends.specs.Hearing.{CameFrom}
+use Rattle.two_ends.specs.Meeting.{TookWhole, no_more, paired}
+use Rattle.turn_laws.specs.MachineLives.{life_in}
 use Rattle.two_ends.specs.Samples.{acceptor, opening, answer, leg_a, leg_b, life_on_leg, course_on, HandshakeSample}
 use Rattle.two_ends.proofs.Cutting.{all_is_read}
 

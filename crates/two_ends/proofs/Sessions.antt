@@ -24,8 +24,10 @@ use Rattle.connection_laws.specs.Living.{Leg, course_of, MayRun, AllMayRun, stat
 use Rattle.connection_laws.specs.Connections.{connection_of}
 use Rattle.connection_laws.proofs.Living.{ran, behind, life_serves, life_refused_tail}
 use Rattle.two_ends.specs.Reading.{AreRead}
-use Rattle.two_ends.specs.Hearing.{came, AreFirstOf, TakesFrom}
-use Rattle.two_ends.specs.Meeting.{Refusal, IsRefusedAt, refused_of, Run, course_in, calls_behind, heard_in, accepted_in, connection_in, MayBegin, ReadsFrom, no_more, left_alone, right_alone, paired, LinksHold, Refused, MachineLife, served_with, life_in, runs_on, last_run, runs_of, MayRefuse, MayLive, end_in, SessionOfEnds, Holds, EndsHold}
+use Rattle.turn_laws.specs.Came.{came, AreFirstOf}
+use Rattle.two_ends.specs.Hearing.{TakesFrom}
+use Rattle.turn_laws.specs.MachineLives.{Refusal, IsRefusedAt, refused_of, Refused, MachineLife, served_with, life_in}
+use Rattle.two_ends.specs.Meeting.{Run, course_in, calls_behind, heard_in, accepted_in, connection_in, MayBegin, ReadsFrom, no_more, left_alone, right_alone, paired, LinksHold, runs_on, last_run, runs_of, MayRefuse, MayLive, end_in, SessionOfEnds, Holds, EndsHold}
 use Rattle.turn_laws.proofs.Going.{after_append, may_append}
 use Rattle.two_ends.proofs.Cutting.{written_is_read}
 use Rattle.two_ends.proofs.Heard.{events_begin, heard_from}

@@ -1,5 +1,5 @@
 -- One life of an end over connections that are made turn by turn, as it has come to so far (this project's profile).
-use Rattle.std.specs.Prelude.{◌≡◌, ℕ, ◌≤◌, List, [], ◌∷◌, ◌++◌, length, None, Some}
+use Rattle.std.specs.Prelude.{◌≡◌, ℕ, ◌≤◌, List, [], ◌∷◌, ◌++◌, length, None}
 use Rattle.std.specs.List.{AllByRecursion}
 use Rattle.session_model.specs.Journal.{Entry, History, OutboxRecord}
 use Rattle.session_model.specs.Inbox.{InboxRecord, next_number}
@@ -46,10 +46,6 @@ begun_leg now = record { moment = now; turns = []; cut = None }
 
 abbrev pub with_turn : TurnedLeg → Turn → TurnedLeg
 with_turn t turn = record { moment = t.moment; turns = t.turns ++ turn ∷ []; cut = t.cut }
-
--- and one that was cut short in this turn
-abbrev pub cut_leg : TurnedLeg → Turn → TurnedLeg
-cut_leg t turn = record { moment = t.moment; turns = t.turns; cut = Some turn }
 
 -- Connections of a life, one behind another, over an outbox with these entries: they are turns, and all over. A connection that begins now begins
 -- as behind them, and the inbox holds what they add

@@ -14,7 +14,8 @@ use Rattle.turn_laws.specs.Turns.{line_received, IsTurn, IsCutShort, adds_in, ad
 use Rattle.turn_laws.specs.Standing.{Has}
 use Rattle.turn_laws.specs.Legs.{TurnedLeg, first_line, given_in, sent_in, IsTimelyTurn}
 use Rattle.two_ends.specs.Meeting.{Holds}
-use Rattle.two_ends.specs.Driving.{EndNow, Beginning, Awaits, begun_leg, with_turn, cut_leg, Between, During}
+use Rattle.two_ends.specs.Driving.{EndNow, Beginning, Awaits, begun_leg, with_turn, Between, During}
+use Rattle.turn_laws.specs.Legs.{cut_leg}
 use Rattle.two_ends.specs.Pairing.{ReadEachOther, UnderWay, Carries}
 use Rattle.two_ends.specs.Stories.{IsOver, Story}
 

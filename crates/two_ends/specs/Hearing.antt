@@ -1,33 +1,19 @@
 -- What an end accepts on a connection, of the bytes that the other wrote on it.
-use Rattle.std.specs.Prelude.{◌≡◌, ⊤, ℕ, ◌≤◌, List, [], ◌∷◌, ◌++◌, length, Some}
-use Rattle.std.specs.List.{flat_map, AllByRecursion}
+use Rattle.std.specs.Prelude.{◌≡◌, ℕ, ◌≤◌, List, ◌++◌, length, Some}
+use Rattle.std.specs.List.{AllByRecursion}
 use mathlib.Core.List.{IsPrefix}
-use Rattle.sofh_frame.specs.Framing.{Frame, IsBytes}
+use Rattle.sofh_frame.specs.Framing.{IsBytes}
 use Rattle.sofh_frame.specs.Splits.{frames_of}
 use Rattle.session_model.specs.Journal.{Entry}
 use Rattle.session_model.specs.Inbox.{InboxRecord, next_number}
 use Rattle.session_model.specs.Events.{Event}
 use Rattle.session_model.specs.Lives.{TakenFrom}
-use Rattle.fixp_replies.specs.Incoming.{Incoming, IsIncoming}
-use Rattle.fixp_machine.specs.Machine.{State, Call, frame}
+use Rattle.fixp_machine.specs.Machine.{State, Call}
 use Rattle.connection_laws.specs.Writing.{Piece, bytes_written, events_written}
 use Rattle.connection_laws.specs.Framed.{IsLegalPiece}
 use Rattle.connection_laws.specs.Courses.{Waiting, Course, beginning, reply_to, accepted_by, course_after}
 use Rattle.connection_laws.specs.Standing.{AllMayStand}
-
--- the messages of the frames that came on a connection, in order
-abbrev pub came_by : Call → List Incoming
-came_by (frame incoming at now) = incoming ∷ []
-came_by _ = []
-
-abbrev pub came : List Call → List Incoming
-came calls = flat_map came_by calls
-
--- messages are those of the first of some frames, in order
-abbrev pub AreFirstOf : List Incoming → List Frame → Type 0
-AreFirstOf [] frames = ⊤
-AreFirstOf (i ∷ later) [] = ⊥
-AreFirstOf (i ∷ later) (f ∷ frames) = IsIncoming f.order f.message i × AreFirstOf later frames
+use Rattle.turn_laws.specs.Came.{came, AreFirstOf}
 
 -- the frames that came are the first of bytes that were read, and those are a beginning of what the peer wrote
 pub record CameFrom (written : List ℕ) (calls : List Call) : Type 0 where

@@ -1,19 +1,14 @@
 -- What two ends that run the loop hold of each other.
 use Rattle.std.specs.Prelude.{◌≡◌, ◌≤◌, List, length}
-use Rattle.sofh_frame.specs.Splits.{frames_of}
 use Rattle.session_model.specs.Journal.{Entry, entries}
 use Rattle.session_model.specs.Inbox.{InboxRecord, next_number}
 use Rattle.session_model.specs.Guarantee.{OneEnd, Session}
 use Rattle.fixp_msgs.specs.declared.flow.Flow.{Flow}
 use Rattle.fixp_machine.specs.Machine.{State}
-use Rattle.two_ends.specs.Hearing.{came, AreFirstOf}
 use Rattle.two_ends.specs.Meeting.{TookWhole, TwoEnds, end_in, Holds}
-use Rattle.turn_laws.specs.Legs.{TurnedLeg, calls_on, AreTurnsOf, given_on, sent_on, course_on, leg_of}
-use Rattle.two_ends.specs.Loops.{LoopLife, TwoLoops, machine_end}
-
--- the frames that came in the turns of a connection are the first of the bytes that the link gave
-abbrev pub GivenCame : Type 0
-GivenCame = (h : List Entry) (s : State) (t : TurnedLeg) → AreTurnsOf h s t → AreFirstOf (came (calls_on t)) (frames_of (given_on t))
+use Rattle.turn_laws.specs.Legs.{TurnedLeg, AreTurnsOf, sent_on, course_on, leg_of}
+use Rattle.turn_laws.specs.LoopLives.{LoopLife}
+use Rattle.two_ends.specs.Loops.{TwoLoops, machine_end}
 
 -- the frames that are said to be taken whole are those whose bytes the link took
 abbrev pub SentAreWhole : Type 0

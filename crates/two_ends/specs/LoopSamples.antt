@@ -17,7 +17,8 @@ use Rattle.conn_turns.specs.Turns.{Work, only_sends, works}
 use Rattle.connection_laws.specs.Samples.{sample_config}
 use Rattle.two_ends.specs.Samples.{acceptor, recorded, opening, answer}
 use Rattle.turn_laws.specs.Legs.{TurnedLeg, course_on}
-use Rattle.two_ends.specs.Loops.{LoopLife, TwoLoops}
+use Rattle.turn_laws.specs.LoopLives.{LoopLife}
+use Rattle.two_ends.specs.Loops.{TwoLoops}
 
 -- no entry was made, and the flow is not finished
 abbrev pub nothing : History

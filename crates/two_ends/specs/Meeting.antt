@@ -1,13 +1,13 @@
 -- Two ends over their lives, whose connections are linked by the bytes that went over them.
-use Rattle.std.specs.Prelude.{◌≡◌, ℕ, ◌≤◌, Bool, List, [], ◌∷◌, ◌++◌, map, flat_map, length, Option, Some, None, IfSome}
+use Rattle.std.specs.Prelude.{◌≡◌, ℕ, ◌≤◌, List, [], ◌∷◌, ◌++◌, map, flat_map, length, Option, Some, None, IfSome}
 use Rattle.std.specs.List.{AllByRecursion}
 use mathlib.Core.List.{IsPrefix}
-use Rattle.session_model.specs.Journal.{Entry, OutboxRecord, entries}
+use Rattle.session_model.specs.Journal.{Entry, entries}
 use Rattle.session_model.specs.Inbox.{InboxRecord, next_number, applied, skips}
 use Rattle.session_model.specs.Events.{Event}
 use Rattle.session_model.specs.Growth as model
 use Rattle.session_model.specs.Growth.{AppliesPrefix, SettlesOnce, DeliversRising}
-use Rattle.session_model.specs.Lives.{Connection, Served, Life, served_on, KeepsOutbox, Chained, Linked}
+use Rattle.session_model.specs.Lives.{Connection, Life, KeepsOutbox, Chained, Linked}
 use Rattle.session_model.specs.Guarantee.{OneEnd, Session}
 use Rattle.fixp_msgs.specs.declared.flow.Flow.{Flow}
 use Rattle.fixp_msgs.specs.declared.flow.Flow.TheVariants as flows
@@ -17,22 +17,11 @@ use Rattle.connection_laws.specs.Writing.{Piece, bytes_written}
 use Rattle.connection_laws.specs.Framed.{IsLegalPiece}
 use Rattle.connection_laws.specs.Courses.{Course, inbox_of, beginning, course_after}
 use Rattle.connection_laws.specs.Standing.{AllMayStand}
-use Rattle.connection_laws.specs.Connections.{connection_of, AddsBehind, refused_tail}
-use Rattle.connection_laws.specs.Living.{Leg, course_of, MayRun, AllMayRun, state_behind, inbox_behind, life_on, Opens}
-use Rattle.two_ends.specs.Hearing.{came, CameFrom}
-
--- what a call that failed was to make stable, all together, and the calls of the machine that add it
-pub record Refusal : Type 0 where
-  pub calls : List Call
-  pub tried : List InboxRecord
-
--- a connection has come to such a call, over an outbox with these entries
-abbrev pub IsRefusedAt : List Entry → Course → Refusal → Type 0
-IsRefusedAt h c q = AddsBehind h c q.calls q.tried
-
--- what a life served on it
-abbrev pub refused_of : Course → Refusal → List Piece → Bool → Served
-refused_of c q whole drained = refused_tail c (course_after c q.calls) q.tried whole drained
+use Rattle.connection_laws.specs.Connections.{connection_of}
+use Rattle.connection_laws.specs.Living.{Leg, course_of, MayRun, AllMayRun, state_behind, inbox_behind, Opens}
+use Rattle.turn_laws.specs.Came.{came}
+use Rattle.turn_laws.specs.MachineLives.{Refusal, IsRefusedAt, Refused, MachineLife, life_in}
+use Rattle.two_ends.specs.Hearing.{CameFrom}
 
 -- One connection of the machine: over an outbox with these entries it begins in this state, over this inbox. Where a call of the
 -- inbox's disk failed on it, this is what it tried
@@ -97,34 +86,6 @@ pub data LinkedByBytes : List Run → List Run → Type 0 where
 abbrev pub LinksHold : Type 0
 LinksHold = (as' bs : List Run) → AllByRecursion MayBegin as' → AllByRecursion MayBegin bs → LinkedByBytes as' bs
     → Linked (map connection_in as') (map connection_in bs)
-
--- a last connection of a life, on which such a call failed
-pub record Refused : Type 0 where
-  pub leg : Leg
-  pub refusal : Refusal
-
--- a life of the machine: its outbox, the state and the inbox on which it opened, its connections, and such a last one, if any
-pub record MachineLife : Type 0 where
-  pub opening_outbox : List OutboxRecord
-  pub closing_outbox : List OutboxRecord
-  pub refused_outbox : List OutboxRecord
-  pub state : State
-  pub inbox : List InboxRecord
-  pub legs : List Leg
-  pub last : Option Refused
-
--- what it served
-abbrev pub served_with : Served → State → List InboxRecord → Option Refused → Served
-served_with served s inbox None = served
-served_with served s inbox (Some r) = served_on served (refused_of (course_of s inbox r.leg) r.refusal r.leg.whole r.leg.drained)
-
-abbrev pub life_in : MachineLife → Life
-life_in l = record {
-  opening_outbox = l.opening_outbox;
-  closing_outbox = l.closing_outbox;
-  refused_outbox = l.refused_outbox;
-  served = served_with (life_on l.state l.inbox l.legs) (state_behind l.state l.inbox l.legs) (inbox_behind l.state l.inbox l.legs) l.last;
-}
 
 -- its connections, one behind another
 abbrev pub runs_on : List Entry → State → List InboxRecord → List Leg → List Run

@@ -17,7 +17,8 @@ use Rattle.connection_laws.specs.Writing.{said}
 use Rattle.connection_laws.specs.Courses.{Course}
 use Rattle.connection_laws.specs.Living.{Leg, course_of}
 use Rattle.connection_laws.specs.Samples.{id, sample_config}
-use Rattle.two_ends.specs.Meeting.{MachineLife, TwoEnds}
+use Rattle.turn_laws.specs.MachineLives.{MachineLife}
+use Rattle.two_ends.specs.Meeting.{TwoEnds}
 
 -- the acceptor of that session, with the flows of the initiator turned round
 abbrev pub acceptor : EndConfig

@@ -9,8 +9,8 @@ use Rattle.fixp_msgs.specs.Payload.{IsApplication}
 use Rattle.fixp_msgs.specs.declared.flow.Flow.{Flow}
 use Rattle.connection_laws.specs.Ranges.{IsInRange}
 use Rattle.turn_laws.specs.Legs.{TurnedLeg, IsTimely}
-use Rattle.two_ends.specs.Meeting.{life_in}
-use Rattle.two_ends.specs.Loops.{LoopLife, RefusedLeg, IsRefusedOn, machine_life, legs_in}
+use Rattle.turn_laws.specs.MachineLives.{life_in}
+use Rattle.turn_laws.specs.LoopLives.{LoopLife, RefusedLeg, IsRefusedOn, machine_life, legs_in}
 use Rattle.two_ends.specs.Driving.{Beginning, Awaits, WereMade, machine_behind, list_behind}
 
 -- the life of the loop that began so, left its outbox with these records, and had these connections; and what it served

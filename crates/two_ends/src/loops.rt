@@ -1,11 +1,6 @@
 //! What went over the links of two ends, and what these hold of each other.
 
-ghost use Rattle.two_ends.specs.LoopLaws.{GivenCame, SentAreWhole, LoopsAreEnds, LoopsAreASession, LoopsHold};
-
-/// The frames that came in the turns of a connection are the first of the bytes that the link gave.
-pub fn given_came()
-    ensures law { GivenCame }
-{}
+ghost use Rattle.two_ends.specs.LoopLaws.{SentAreWhole, LoopsAreEnds, LoopsAreASession, LoopsHold};
 
 /// The frames that are said to be taken whole are those whose bytes the link took.
 pub fn sent_are_whole()

@@ -18,11 +18,11 @@ use Rattle.conn_turns.specs.Lines.{Line, TakenFrame, size_of, frame_calls, IsNex
 use Rattle.conn_turns.specs.Turns.{Work, Turn, only_sends, works, link_lost, cut_short, not_begun, first_calls, calls_of_frames, closing_calls, outbox_calls, sending_calls, calls_of, Refusal, of_act, of_held, refused_calls}
 use Rattle.connection_laws.specs.Ranges.{IsInTime, FitsIncoming, FitsCall}
 use Rattle.connection_laws.proofs.Spelled.{spelled_fits}
-use Rattle.two_ends.specs.Hearing.{came_by, came, AreFirstOf}
+use Rattle.turn_laws.specs.Came.{came_by, came, AreFirstOf}
 use Rattle.turn_laws.specs.Turns.{line_received, IsTurn, IsCut}
 use Rattle.turn_laws.specs.Legs.{AreTurns, TurnedLeg, first_line, all_turns, AreTurnsOf, calls_on, given_in, given_on, moment_of, IsTimelyTurn, IsTimely}
 use Rattle.turn_laws.proofs.Each.{closing_all, outbox_all}
-use Rattle.two_ends.specs.LoopLaws.{GivenCame}
+use Rattle.turn_laws.specs.Came.{GivenCame}
 
 -- a call by which no frame came
 abbrev IsQuiet : Call → Type 0

@@ -23,10 +23,10 @@ use Rattle.turn_laws.specs.Standing.{StandsAt, Has}
 use Rattle.turn_laws.specs.Legs.{AreTurns, TurnedLeg, calls_on, given_in, given_on, first_line, AreTurnsOf, FurtherCalls, IsTimelyTurn, IsTimely, course_on}
 use Rattle.turn_laws.proofs.Going.{after_append}
 use Rattle.turn_laws.proofs.Tailing.{tried_adds}
-use Rattle.two_ends.specs.Hearing.{came, AreFirstOf}
-use Rattle.two_ends.specs.Loops.{RefusedLeg, IsRefusedOn}
-use Rattle.two_ends.specs.Driving.{cut_leg}
-use Rattle.two_ends.proofs.Given.{given_came, came_append, calls_fit}
+use Rattle.turn_laws.specs.Came.{came, AreFirstOf}
+use Rattle.turn_laws.specs.LoopLives.{RefusedLeg, IsRefusedOn}
+use Rattle.turn_laws.specs.Legs.{cut_leg}
+use Rattle.turn_laws.proofs.Given.{given_came, came_append, calls_fit}
 
 -- messages that are the first of frames with others behind them are so without
 first_of_more : (is more : List Incoming) (fs : List Frame) → AreFirstOf (is ++ more) fs → AreFirstOf is fs
