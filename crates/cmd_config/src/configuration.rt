@@ -105,9 +105,12 @@ fn allows_book(desks: u8, book: bool) -> bool
     !book || desks == 1
 }
 
-/// The credentials, none where the key is absent.
+/// The credentials, at most 2,048 bytes; none where the key is absent.
+///
+/// # Errors
+/// `WrongKind` and `Range` with the key, and `Memory`.
 #[tactic(auto, using(crate::proofs::Readings::credentials_le))]
-fn read_credentials(alloc: Global, keys: &Value) -> Result<Bytes, TomlFault>
+pub fn read_credentials(alloc: Global, keys: &Value) -> Result<Bytes, TomlFault>
     ensures value { Reads result (get_or_default (codes "credentials") [] credentials_of (view keys.now)) }
     ensures short { IfOk result (λ bytes. length bytes ≤ 2048) }
 {

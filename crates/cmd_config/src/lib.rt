@@ -9,11 +9,12 @@ mod purpose;
 mod readers;
 mod settings;
 
-pub use configuration::{Configuration, Link, Trade, read_configuration};
+pub use configuration::{Configuration, Link, Trade, read_configuration, read_credentials};
 pub use fixp_shake::Role;
 pub use laws::{configurations_keep_the_role, unknown_key_is_least};
 pub use limits::{
     DESKS, FLOW_WORDS, KEEPALIVE, ORDER_VERSION, REFERENCE, Range, SENDERS, SESSION_VERSION,
 };
 pub use purpose::{Purpose, own_flow, peer_flow, role_of};
+pub use readers::{Flows, Sessions};
 pub use settings::{Settings, read_settings};

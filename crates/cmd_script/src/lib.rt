@@ -2,7 +2,6 @@
 //! It stands on the walk over keys and on the configuration of a session, whose first keys it has too.
 #![tactic(auto)]
 
-mod readers;
 mod script;
 mod steps;
 

@@ -1,25 +1,25 @@
 //! The script itself: its keys, with what is asked of several of them.
 
-ghost use Rattle.std.specs.Prelude.{◌≡◌, ◌<◌, ◌≤◌, codes, [], length, replicate, All, IfOk, Err, false};
+ghost use Rattle.std.specs.Prelude.{◌≡◌, ◌<◌, ◌≤◌, length, replicate, All, IfOk, Err, false};
 ghost use Rattle.toml.specs.View.{view};
-ghost use Rattle.toml_walk.specs.Keys.{get_or_default};
 ghost use Rattle.toml_walk.specs.Reading.{Reads};
 ghost use Rattle.schema_toml.specs.Faults.{Tells, text_limit};
-ghost use Rattle.cmd_config.specs.Settings.{IsLinkInRange, credentials_of, ensure_in_range, is_none};
+ghost use Rattle.cmd_config.specs.Settings.{IsLinkInRange, ensure_in_range, is_none};
 ghost use Rattle.cmd_script.specs.Script.{IsCount, IsLoadInRange, IsScript, allows_desks, allows_messages, link_of, load_of, messages_of, script_of, script_of_document, script_of_text, steps_of};
 
-use crate::readers::{Credentials, Flows, Sessions};
 use crate::steps::{StepReader, Steps};
-use cmd_config::{DESKS, KEEPALIVE, Link, ORDER_VERSION, REFERENCE, Range, SENDERS};
+use cmd_config::{
+    DESKS, Flows, KEEPALIVE, Link, ORDER_VERSION, REFERENCE, Range, SENDERS, Sessions,
+    read_credentials,
+};
 use fixp_msgs::Flow;
 use lists::List;
-use sbe_value::Bytes;
 use schema_toml::{ConfigFault, TEXT_LIMIT};
 use std::alloc::{AllocError, Global};
 use toml::Value;
 use toml_walk::{
-    TomlFault, deny_unknown_keys, get_or_default, list_or_empty, natural_at, natural_or,
-    out_of_range, read_document, required,
+    TomlFault, deny_unknown_keys, list_or_empty, natural_at, natural_or, out_of_range,
+    read_document, required,
 };
 
 /// The messages of each sender, and of all senders together at most.
@@ -96,15 +96,6 @@ fn allows_desks(server: Flow, desks: u64) -> bool
     } else {
         !is_none(server)
     }
-}
-
-/// The credentials, none where the key is absent.
-#[tactic(auto, using(crate::proofs::Readings::credentials_le))]
-fn read_credentials(alloc: Global, keys: &Value) -> Result<Bytes, TomlFault>
-    ensures value { Reads result (get_or_default (codes "credentials") [] credentials_of (view keys.now)) }
-    ensures short { IfOk result (λ bytes. length bytes ≤ 2048) }
-{
-    get_or_default::<Credentials>(alloc, (), keys, "credentials", Bytes::new(alloc))
 }
 
 /// The keys of the session itself.
