@@ -21,7 +21,7 @@ ghost use Rattle.cmd_session.specs.Lived.{over_boxes, IsOfLife, BeganNone};
 ghost use Rattle.cmd_feed.specs.Fed.{refusal_of, status_of_feeding, streams, HasLivedFed};
 
 use cmd_base::Status;
-use cmd_session::{Live, made_gate, status_of};
+use cmd_session::{Live, MOST, made_gate, status_of};
 use conn_door::answer_of;
 use conn_fed::{Fed, serve_feeding};
 use conn_feed::{FeedEnd, Feeder};
@@ -39,9 +39,6 @@ use std::alloc::{AllocError, Global};
 use std::sync::Wait;
 use std::sync::atomic::AtomicBool;
 use std::thread::Threads;
-
-/// The greatest number of a message.
-const MOST: u64 = 1 << 26;
 
 /// An empty plan for each of so many senders, since what they send comes as lines; and room for their seats.
 type Places<O> = (Vec<Plan>, Vec<Sender<O>>);
