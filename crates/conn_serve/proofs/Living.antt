@@ -43,7 +43,7 @@ use Rattle.conn_serve.specs.Connections.{IsOver, ByClock, Connection, IsFaithful
 use Rattle.conn_serve.specs.Lines.{news_lines, close_line, lines_from}
 use Rattle.conn_serve.specs.Causes.{lacks_at, Tells, TellsUntil, TellsNews, AreLate, TellsAll}
 use Rattle.conn_serve.specs.Turned.{TurnedOn, GivenUpOn, MayBegin}
-use Rattle.conn_serve.specs.Served.{IsNext, AllCame, carried_by, IsTold, IsNextLink, IsLifeAnswer, lacks_lines, IsRoundOf, ServedLife, ServedOver, Lived, EndedOne, GaveOneUp, MadeNone, IsRound}
+use Rattle.conn_serve.specs.Served.{IsNext, AllCame, carried_by, IsTold, IsNextLink, IsLifeAnswer, lacks_lines, IsRoundOf, ServedLife, ServedOver, EndedOne, GaveOneUp, MadeNone, IsRound}
 use Rattle.conn_serve.proofs.Turning.{lines_on, tells_all, no_more}
 use Rattle.conn_serve.specs.Moments.{LifeAt, connection_at, life_at}
 
@@ -229,6 +229,17 @@ module _ {J : Type 0} {G : Ghosts J} where
     same_machine = refl;
     same_box = gains_none box box refl;
   }
+
+  -- connections that ended so far, each followed by the next
+  pub record Lived (told : Type 0) (old new : LifeAt J G) (m m' : State) (ended : List Connection) : Type 0 where
+    pub were : AllEnded old.seen new.seen m m' ended
+    pub gains : Gains old.box new.box (adds_of ended)
+    pub lines : Appends old.out new.out (lines_from 1 ended)
+    pub came : AllCame old.dialed new.dialed (carried_by ended)
+    pub tells : IsTrue (is_some old.dialed) → All IsTold ended
+    pub timely : AllByRecursion IsTimely (turned ended)
+    pub faithful : told → AllByRecursion IsFaithfulLeg (turned ended)
+    pub followed : All IsFollowed ended
 
   -- ---- a life so far: the connection of the number n is next
 

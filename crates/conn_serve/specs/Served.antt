@@ -148,17 +148,6 @@ module _ {J : Type 0} {G : Ghosts J} where
     pub links : AllByRecursion (λ (c : Connection). IsOver G' c.link) (all_of life.ended life.given_up)
     pub clock : ByClock before behind (all_of life.ended life.given_up)
 
-  -- connections that ended so far, each followed by the next
-  pub record Lived (told : Type 0) (old new : LifeAt J G) (m m' : State) (ended : List Connection) : Type 0 where
-    pub were : AllEnded old.seen new.seen m m' ended
-    pub gains : Gains old.box new.box (adds_of ended)
-    pub lines : Appends old.out new.out (lines_from 1 ended)
-    pub came : AllCame old.dialed new.dialed (carried_by ended)
-    pub tells : IsTrue (is_some old.dialed) → All IsTold ended
-    pub timely : AllByRecursion IsTimely (turned ended)
-    pub faithful : told → AllByRecursion IsFaithfulLeg (turned ended)
-    pub followed : All IsFollowed ended
-
   -- the connection of the number n ended so, and this is known of it
   pub record EndedOne (told : Type 0) (known : Option Connection → Type 0) (n : ℕ) (lacking : Bool) (old new : LifeAt J G) (m m' : State) (close : Close) : Type 0 where
     pub connection : Connection

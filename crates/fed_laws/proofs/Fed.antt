@@ -21,7 +21,8 @@ use Rattle.conn_feed.specs.Ends.{Point, Answered, MayBeLast, FinishedBy}
 use Rattle.conn_feed.proofs.Coming.{entries_append}
 use Rattle.conn_feed.proofs.Moving.{at_seat}
 use Rattle.conn_fed.specs.Fed.{IsMarked}
-use Rattle.life_laws.specs.Plans.{plan_in, IsAllMade, LosesMessages}
+use Rattle.life_laws.specs.Plans.{plan_in}
+use Rattle.gate_business.specs.Made.{IsAllMade, LosesMessages}
 use Rattle.life_laws.proofs.Senders.{PartMade, part_still, EachMade, NoneEnded, PartLoses, SendersMade}
 use Rattle.fed_laws.specs.Given.{GiveThese, fed_plan, fed_plans}
 use Rattle.fed_laws.proofs.Gifts.{gifts_of, give_these, came_behind, parted, none_given, alike_given, gifts_own, plan_at, plans_long}

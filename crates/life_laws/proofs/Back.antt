@@ -16,7 +16,8 @@ use Rattle.conn_loop.specs.Conn.{Looks}
 use Rattle.gate_plans.specs.Seats.{Seated, HasTheirs}
 use Rattle.gate_plans.specs.declared.sender.Sender.{Sender}
 use Rattle.conn_door.specs.Senders.{SomeMarked}
-use Rattle.life_laws.specs.Plans.{plan_in, MadeOf, IsAllMade, LosesMessages, LosesOwn, PlansMade}
+use Rattle.life_laws.specs.Plans.{plan_in, LosesOwn, PlansMade}
+use Rattle.gate_business.specs.Made.{MadeOf, IsAllMade, LosesMessages}
 use Rattle.life_laws.specs.PlanLives.{SomePass, SeesMark, SeesFailure}
 use Rattle.life_laws.proofs.Senders.{PartMade, EachMade, NoneEnded, PartLoses, SendersMade}
 

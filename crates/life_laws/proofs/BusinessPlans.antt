@@ -21,7 +21,8 @@ use Rattle.gate_business.specs.Business as business
 use Rattle.gate_business.proofs.Making.{prefix_drop, prefix_whole}
 use Rattle.conn_turns.proofs.Delivering.{applied_payloads}
 use Rattle.conn_serve.specs.Answering.{messages_of}
-use Rattle.life_laws.specs.Plans.{plan_in, MadeOf, LosesMessages, AllMade, LosesOwn, PlansMade, KeepsPlans, LosesNext, plans_at}
+use Rattle.life_laws.specs.Plans.{plan_in, AllMade, LosesOwn, PlansMade, KeepsPlans, LosesNext, plans_at}
+use Rattle.gate_business.specs.Made.{MadeOf, LosesMessages}
 use Rattle.life_laws.proofs.Submitting.{plans_submitted}
 use Rattle.life_laws.specs.AnsweredLives.{KeepsWhole}
 use Rattle.life_laws.specs.Answered.{plans_over, answering_plan, answering, PassesOver, PassesAnswered, KeepsAnswers, AnswersOnBy, ContinuesGoesOn, ContinuesCompletes, AnsweringGoesOn, AnswersAreKept, AnswersKeepOutbox}

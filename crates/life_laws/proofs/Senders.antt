@@ -29,7 +29,8 @@ use Rattle.gate_plans.specs.Seats.{SeatedFrom}
 use Rattle.gate_plans.specs.declared.sender.Sender.{Sender}
 use Rattle.conn_door.specs.declared.answer.ServeFault.{ServeFault}
 use Rattle.conn_door.specs.Senders.{LosesMark, IsRefusal, FinishedFirst, SubmittedAll}
-use Rattle.life_laws.specs.Plans.{plan_in, MadeOf, IsAllMade, LosesMessages}
+use Rattle.life_laws.specs.Plans.{plan_in}
+use Rattle.gate_business.specs.Made.{MadeOf, IsAllMade, LosesMessages}
 use Rattle.gate_business.specs.Made.{IsAmong}
 use Rattle.life_laws.proofs.Seen.{stand_long, stand_among, own_among}
 

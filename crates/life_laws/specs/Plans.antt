@@ -1,7 +1,7 @@
 -- What the passes of a gate know of the plans of its senders, and what an outbox keeps of them (this project's profile).
 use Rattle.std.specs.Prelude.{◌≡◌, ◌≢◌, ◌⊎◌, ℕ, zero, suc, ◌+◌, ◌<◌, ◌≤◌, Bool, true, false, List, [], ◌∷◌, ◌++◌, map, length, take, drop, slice_index_or}
 use mathlib.Core.List.{IsPrefix}
-use Rattle.session_model.specs.Journal.{Entry, History, OutboxRecord, finish, BeginsHistory, InOrder, counts_from, entries_of}
+use Rattle.session_model.specs.Journal.{History, OutboxRecord, finish, BeginsHistory, InOrder, counts_from, entries_of}
 use Rattle.session_model.specs.Inbox.{InboxRecord, has_peer_finished}
 use Rattle.session_model.specs.Plans.{sent_by, Continues, Completes}
 use Rattle.jr_boxes.specs.Outboxes.{outbox_of}
@@ -9,30 +9,13 @@ use Rattle.jr_kept.specs.Entries.{entries_made}
 use Rattle.gate_turn.specs.Views.{Account, Part}
 use Rattle.gate_turn.specs.Rule.{In}
 use Rattle.gate_senders.specs.Kept.{next_entries}
-use Rattle.gate_senders.specs.Shown.{entries_after}
-use Rattle.gate_plans.specs.Sent.{entries_behind}
+use Rattle.gate_business.specs.Made.{MadeOf, IsAllMade, LosesMessages}
 use Rattle.conn_serve.specs.Answering.{messages_of}
 
 -- the plan of each sender, whatever was applied: that of sender s is the s-th of these, and no other has one
 abbrev pub plan_in : List (List (List ℕ)) → ℕ → List (List ℕ) → List (List ℕ)
 plan_in plans zero applied = []
 plan_in plans (suc s) applied = slice_index_or plans s []
-
--- behind the entries that a sender had it made messages of its plan, from there on: so many of them
-pub record MadeOf (had : List Entry) (sender : ℕ) (plan : List (List ℕ)) (mine : List Entry) : Type 0 where
-  pub count : ℕ
-  pub are : mine ≡ had ++ entries_behind sender (length had) (take count (drop (length had) plan))
-
--- all of them
-abbrev pub IsAllMade : List Entry → ℕ → List (List ℕ) → List Entry → Type 0
-IsAllMade had sender plan mine = mine ≡ had ++ entries_behind sender (length had) (drop (length had) plan)
-
--- what a pass was to add by a call that failed: so many messages of its sender's plan, a piece at most, behind those that it made
-pub record LosesMessages (plan : List (List ℕ)) (p : Part) : Type 0 where
-  pub count : ℕ
-  pub within : count ≤ length (drop (length p.mine) plan)
-  pub few : count ≤ 64
-  pub is : p.lost ≡ entries_made (entries_after p (take count (drop (length p.mine) plan)))
 
 -- each sender's pass made all of its plan
 abbrev pub AllMade : Account → List (List (List ℕ)) → (ℕ → Part) → Type 0

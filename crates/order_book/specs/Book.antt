@@ -171,7 +171,3 @@ book_behind rs (o ∷ os) = book_behind (book_after rs o) os
 abbrev pub reports_behind : List BookOrder → List (Option Order) → List Report
 reports_behind rs [] = []
 reports_behind rs (o ∷ os) = reports_of rs o ++ reports_behind (book_after rs o) os
-
--- what the book reports of the orders that come to it, from the first on
-abbrev pub book_reports : List (Option Order) → List Report
-book_reports os = reports_behind [] os
