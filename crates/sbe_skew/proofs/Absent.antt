@@ -25,7 +25,8 @@ use Rattle.sbe_layout.specs.declared.plan.Plan.{Plan}
 use Rattle.sbe_layout.specs.Trees.{PlanHead, PlanTree, no_plans, plan}
 use Rattle.sbe_grammar.specs.Values.{is_in, null_by, number_or_null, of_integer, array_value, value_by, item_in, items_in}
 use Rattle.sbe_grammar.specs.Spelling.{SpellsData, SpellsGroups, SpellsEntries, SpellsBy}
-use Rattle.sbe_skew.specs.Absences.{is_absent, LaterItems, LaterData, LaterGroups, LaterEntries, LaterAreAbsent}
+use Rattle.sbe_grammar.specs.Canonical.{is_absent}
+use Rattle.sbe_skew.specs.Absences.{LaterItems, LaterData, LaterGroups, LaterEntries, LaterAreAbsent}
 
 -- ---- a value that is read is not absent
 

@@ -2,7 +2,6 @@
 -- 1.0, "Schema extension mechanism"). The length of a block does not matter.
 use Rattle.std.specs.Prelude.{◌≡◌, ⊤, ℕ, Bool, true, false, not, List, [], ◌∷◌}
 use Rattle.sbe_value.specs.declared.item.Item.{Item}
-use Rattle.sbe_value.specs.declared.item.Item.TheVariants.{Num, Null, Absent, Text, Raw}
 use Rattle.sbe_value.specs.declared.datum.Datum.{Datum}
 use Rattle.sbe_value.specs.declared.datum.Datum.TheVariants as datum
 use Rattle.sbe_value.specs.declared.tree.Block.{Block}
@@ -12,13 +11,7 @@ use Rattle.sbe_layout.specs.declared.items.DataPlan.{DataPlan}
 use Rattle.sbe_layout.specs.declared.blocks.BlockPlan.{BlockPlan}
 use Rattle.sbe_layout.specs.Trees.{PlanHead, PlanTree, no_plans, plan}
 use Rattle.sbe_grammar.specs.Values.{is_in}
-
-abbrev pub is_absent : Item → Bool
-is_absent Absent = true
-is_absent (Num z) = false
-is_absent Null = false
-is_absent (Text t) = false
-is_absent (Raw b) = false
+use Rattle.sbe_grammar.specs.Canonical.{is_absent}
 
 abbrev pub is_absent_datum : Datum → Bool
 is_absent_datum datum.Absent = true
