@@ -8,7 +8,7 @@ use Rattle.jr_dated.proofs.Verdicts.{at_most_one_verdict}
 use Rattle.jr_boxes.specs.declared.faults.Which.{Which}
 use Rattle.jr_judge.specs.Judged.{AreThoseOf, IsBox}
 use Rattle.jr_places.specs.Numbers.{numbers_of}
-use Rattle.jr_segments.specs.Settled.{closed_by}
+use Rattle.jr_segments.proofs.Settled.{closed_by}
 use Rattle.jr_segments.specs.Journal.{OpensOn, RestsOn, broken_of}
 use Rattle.jr_segments.specs.declared.journal.SegJournal.{SegJournal}
 use Rattle.jr_segments.proofs.Rereads.{image_is}

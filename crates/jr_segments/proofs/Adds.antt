@@ -15,7 +15,8 @@ use Rattle.jr_dated.specs.Images.{IsJournal, sizes, journal_size}
 use Rattle.jr_dated.specs.declared.formats.Format.TheVariants.{Two}
 use Rattle.jr_places.specs.Numbers.{numbers_of}
 use Rattle.jr_segments.specs.Resting.{Keeps, SomeRest, front_of}
-use Rattle.jr_segments.specs.Fronts.{holds_closed, goes_on_holds, dated_legal, length-front_of, length-gated, length-gated-dated, length-dated, first_gate, places_are, latest_within, two_each, length-places_from, length-undated}
+use Rattle.jr_segments.proofs.Fronts.{holds_closed, goes_on_holds, dated_legal, length-front_of, length-gated, length-gated-dated, length-dated, first_gate, places_are, latest_within, two_each}
+use Rattle.jr_segments.specs.Lawful.{length-places_from, length-undated}
 use Rattle.jr_segments.specs.Settled.{closed_holds}
 use Rattle.jr_segments.specs.Journal.{HasAdded}
 use Rattle.jr_segments.specs.Opening.{IsFound}

@@ -15,7 +15,7 @@ use Rattle.jr_dated.specs.Journals.{Unchanged}
 use Rattle.jr_places.specs.Numbers.{numbers_of}
 use Rattle.jr_segments.specs.Resting.{Keeps, SomeRest, places_from}
 use Rattle.jr_segments.specs.Reading.{Spans, Fetched}
-use Rattle.jr_segments.specs.Fronts.{length-places_from}
+use Rattle.jr_segments.specs.Lawful.{length-places_from}
 use Rattle.jr_segments.specs.Settled.{closed_holds}
 use Rattle.jr_segments.specs.Journal.{StandsFor, MayLeave, HasAdded}
 use Rattle.jr_segments.specs.declared.journal.SegJournal.{SegJournal}

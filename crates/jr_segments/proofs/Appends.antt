@@ -13,8 +13,10 @@ use Rattle.jr_dated.specs.Images.{IsJournal, Leaves, sizes}
 use Rattle.jr_dated.specs.Journals.{Holds, HoldsEither, Unchanged}
 use Rattle.jr_places.specs.Numbers.{numbers_of}
 use Rattle.jr_segments.specs.Resting.{Keeps, SomeRest, front_of, places_from}
-use Rattle.jr_segments.specs.Fronts.{all-append, dated_legal, dated_within, undated-append, undated-dated, places_from-append, sizes-append}
-use Rattle.jr_segments.specs.Settled.{closed_holds, closed_by, settled, left_either}
+use Rattle.jr_segments.specs.Crossing.{all-append}
+use Rattle.jr_segments.proofs.Fronts.{dated_legal, dated_within, undated-append, undated-dated, places_from-append, sizes-append}
+use Rattle.jr_segments.specs.Settled.{closed_holds, settled}
+use Rattle.jr_segments.proofs.Settled.{closed_by, left_either}
 use Rattle.jr_segments.specs.Journal.{StandsFor, MayLeave, IsSame, HasAdded, HasFailed}
 use Rattle.jr_segments.specs.declared.journal.SegJournal.{SegJournal}
 

@@ -17,7 +17,8 @@ use Rattle.jr_places.specs.Numbers.{numbers_of}
 use Rattle.jr_segments.specs.Opening.{places_by, Refuses, LacksHeader, Takes, IsRead, IsFound}
 use Rattle.jr_segments.specs.declared.index.Index.{Index}
 use Rattle.jr_segments.specs.declared.scan.Found.{Found}
-use Rattle.jr_segments.specs.Fronts.{all-append, gated-append, places-append, latest-append}
+use Rattle.jr_segments.specs.Crossing.{all-append}
+use Rattle.jr_segments.proofs.Fronts.{gated-append, places-append, latest-append}
 
 -- a list at the front of another that is long enough is at the front of its front
 fits_front : (a b x y : List ℕ) → length a ≤ length x → a ++ b ≡ x ++ y → (z : List ℕ) × (a ++ z ≡ x)

@@ -7,7 +7,8 @@ use Rattle.jr_record.specs.Images.{gated}
 use Rattle.jr_dated.specs.Dated.{Dated, IsDated, undated, spelled}
 use Rattle.jr_dated.specs.Images.{header, IsJournal, record_size, sizes}
 use Rattle.jr_dated.proofs.Spelling.{one, length-spelled}
-use Rattle.jr_segments.specs.Fronts.{gated-append, undated-append, places_from-append, sizes-append, length-places_from, length-undated, length-gated}
+use Rattle.jr_segments.proofs.Fronts.{gated-append, undated-append, places_from-append, sizes-append, length-gated}
+use Rattle.jr_segments.specs.Lawful.{length-places_from, length-undated}
 use Rattle.jr_segments.specs.Resting.{Keeps, places_from}
 use Rattle.std.specs.Option.{ForSome}
 use Rattle.jr_segments.specs.Reading.{Spans, IsNext, IsThere}

@@ -8,7 +8,11 @@ use Rattle.jr_dated.specs.Dated.{Dated, IsDated, undated}
 use Rattle.jr_dated.specs.Images.{IsJournal, Leaves, record_size, sizes}
 use Rattle.jr_dated.proofs.Verdicts.{at_most_one_verdict}
 use Rattle.jr_segments.specs.Resting.{Keeps, places_from}
-use Rattle.jr_segments.specs.Fronts.{all-append}
+
+-- what holds of each of some records, and of each of others, holds of each of both
+pub all-append : (P : Dated → Type 0) (h k : List Dated) → AllByRecursion P h → AllByRecursion P k → AllByRecursion P (h ++ k)
+all-append P [] k all_h all_k = all_k
+all-append P (d ∷ h) k all_h all_k = (all_h.0, all-append P h k all_h.1 all_k)
 
 -- the first of records that stand at the same places, and take as many bytes in all, takes as many
 same_first : (at : ℕ) (r s : Record) (rs ss : List Record) → places_from at (r ∷ rs) ≡ places_from at (s ∷ ss)

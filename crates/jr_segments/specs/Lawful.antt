@@ -1,13 +1,21 @@
 -- What every journal that keeps the places of its records promises, from what it keeps.
-use Rattle.std.specs.Prelude.{◌≡◌, ℕ, ◌+◌, ◌*◌, ◌<◌, ◌≤◌, ◌^◌, List, Option, Some, None, length, true, is_some}
+use Rattle.std.specs.Prelude.{◌≡◌, ℕ, ◌+◌, ◌*◌, ◌<◌, ◌≤◌, ◌^◌, List, [], ◌∷◌, Option, Some, None, length, true, is_some}
 use Rattle.std.proofs.Common.{arith, refl, sym, ap, ◌∙◌}
 use Rattle.std.proofs.lemmas.Bool.{false≢true}
 use Rattle.std.specs.Option.{ForSome}
+use Rattle.jr_record.specs.declared.record.Record.{Record}
 use Rattle.jr_dated.specs.Dated.{Dated, undated}
-use Rattle.jr_dated.specs.Images.{IsJournal, journal_size}
+use Rattle.jr_dated.specs.Images.{IsJournal, journal_size, record_size}
 use Rattle.jr_dated.proofs.Verdicts.{at_most_one_verdict}
-use Rattle.jr_segments.specs.Resting.{Keeps}
-use Rattle.jr_segments.specs.Fronts.{length-places_from, length-undated}
+use Rattle.jr_segments.specs.Resting.{Keeps, places_from}
+
+pub length-places_from : (at : ℕ) (rs : List Record) → length (places_from at rs) ≡ length rs
+length-places_from at [] = refl
+length-places_from at (r ∷ rs) = omega (arith, length-places_from (at + record_size r) rs)
+
+pub length-undated : (h : List Dated) → length (undated h) ≡ length h
+length-undated [] = refl
+length-undated (d ∷ h) = omega (arith, length-undated h)
 
 -- as many records as places, and its size
 pub counted_by : (places : List ℕ) (size moment : ℕ) (h : List Dated) → Keeps places size moment h

@@ -1,7 +1,6 @@
 pub mod Adding
 pub mod Behind
 pub mod Crossing
-pub mod Fronts
 pub mod Growing
 pub mod Journal
 pub mod Lawful

@@ -2,7 +2,8 @@ use Rattle.std.proofs.Common.{◌≡◌, ℕ, ◌-◌, ◌+◌, ◌<◌, List, l
 use Rattle.std.proofs.lemmas.Bool.Decides.{nat_tests}
 use Rattle.std.proofs.lemmas.List.{nil_from_length}
 use Rattle.jr_dated.specs.Images.{sizes}
-use Rattle.jr_segments.specs.Fronts.{sizes_least, length-places_from}
+use Rattle.jr_segments.proofs.Fronts.{sizes_least}
+use Rattle.jr_segments.specs.Lawful.{length-places_from}
 use Rattle.jr_places.specs.Numbers.{numbers_of}
 use Rattle.jr_segments.specs.Resting.{SomeRest, front_of, places_from}
 use Rattle.jr_segments.proofs.Adds.{added_none, bytes_are, gate_is, goes_closed, either, place_is, within_content, cut_places}

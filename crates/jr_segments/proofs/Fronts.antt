@@ -12,11 +12,7 @@ use Rattle.jr_dated.specs.Images.{header, IsJournal, record_size, sizes}
 use Rattle.jr_dated.proofs.Spelling.{length-spelled}
 use Rattle.jr_segments.specs.Opening.{places_by}
 use Rattle.jr_segments.specs.Resting.{front_of, places_from}
-
--- what holds of each of some records, and of each of others, holds of each of both
-pub all-append : (P : Dated → Type 0) (h k : List Dated) → AllByRecursion P h → AllByRecursion P k → AllByRecursion P (h ++ k)
-all-append P [] k all_h all_k = all_k
-all-append P (d ∷ h) k all_h all_k = (all_h.0, all-append P h k all_h.1 all_k)
+use Rattle.jr_segments.specs.Crossing.{all-append}
 
 module _ (spell : Dated → List ℕ) where
   pub gated-append : (h k : List Dated) → gated spell (h ++ k) ≡ gated spell h ++ gated spell k
@@ -65,10 +61,6 @@ places_from-append at (r ∷ rs) ss =
     let next : at + record_size r + sizes rs ≡ at + sizes (r ∷ rs) = omega arith in
     ap (λ (ns : List ℕ). at ∷ ns) (places_from-append (at + record_size r) rs ss ∙ ap (λ (n : ℕ). places_from (at + record_size r) rs ++ places_from n ss) next)
 
-pub length-places_from : (at : ℕ) (rs : List Record) → length (places_from at rs) ≡ length rs
-length-places_from at [] = refl
-length-places_from at (r ∷ rs) = omega (arith, length-places_from (at + record_size r) rs)
-
 pub sizes-append : (rs ss : List Record) → sizes (rs ++ ss) ≡ sizes rs + sizes ss
 sizes-append [] ss = omega arith
 sizes-append (r ∷ rs) ss = omega (arith, sizes-append rs ss)
@@ -76,10 +68,6 @@ sizes-append (r ∷ rs) ss = omega (arith, sizes-append rs ss)
 pub undated-append : (h k : List Dated) → undated (h ++ k) ≡ undated h ++ undated k
 undated-append [] k = refl
 undated-append (d ∷ h) k = ap (λ (rs : List Record). d.what ∷ rs) (undated-append h k)
-
-pub length-undated : (h : List Dated) → length (undated h) ≡ length h
-length-undated [] = refl
-length-undated (d ∷ h) = omega (arith, length-undated h)
 
 pub length-front_of : (h : List Dated) → length (front_of h) ≡ 16 + length (gated spelled h)
 length-front_of h = omega (arith, length-append header (gated spelled h))
