@@ -1,15 +1,13 @@
 -- One life that was fed over both journals, from what it was over their boxes. What a life over the disks is of one over the boxes is proved here as for a
 -- session, since the feeding is told of the same histories.
-use Rattle.std.proofs.Common.{◌≡◌, ◌⊎◌, inl, inr, ⊎_elim, ℕ, ◌^◌, ◌≤◌, true, List, [], ◌∷◌, ◌++◌, length, map, Option, Some, Result, refl, sym, ap, subst, ◌∙◌, arith}
+use Rattle.std.proofs.Common.{◌≡◌, ◌⊎◌, inl, inr, ⊎_elim, ℕ, ◌^◌, ◌≤◌, true, List, [], ◌∷◌, ◌++◌, length, map, Option, Some, Result, refl, sym, ap, subst, ◌∙◌}
 use Rattle.std.specs.Prelude.{option_to_list}
 use Rattle.std.specs.Option.{ForSome}
 use Rattle.std.specs.Io.KnownBytes.{Appends}
 use Rattle.std.proofs.KnownBytes.{Appends-trans}
 use Rattle.std.proofs.Math.Logic.{∥∥₁_map, ∥∥₁_elim}
 use Rattle.std.proofs.lemmas.Bool.{cases_Bool}
-use mathlib.Core.List.{IsPrefix, is_set as List-set}
-use mathlib.Core.Sum.{⊎_set}
-use native.Mathlib.Nat.{ℕ_set}
+use mathlib.Core.List.{IsPrefix}
 use Rattle.gw_outside.specs.Faults.{HasRisen, TakesFront}
 use Rattle.session_model.specs.Journal.{Entry, History, OutboxRecord, entries}
 use Rattle.session_model.specs.Inbox.{InboxRecord}
@@ -41,7 +39,7 @@ use Rattle.conn_door.specs.declared.answer.ServeFault.{ServeFault}
 use Rattle.conn_feed.specs.declared.end.FeedEnd.{FeedEnd}
 use Rattle.conn_feed.specs.declared.end.FeedEnd.TheVariants as ends
 use Rattle.conn_feed.specs.Ends.{IsTold}
-use Rattle.conn_serve.specs.Connections.{Connection, ByClock, all_of, adds_of, refused_of_all, wanted_of_all}
+use Rattle.conn_serve.specs.Connections.{all_of, adds_of, refused_of_all, wanted_of_all}
 use Rattle.conn_serve.specs.Moments.{life_at, beside}
 use Rattle.conn_serve.specs.Opening.{opened_state}
 use Rattle.life_laws.specs.Lives.{LifeOfLoop, served_of}
@@ -56,18 +54,14 @@ use Rattle.cmd_session.specs.Lived.{LeavesImages, FullInbox, limits, OpensInbox,
 use Rattle.cmd_session.specs.Outsides.{Sees, live_of, heard}
 use Rattle.cmd_session.specs.declared.outside.Live.{Live}
 use Rattle.cmd_session.specs.declared.outside.SessionOutside.{SessionOutside}
-use Rattle.cmd_session.proofs.Over.{risen_over}
+use Rattle.cmd_session.proofs.Over.{risen_over, records_prop}
+use Rattle.cmd_session.proofs.Served.{by_earlier}
 use Rattle.cmd_session.proofs.Kept.{left_images}
 use Rattle.cmd_session.proofs.Later.{HoldsTold}
 use Rattle.cmd_feed.specs.Fed.{streams, HasLivedFed}
 use Rattle.cmd_feed.specs.Lived.{HasLivedFedOver}
 use Rattle.cmd_feed.specs.Outsides.{FeedSees, session_of}
 use Rattle.cmd_feed.specs.declared.outside.FeedOutside.{FeedOutside}
-
--- connections behind a moment are behind each earlier one
-by_earlier : (least before behind : ℕ) (cs : List Connection) → least ≤ before → ByClock before behind cs → ByClock least behind cs
-by_earlier least before behind [] le by = omega (arith, le, by)
-by_earlier least before behind (c ∷ cs) le by = (omega (arith, le, by.0), by.1)
 
 -- what ACCEPTED took behind a push of nothing
 front_earlier : (old mid new : Option (List ℕ)) (text : List ℕ) → Appends old mid [] → TakesFront mid new text → TakesFront old new text
@@ -82,12 +76,6 @@ told_earlier ends.Accepted old mid new text h t = front_earlier old mid new text
 told_earlier ends.Journal old mid new text h t = front_earlier old mid new text h t
 told_earlier (ends.Full entries bytes) old mid new text h t = Appends-trans old mid new [] text h t
 told_earlier ends.Memory old mid new text h t = front_earlier old mid new text h t
-
-record_set : IsSet Record
-record_set = hlevel (ℕ_set, List-set, ⊎_set)
-
-records_prop : (rs qs : List Record) → IsProp (rs ≡ qs)
-records_prop rs qs = List-set record_set rs qs
 
 module _ {S K D N C J : Type 0} {H : Ghosts J} (outbox : Outbox J H) (sees : Sees S K D N C) (disk_at : J → D) (leaves_are : (j : J) (image : Option (List Dated)) → LeavesDated (sees.may_leave (disk_at j)) image → H.leaves j image)
     (sizes : (j : J) (ds : List Dated) → H.stands j ds → journal_size (undated ds) ≡ H.size j) where

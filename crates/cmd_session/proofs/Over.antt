@@ -61,7 +61,7 @@ risen_over disk now_disk old new least same h = omega (arith, least, same, h)
 record_set : IsSet Record
 record_set = hlevel (ℕ_set, List-set, ⊎_set)
 
-records_prop : (rs qs : List Record) → IsProp (rs ≡ qs)
+pub records_prop : (rs qs : List Record) → IsProp (rs ≡ qs)
 records_prop rs qs = List-set record_set rs qs
 
 module _ {S K D N C J : Type 0} {H : Ghosts J} (outbox : Outbox J H) (sees : Sees S K D N C) (disk_at : J → D) (leaves_are : (j : J) (image : Option (List Dated)) → LeavesDated (sees.may_leave (disk_at j)) image → H.leaves j image)

@@ -136,7 +136,7 @@ tells_earlier lacking old mid new lines h t = record {
 }
 
 -- connections behind a moment are behind each earlier one
-by_earlier : (least before behind : ℕ) (cs : List Connection) → least ≤ before → ByClock before behind cs → ByClock least behind cs
+pub by_earlier : (least before behind : ℕ) (cs : List Connection) → least ≤ before → ByClock before behind cs → ByClock least behind cs
 by_earlier least before behind [] le by = omega (arith, le, by)
 by_earlier least before behind (c ∷ cs) le by = (omega (arith, le, by.0), by.1)
 
