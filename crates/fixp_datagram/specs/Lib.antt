@@ -1,0 +1,10 @@
+pub mod Datagrams
+pub mod Faults
+pub mod Opened
+pub mod Answering
+pub mod Packing
+pub mod Receiving
+pub mod Delivering
+pub mod Calls
+pub mod World
+pub mod Laws

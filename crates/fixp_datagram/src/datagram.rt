@@ -1,0 +1,195 @@
+//! A datagram's bytes, taken apart: its first number, and the payloads of its messages.
+//! Nothing is copied: a payload is lent from the bytes.
+
+ghost use Rattle.std.specs.Prelude.{◌≡◌, ℕ, [], ◌∷◌, ◌<◌, ◌≤◌, length, IfOk, IfErr, IfSome, IfNone, IsOkAnd, IsErrOf};
+ghost use Rattle.fixp_msgs.specs.Payload.{IsApplication};
+ghost use Rattle.fixp_datagram.specs.declared.datagram.DgFault.TheVariants as faults;
+ghost use Rattle.fixp_datagram.specs.Datagrams.{Contents, most_bytes, IsApplicationFrame, BeginsWithSequence, BeginsWithApplications, SpellsDatagram};
+ghost use Rattle.fixp_datagram.specs.Faults.{HasCause};
+ghost use Rattle.fixp_datagram.specs.Opened.{BeginsWithApplication};
+ghost use Rattle.fixp_datagram.specs.Answering.{Answers};
+ghost use Rattle.sofh_frame.specs.Framing.{Frame, spelled};
+ghost use Rattle.fixp_msgs.specs.declared.frames.FrameKind.TheVariants.{Session};
+ghost use Rattle.fixp_msgs.specs.Header.{kind_of};
+ghost use Rattle.fixp_msgs.specs.Message.{sequence};
+ghost use Rattle.fixp_msgs.specs.Grammar.{Spells};
+
+use fixp_msgs::{FrameKind, SessionMsg, kind, read};
+use sofh_frame::{FirstFrame, Order};
+use std::marker::Model;
+use thiserror::Error;
+
+/// The most bytes of a datagram.
+pub const MOST_BYTES: usize = 65_000;
+
+/// The bytes of a frame's length, behind which its payload stands.
+pub(crate) const LENGTH_SIZE: usize = 4;
+
+/// Why bytes are no datagram.
+#[derive(Clone, Copy, Debug, PartialEq, Eq, Error)]
+pub enum DgFault {
+    /// They do not begin with a whole Sequence frame.
+    #[error("the datagram does not begin with a Sequence")]
+    NoSequence,
+    /// Behind the Sequence stand not only whole application frames.
+    #[error("no application frame at byte {at} of the datagram")]
+    BadFrame {
+        /// The place where the first of them should begin, in bytes from the datagram's first.
+        at: u64,
+    },
+    /// They are more than 65,000.
+    #[error("the datagram is longer than 65000 bytes")]
+    TooLong,
+}
+
+/// A datagram that is read: the number of its first message, and the payloads that were not given yet.
+#[derive(Debug, Drop)]
+pub struct Datagram<'a> {
+    first: u64,
+    rest: &'a [u8],
+}
+
+impl Model for Datagram<'_> {
+    ghost use Rattle.fixp_datagram.specs.Datagrams.{Contents};
+
+    ghost Value = { Contents };
+
+    ghost use Rattle.fixp_datagram.specs.Opened.{payloads_in, AreApplications};
+
+    ghost view = { λ d. record { first = d.first; payloads = payloads_in d.rest.now } };
+
+    ghost invariant = { λ d. AreApplications d.rest.now };
+}
+
+/// The datagram that the bytes spell.
+///
+/// # Errors
+/// More than 65,000 bytes, which is looked for first; no whole Sequence frame at the front; anything else than whole
+/// application frames behind it.
+pub fn open_datagram<'a>(bytes: &'a [u8]) -> Result<Datagram<'a>, DgFault>
+    ensures found { IfOk result (λ d. SpellsDatagram bytes.now d) }
+    ensures short { IfOk result (λ d. length bytes.now ≤ most_bytes) }
+    ensures only { (d : Contents) → length bytes.now ≤ most_bytes → SpellsDatagram bytes.now d → IsOkAnd result (λ r. r ≡ d) }
+    // A fault has its cause, and comes wherever it has.
+    ensures cause { IfErr result (HasCause bytes.now) }
+    ensures too_long { most_bytes < length bytes.now → IsErrOf result faults.TooLong }
+    ensures no_sequence { HasCause bytes.now faults.NoSequence → IsErrOf result faults.NoSequence }
+    ensures bad_frame { (at : ℕ) → HasCause bytes.now (faults.BadFrame at) → IsErrOf result (faults.BadFrame at) }
+{
+    read_datagram(bytes)
+}
+
+impl<'a> Datagram<'a> {
+    /// The number of the datagram's first message, as its Sequence has it.
+    pub fn first(&self) -> u64
+        ensures { result ≡ self.now.first }
+    {
+        self.first
+    }
+
+    /// The payload of the next message, or none at the datagram's end.
+    pub fn next(&mut self) -> Option<&'a [u8]>
+        ensures given { IfSome result (λ payload. self.old.payloads ≡ payload.now ∷ self.new.payloads) }
+        ensures application { IfSome result (λ payload. IsApplication payload.now) }
+        ensures end { IfNone result (self.old.payloads ≡ []) }
+        ensures same { IfNone result (self.new ≡ self.old) }
+        ensures first { self.new.first ≡ self.old.first }
+    {
+        let FirstFrame::Frame { size, .. } = sofh_frame::next(self.rest) else {
+            return None;
+        };
+        let (frame, behind) = self.rest.split_at(size);
+        self.rest = behind;
+        let (_, payload) = frame.split_at(LENGTH_SIZE);
+        Some(payload)
+    }
+}
+
+/// The same, as one fact.
+fn read_datagram<'a>(bytes: &'a [u8]) -> Result<Datagram<'a>, DgFault>
+    ensures { Answers bytes.now result }
+{
+    if bytes.len() > MOST_BYTES {
+        return Err(DgFault::TooLong);
+    }
+    let Some((first, behind)) = sequence_at_front(bytes) else {
+        return Err(DgFault::NoSequence);
+    };
+    let tail = behind_applications(behind);
+    if tail.is_empty() {
+        Ok(Datagram {
+            first,
+            rest: behind,
+        })
+    } else {
+        Err(DgFault::BadFrame {
+            at: (bytes.len() - tail.len()) as u64,
+        })
+    }
+}
+
+/// The number of the Sequence at the front, and what stands behind its frame.
+fn sequence_at_front(bytes: &[u8]) -> Option<(u64, &[u8])>
+    ensures found { IfSome result (λ p. BeginsWithSequence bytes.now p.0 p.1.now) }
+    ensures none { IfNone result ((first : ℕ) (behind : List ℕ) → BeginsWithSequence bytes.now first behind → ⊥) }
+{
+    let FirstFrame::Frame {
+        order,
+        message,
+        size,
+    } = sofh_frame::next(bytes)
+    else {
+        return None;
+    };
+    let number = sequence_number(order, message)?;
+    let (_, behind) = bytes.split_at(size);
+    Some((number, behind))
+}
+
+/// The number that a message has, if it is a Sequence.
+fn sequence_number(order: Order, message: &[u8]) -> Option<u64>
+    requires { 8 ≤ length message.now }
+    ensures session { IfSome result (λ _. kind_of order message.now ≡ Session) }
+    ensures found { IfSome result (λ n. Spells message.now (sequence n)) }
+    ensures none { IfNone result ((n : ℕ) → kind_of order message.now ≡ Session → Spells message.now (sequence n) → ⊥) }
+{
+    match kind(order, message) {
+        FrameKind::Session => match read(message) {
+            Ok(SessionMsg::Sequence(sequence)) => Some(sequence.next_seq),
+            Ok(_) | Err(_) => None,
+        },
+        FrameKind::App | FrameKind::Wrong => None,
+    }
+}
+
+/// What stands behind the whole application frames at the front.
+fn behind_applications(bytes: &[u8]) -> &[u8]
+    ensures found { (payloads : List (List ℕ)) × BeginsWithApplications bytes.now payloads result.now }
+    ensures none { (f : Frame) (more : List ℕ) → IsApplicationFrame f → result.now ≡ spelled f ++ more → ⊥ }
+{
+    let mut rest = bytes;
+    while let Some(size) = application_size(rest) {
+        let (_, behind) = rest.split_at(size);
+        rest = behind;
+    }
+    rest
+}
+
+/// The size in bytes of the application frame at the front, if one stands there.
+fn application_size(bytes: &[u8]) -> Option<usize>
+    ensures found { IfSome result (BeginsWithApplication bytes.now) }
+    ensures none { IfNone result ((f : Frame) (more : List ℕ) → IsApplicationFrame f → bytes.now ≡ spelled f ++ more → ⊥) }
+{
+    let FirstFrame::Frame {
+        order,
+        message,
+        size,
+    } = sofh_frame::next(bytes)
+    else {
+        return None;
+    };
+    match kind(order, message) {
+        FrameKind::App => Some(size),
+        FrameKind::Session | FrameKind::Wrong => None,
+    }
+}
