@@ -1,5 +1,5 @@
 -- The calls of a receiver, one behind another.
-use Rattle.std.specs.Prelude.{◌≡◌, ℕ, ◌+◌, ◌<◌, ◌≤◌, ◌⊎◌, nat_lt, Bool, true, false, if◌then◌else◌, List, [], ◌∷◌, ◌++◌, map, Contains, Option, Some, None, ⊤}
+use Rattle.std.specs.Prelude.{◌≡◌, ℕ, ◌+◌, ◌<◌, ◌≤◌, ◌⊎◌, true, List, [], ◌∷◌, ◌++◌, map, Option, Some, None}
 use Rattle.fixp_msgs.specs.declared.numbering.Range.{Range}
 use Rattle.fixp_datagram.specs.declared.receiver.Start.{Start}
 use Rattle.fixp_datagram.specs.declared.receiver.Start.TheVariants as starts
@@ -41,21 +41,11 @@ abbrev pub calls_of : Receiver → List Contents → List Call
 calls_of r [] = []
 calls_of r (d ∷ ds) = (start d.first ∷ calls_behind (start_of r d.first) d.payloads) ++ calls_of (received r d) ds
 
--- the numbers announced by the starts that were taken
-abbrev pub announced_in : ℕ → List Call → List ℕ
-announced_in most [] = []
-announced_in most (start n ∷ calls) = if may_begin most n then n ∷ announced_in most calls else announced_in most calls
-announced_in most (app _ ∷ calls) = announced_in most calls
-
--- the numbers that were counted: those of the messages that are not too large
-abbrev pub counted_in : Receiver → List Call → List ℕ
-counted_in r [] = []
-counted_in r (start n ∷ calls) = counted_in (started r n) calls
-counted_in r (app _ ∷ calls) = if nat_lt r.most (number r) then counted_in (counted r) calls else number r ∷ counted_in (counted r) calls
-
--- a number is below an announced one, or was counted
+-- a number is known to have been sent once a datagram that is taken begins above it, or a message that is not too large has it
 abbrev pub IsKnown : Receiver → List Call → ℕ → Type 0
-IsKnown r calls n = ((a : ℕ) × Contains (announced_in r.most calls) a × (n < a)) ⊎ Contains (counted_in r calls) n
+IsKnown r [] n = ⊥
+IsKnown r (start first ∷ calls) n = ((may_begin r.most first ≡ true) × (n < first)) ⊎ IsKnown (started r first) calls n
+IsKnown r (app _ ∷ calls) n = ((number r ≤ r.most) × (n ≡ number r)) ⊎ IsKnown (counted r) calls n
 
 -- a number stands in a range, if there is one
 abbrev pub IsIn : Option Range → ℕ → Type 0

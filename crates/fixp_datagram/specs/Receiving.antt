@@ -86,7 +86,7 @@ abbrev pub counted : Receiver → Receiver
 counted r =
     if nat_lt r.most (number r) then r
     else record r {
-      next = if number r == r.next then number r + 1 else r.next;
+      next = if number r == r.next then r.next + 1 else r.next;
       known = max r.known (number r + 1);
       counting = Some (number r + 1);
     }

@@ -49,7 +49,7 @@ pub struct Datagram<'a> {
     rest: &'a [u8],
 }
 
-impl Model for Datagram<'_> {
+impl<'a> Model for Datagram<'a> {
     ghost use Rattle.fixp_datagram.specs.Datagrams.{Contents};
 
     ghost Value = { Contents };
