@@ -4,8 +4,8 @@ use Rattle.std.specs.List.{flat_map}
 use Rattle.fixp_datagram.specs.declared.receiver.Start.{Start}
 use Rattle.fixp_datagram.specs.declared.receiver.Start.TheVariants.{Plain, Missing, TooLarge}
 use Rattle.fixp_datagram.specs.Datagrams.{Contents}
-use Rattle.fixp_datagram.specs.Receiving.{Receiver, start_of, started}
-use Rattle.fixp_datagram.specs.Delivering.{Report, told_all, counted_all, reports_behind, received_behind, reports, received, recorded, Delivery, deliveries, received_all}
+use Rattle.fixp_datagram.specs.Receiving.{Receiver, start_of, started, seen, counted}
+use Rattle.fixp_datagram.specs.Delivering.{Report, missing, told, told_all, counted_all, reports_behind, received_behind, reports, received, recorded, Delivery, deliveries, received_all}
 use Rattle.fixp_datagram.specs.Calls.{Call, start, app, called, start_told, reported, calls_behind, calls_of}
 use Rattle.fixp_datagram.specs.World.{World, Event, deliver, delivered_to, happens, run}
 use Rattle.fixp_datagram.specs.Laws.{CallsAreDeliveries, HasDelivered, DeliveriesAreEvents}
@@ -15,23 +15,25 @@ use Rattle.fixp_datagram.proofs.Chained.{recorded-append}
 called-append : (r : Receiver) (first second : List Call) → called r (first ++ second) ≡ called (called r first) second
 called-append r [] second = refl
 called-append r (start n ∷ first) second = called-append (started r n) first second
-called-append r (app p ∷ first) second = called-append _ first second
+called-append r (app p ∷ first) second = called-append (counted r) first second
 
 reported-append : (r : Receiver) (first second : List Call) → reported r (first ++ second) ≡ reported r first ++ reported (called r first) second
 reported-append r [] second = refl
 reported-append r (start n ∷ first) second =
-    ap (λ rs. start_told (start_of r n) ++ rs) (reported-append (started r n) first second) ∙ sym (append_assoc (start_told (start_of r n)) _ _)
+    ap (λ rs. start_told (start_of r n) ++ rs) (reported-append (started r n) first second)
+    ∙ sym (append_assoc (start_told (start_of r n)) (reported (started r n) first) (reported (called (started r n) first) second))
 reported-append r (app p ∷ first) second =
-    ap (λ rs. _ ++ rs) (reported-append _ first second) ∙ sym (append_assoc _ _ _)
+    ap (λ rs. told (seen r) p ++ rs) (reported-append (counted r) first second)
+    ∙ sym (append_assoc (told (seen r) p) (reported (counted r) first) (reported (called (counted r) first) second))
 
 -- the messages of a datagram
 called_messages : (r : Receiver) (ps : List (List ℕ)) → called r (map app ps) ≡ counted_all r ps
 called_messages r [] = refl
-called_messages r (p ∷ ps) = called_messages _ ps
+called_messages r (p ∷ ps) = called_messages (counted r) ps
 
 reported_messages : (r : Receiver) (ps : List (List ℕ)) → reported r (map app ps) ≡ told_all r ps
 reported_messages r [] = refl
-reported_messages r (p ∷ ps) = ap (λ rs. _ ++ rs) (reported_messages _ ps)
+reported_messages r (p ∷ ps) = ap (λ rs. told (seen r) p ++ rs) (reported_messages (counted r) ps)
 
 called_behind : (s : Start) (r : Receiver) (ps : List (List ℕ)) → called r (calls_behind s ps) ≡ received_behind s r ps
 called_behind Plain r ps = called_messages r ps
@@ -40,13 +42,10 @@ called_behind TooLarge r ps = refl
 
 reported_behind : (s : Start) (r : Receiver) (ps : List (List ℕ)) → start_told s ++ reported r (calls_behind s ps) ≡ reports_behind s r ps
 reported_behind Plain r ps = reported_messages r ps
-reported_behind (Missing range) r ps = ap (λ rs. _ ∷ rs) (reported_messages r ps)
+reported_behind (Missing range) r ps = ap (λ rs. missing range ∷ rs) (reported_messages r ps)
 reported_behind TooLarge r ps = refl
 
 -- one datagram
-calls_for : Receiver → Contents → List Call
-calls_for r d = start d.first ∷ calls_behind (start_of r d.first) d.payloads
-
 called_one : (r : Receiver) (d : Contents) → called r (start d.first ∷ calls_behind (start_of r d.first) d.payloads) ≡ received r d
 called_one r d = called_behind (start_of r d.first) (started r d.first) d.payloads
 

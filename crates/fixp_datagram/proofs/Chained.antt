@@ -97,29 +97,31 @@ counted_behind flow next most known n (p ∷ ps) h =
       waits = ap (λ (r' : Receiver). r'.next) same ∙ (later.waits ∙ chain_longer next n p (messages_from (n + 1) ps));
     }
 
+drop_none : (k : ℕ) → let none : List (List ℕ) = [] in drop k none ≡ none
+drop_none zero = refl
+drop_none (suc k) = refl
+
 -- a chain whose first number is passed already or is the one waited for: it begins where that one stands
 pub chain_from : (next n : ℕ) (ps : List (List ℕ)) → n ≤ next → chain next (messages_from n ps) ≡ messages_from next (drop (next - n) ps)
 chain_from next n [] h = ap (λ qs. messages_from next qs) (sym (drop_none (next - n)))
-  where
-    drop_none : (k : ℕ) → drop k ([] {X = List ℕ}) ≡ []
-    drop_none zero = refl
-    drop_none (suc k) = refl
-chain_from next n (p ∷ ps) h = by_test (n == next) refl
+chain_from next n (p ∷ ps) h = by_test (n == next) refl (λ k m. chain_from k m ps)
   where
     by_test : (same : Bool) → (n == next) ≡ same
+        → ((k m : ℕ) → m ≤ k → chain k (messages_from m ps) ≡ messages_from k (drop (k - m) ps))
         → (if same then record { number = n; payload = p } ∷ chain (next + 1) (messages_from (n + 1) ps) else chain next (messages_from (n + 1) ps))
         ≡ messages_from next (drop (next - n) (p ∷ ps))
-    by_test true t =
+    by_test true t again =
         let e : n ≡ next = eqb-true n next t in
         let none : next - n ≡ 0 = omega arith in
+        let one : next + 1 - (n + 1) ≡ 0 = omega arith in
         ap (λ k. record { number = k; payload = p } ∷ chain (next + 1) (messages_from (n + 1) ps)) e
-        ∙ (ap (λ ms. record { number = next; payload = p } ∷ ms) (chain_from (next + 1) (n + 1) ps (omega arith))
-        ∙ (ap (λ k. record { number = next; payload = p } ∷ messages_from (next + 1) (drop k ps)) (omega (arith, none))
+        ∙ (ap (λ ms. record { number = next; payload = p } ∷ ms) (again (next + 1) (n + 1) (omega arith))
+        ∙ (ap (λ k. record { number = next; payload = p } ∷ messages_from (next + 1) (drop k ps)) one
         ∙ ap (λ k. messages_from next (drop k (p ∷ ps))) (sym none)))
-    by_test false t =
+    by_test false t again =
         let below : n < next = grind (arith, nat_tests) in
         let one : next - n ≡ suc (next - (n + 1)) = omega arith in
-        chain_from next (n + 1) ps (omega arith) ∙ ap (λ k. messages_from next (drop k (p ∷ ps))) (sym one)
+        again next (n + 1) (omega arith) ∙ ap (λ k. messages_from next (drop k (p ∷ ps))) (sym one)
 
 -- one whose first number is past the one waited for has none
 pub chain_none : (next n : ℕ) (ps : List (List ℕ)) → next < n → chain next (messages_from n ps) ≡ []

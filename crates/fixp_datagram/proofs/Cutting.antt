@@ -1,7 +1,7 @@
 -- Entries that are cut into datagrams are what a world writes.
-use Rattle.std.proofs.Common.{◌≡◌, ℕ, zero, suc, ◌+◌, ◌-◌, ◌*◌, ◌/◌, ◌<◌, ◌≤◌, min, nat_lt, nat_le, ◌&&◌, Bool, true, false, if◌then◌else◌, List, [], ◌∷◌, ◌++◌, map, length, take, drop, refl, sym, ap, subst, ◌∙◌, arith, append_assoc, append-nil, length-append, length-drop, length-map}
+use Rattle.std.proofs.Common.{◌≡◌, ℕ, zero, suc, ◌+◌, ◌-◌, ◌*◌, ◌/◌, ◌<◌, ◌≤◌, min, nat_lt, nat_le, ◌&&◌, Bool, true, false, if◌then◌else◌, List, [], ◌∷◌, ◌++◌, map, length, take, drop, refl, sym, ap, subst, ◌∙◌, arith, append_assoc, append-nil, length-append, length-drop}
 use Rattle.std.proofs.lemmas.Bool.Decides.{nat_tests}
-use Rattle.std.proofs.lemmas.List.{take_all}
+use Rattle.std.proofs.lemmas.List.{take_all, length-map}
 use Rattle.std.proofs.Math.Nat.{div-mul-le_self, mul-le-mul_right}
 use Rattle.session_model.specs.Journal.{Entry, payloads, counts_from}
 use Rattle.fixp_datagram.specs.Datagrams.{Contents}
@@ -39,7 +39,7 @@ entries_cut : (per : ℕ) (h : List Entry) (x : ℕ) → entries_from h (1 + x) 
 entries_cut per h x =
     let left = drop x (payloads h) in
     let place : 1 + x - 1 ≡ x = omega arith in
-    let len : length h - x ≡ length left = omega (arith, length-drop x (payloads h), length-map (λ (e : Entry). e.payload) h) in
+    let len : length h - x ≡ length left = omega (arith, length-drop x (payloads h), length-map h (λ (e : Entry). e.payload)) in
     ap (λ k. record { first = 1 + x; payloads = take (min per (length h - x)) (drop k (payloads h)) }) place
     ∙ (ap (λ n. record { first = 1 + x; payloads = take (min per n) left }) len
     ∙ ap (λ ps. record { first = 1 + x; payloads = ps }) (same_taken per left))
@@ -51,9 +51,48 @@ there_are per h x within = grind (arith, nat_tests)
 abbrev write_at : (per count k : ℕ) → Event
 write_at per count k = write (1 + (k - 1) * per) (min per (count - (k - 1) * per))
 
--- the datagrams from the k-th on, so many as there are
-run_writes : (per : ℕ) (m k : ℕ) (w : World) → (k - 1 + m) * per ≤ length w.history + per
+-- one of them is written where its first entry is there, or is the one behind the last
+write_one : (per k : ℕ) (w : World) → (k - 1) * per ≤ length w.history
+    → happens w (write_at per (length w.history) k) ≡ record w { written = w.written ++ cut_at per (payloads w.history) k ∷ [] }
+write_one per k w within =
+    let x = (k - 1) * per in
+    let count = min per (length w.history - x) in
+    ap (λ (b : Bool). if b then record w { written = w.written ++ entries_from w.history (1 + x) count ∷ [] } else w) (there_are per w.history x within)
+    ∙ ap (λ d. record w { written = w.written ++ d ∷ [] }) (entries_cut per w.history x)
+
+-- so many from the k-th on, the last of which is there
+run_writes : (per m k : ℕ) (w : World) → 1 ≤ k → (k + m - 2) * per ≤ length w.history
     → run (map (write_at per (length w.history)) (counts_from k m)) w
     ≡ record w { written = w.written ++ map (cut_at per (payloads w.history)) (counts_from k m) }
-run_writes per zero k w within = ap (λ ds. record w { written = ds }) (sym (append-nil w.written))
-run_writes per (suc m) k w within = ?
+run_writes per zero k w least within = ap (λ ds. record w { written = ds }) (sym (append-nil w.written))
+run_writes per (suc m) k w least within =
+    let d = cut_at per (payloads w.history) k in
+    let next : World = record w { written = w.written ++ d ∷ [] } in
+    let place : k - 1 ≤ k + suc m - 2 = omega (arith, least) in
+    let here : (k - 1) * per ≤ length w.history = omega (arith, within, mul-le-mul_right per place) in
+    let same : k + 1 + m - 2 ≡ k + suc m - 2 = omega arith in
+    let later : (k + 1 + m - 2) * per ≤ length w.history = subst (λ n. n * per ≤ length w.history) (sym same) within in
+    ap (λ w'. run (map (write_at per (length w.history)) (counts_from (k + 1) m)) w') (write_one per k w here)
+    ∙ (run_writes per m (k + 1) next (omega arith) later
+    ∙ ap (λ ds. record w { written = ds }) (append_assoc w.written (d ∷ []) (map (cut_at per (payloads w.history)) (counts_from (k + 1) m))))
+
+-- the last of them is there
+last_there : (per n : ℕ) → 1 ≤ per → (1 + cut_count per n - 2) * per ≤ n
+last_there per n one =
+    let c = cut_count per n in
+    let most : c * per ≤ n + (per - 1) = div-mul-le_self (n + (per - 1)) per in
+    by_count c most
+  where
+    by_count : (c : ℕ) → c * per ≤ n + (per - 1) → (1 + c - 2) * per ≤ n
+    by_count zero most = let none : 1 + 0 - 2 ≡ 0 = omega arith in omega (arith, ap (λ k. k * per) none)
+    by_count (suc c) most =
+        let before : 1 + suc c - 2 ≡ c = omega arith in
+        let more : suc c * per ≡ c * per + per = grind arith in
+        omega (arith, ap (λ k. k * per) before, most, more, one)
+
+pub cut_is_written : CutIsWritten
+cut_is_written flow most per h one room =
+    let w : World = record (begun flow most) { history = h } in
+    run-append (accepts h) (writes per (length h)) (begun flow most)
+    ∙ (ap (λ w'. run (writes per (length h)) w') (run_accepts h (begun flow most) (omega (arith, room)))
+    ∙ run_writes per (cut_count per (length h)) 1 w (omega arith) (last_there per (length h) one))

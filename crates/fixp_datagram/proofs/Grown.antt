@@ -37,12 +37,13 @@ length-messages_from n (p ∷ ps) = ap suc (length-messages_from (n + 1) ps)
 -- a chain has consecutive numbers
 chain_counts : (n : ℕ) (ms : List Numbered) → numbers_of (chain n ms) ≡ counts_from n (length (chain n ms))
 chain_counts n [] = refl
-chain_counts n (m ∷ ms) = by_test (m.number == n) refl
+chain_counts n (m ∷ ms) = by_test (m.number == n) refl (chain_counts (n + 1) ms) (chain_counts n ms)
   where
     by_test : (b : Bool) → (m.number == n) ≡ b
+        → numbers_of (chain (n + 1) ms) ≡ counts_from (n + 1) (length (chain (n + 1) ms)) → numbers_of (chain n ms) ≡ counts_from n (length (chain n ms))
         → numbers_of (if b then m ∷ chain (n + 1) ms else chain n ms) ≡ counts_from n (length (if b then m ∷ chain (n + 1) ms else chain n ms))
-    by_test true t = ap (λ k. k ∷ numbers_of (chain (n + 1) ms)) (eqb-true m.number n t) ∙ ap (λ ks. n ∷ ks) (chain_counts (n + 1) ms)
-    by_test false t = chain_counts n ms
+    by_test true t goes_on stays = ap (λ k. k ∷ numbers_of (chain (n + 1) ms)) (eqb-true m.number n t) ∙ ap (λ ks. n ∷ ks) goes_on
+    by_test false t goes_on stays = stays
 
 -- and is made of the messages that came
 chain_contained : (n : ℕ) (ms : List Numbered) → AllByRecursion (λ m. Contains ms m) (chain n ms)
@@ -185,14 +186,14 @@ pub record IsOf (h : List Entry) (d : Contents) : Type 0 where
   pub to_last : d.first + count ≤ length h + 1
   pub entries : d.payloads ≡ take count (drop (d.first - 1) (payloads h))
 
-take_none : (k : ℕ) → take k ([] {X = List ℕ}) ≡ []
+take_none : (k : ℕ) → let none : List (List ℕ) = [] in take k none ≡ none
 take_none zero = refl
 take_none (suc k) = refl
 
 -- what is dropped of a beginning
 drop_taken : (j k : ℕ) (xs : List (List ℕ)) → drop j (take k xs) ≡ take (k - j) (drop j xs)
-drop_taken zero k xs = ap (λ n. take n xs) (omega arith)
-drop_taken (suc j) zero xs = sym (ap (λ n. take n (drop (suc j) xs)) (omega arith))
+drop_taken zero k xs = let same : k ≡ k - 0 = omega arith in ap (λ n. take n xs) same
+drop_taken (suc j) zero xs = let none : 0 - suc j ≡ 0 = omega arith in sym (ap (λ n. take n (drop (suc j) xs)) none)
 drop_taken (suc j) (suc k) [] = sym (take_none (suc k - suc j))
 drop_taken (suc j) (suc k) (x ∷ xs) =
     let one : suc k - suc j ≡ k - j = omega arith in

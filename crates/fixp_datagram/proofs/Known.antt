@@ -58,11 +58,15 @@ app_known : (r : Receiver) (n : ℕ) → IsFit r → (n < (counted r).known) ↔
 app_known r n fit = by_test (nat_lt r.most (number r)) refl
   where
     -- what lies below the number of the next message is known, where there is one; else that number is 0
-    below : n < number r → n < r.known
-    below h = elim r.counting as (λ o. IfSome o (λ m. m ≤ r.known) → n < unwrap_or o 0 → n < r.known) [
-      None ↦ λ f h'. absurd (omega (arith, h'))
-    | Some m ↦ λ f h'. omega (arith, f, h')
-    ] fit h
+    below_next : (o : Option ℕ) → IfSome o (λ m. m ≤ r.known) → n < unwrap_or o 0 → n < r.known
+    below_next None f h = absurd (omega (arith, h))
+    below_next (Some m) f h = omega (arith, f, h)
+
+    by_place : (b : Bool) → (n == number r) ≡ b → n < number r + 1 → number r ≤ r.most → (n < r.known) ⊎ ((number r ≤ r.most) × (n ≡ number r))
+    by_place true t h within = inr (within, eqb-true n (number r) t)
+    by_place false t h within =
+        let less : n < number r = grind (arith, nat_tests) in
+        inl (below_next r.counting fit less)
 
     by_test : (b : Bool) → nat_lt r.most (number r) ≡ b
         → (n < (if b then r else record r {
@@ -77,18 +81,9 @@ app_known r n fit = by_test (nat_lt r.most (number r)) refl
     by_test false t =
         let within : number r ≤ r.most = grind (arith, nat_tests) in
         (
-          λ h. elim (less_max n r.known (number r + 1) h) [ inl a ↦ inl a | inr b ↦ at_or_below b within ],
+          λ h. elim (less_max n r.known (number r + 1) h) [ inl a ↦ inl a | inr b ↦ by_place (n == number r) refl b within ],
           λ h. elim h [ inl a ↦ omega (arith, a) | inr b ↦ omega (arith, b.1) ],
         )
-      where
-        at_or_below : n < number r + 1 → number r ≤ r.most → (n < r.known) ⊎ ((number r ≤ r.most) × (n ≡ number r))
-        at_or_below h within = by_place (n == number r) refl
-          where
-            by_place : (b : Bool) → (n == number r) ≡ b → (n < r.known) ⊎ ((number r ≤ r.most) × (n ≡ number r))
-            by_place true t = inr (within, eqb-true n (number r) t)
-            by_place false t =
-                let less : n < number r = grind (arith, nat_tests) in
-                inl (below less)
 
 -- the same over calls
 known_behind : (r : Receiver) (calls : List Call) (n : ℕ) → IsFit r → (n < (called r calls).known) ↔ ((n < r.known) ⊎ IsKnown r calls n)

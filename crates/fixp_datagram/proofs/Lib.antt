@@ -5,3 +5,5 @@ pub mod Worlds
 pub mod Called
 pub mod Known
 pub mod Cutting
+pub mod Framed
+pub mod Packed

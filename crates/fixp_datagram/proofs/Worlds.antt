@@ -1,8 +1,8 @@
 -- What every world keeps, whatever happens in it.
-use Rattle.std.proofs.Common.{◌≡◌, ℕ, zero, suc, ◌+◌, ◌-◌, ◌<◌, ◌≤◌, max, nat_lt, nat_le, ◌&&◌, Bool, true, false, if◌then◌else◌, List, [], ◌∷◌, ◌++◌, map, length, take, drop, slice_get, Option, Some, None, option_map, unwrap_or, refl, sym, ap, subst, ◌∙◌, arith, append-nil, append_assoc, length-append, length-drop, length-map}
+use Rattle.std.proofs.Common.{◌≡◌, ℕ, zero, suc, ◌+◌, ◌-◌, ◌<◌, ◌≤◌, max, nat_lt, nat_le, ◌&&◌, Bool, true, false, if◌then◌else◌, List, [], ◌∷◌, ◌++◌, map, length, take, drop, slice_get, Option, Some, None, option_map, unwrap_or, refl, sym, ap, subst, ◌∙◌, arith, append-nil, append_assoc, length-append, length-drop}
 use Rattle.std.specs.List.{AllByRecursion}
 use Rattle.std.proofs.lemmas.Bool.Decides.{nat_tests}
-use Rattle.std.proofs.lemmas.List.{take-append-le, drop-append-le, map-append}
+use Rattle.std.proofs.lemmas.List.{take-append-le, drop-append-le, map-append, length-map}
 use mathlib.Core.List.{IsPrefix}
 use Rattle.session_model.specs.Journal.{Entry, payloads}
 use Rattle.session_model.specs.Inbox.{InboxRecord, apply, skips, next_number}
@@ -83,7 +83,7 @@ of_longer h e d of =
     let ps = payloads h in
     let more = payloads (e ∷ []) in
     let all : payloads (h ++ e ∷ []) ≡ ps ++ more = map-append _ h (e ∷ []) in
-    let len : length ps ≡ length h = length-map _ h in
+    let len : length ps ≡ length h = length-map h (λ (x : Entry). x.payload) in
     let place : d.first - 1 ≤ length ps = omega (arith, len, of.from_one, of.to_last) in
     let there : of.count ≤ length (drop (d.first - 1) ps) = omega (arith, len, of.from_one, of.to_last, length-drop (d.first - 1) ps) in
     record {
@@ -197,9 +197,10 @@ idempotently w d k of =
     ap (λ f. next_behind f r.next d.first) k.receiver_flow ∙ ap (λ n. max n d.first) k.follows in
     let missed_same : missed r.flow r.next d.first ≡ jump_of next d.first =
     ap (λ f. missed f r.next d.first) k.receiver_flow ∙ ap (λ n. jump_of n d.first) k.follows in
+    let place : max next d.first - d.first ≡ next - d.first = omega arith in
     let cut : growth.chain (max next d.first) ms ≡ messages_from (max next d.first) (drop (next - d.first) d.payloads) =
     chain_from (max next d.first) d.first d.payloads (omega arith)
-    ∙ ap (λ j. messages_from (max next d.first) (drop j d.payloads)) (omega arith) in
+    ∙ ap (λ j. messages_from (max next d.first) (drop j d.payloads)) place in
     record {
       records = records_taken r d of.from_one fits
           ∙ (ap (λ o. jump_records o ++ map apply (growth.chain (next_behind r.flow r.next d.first) ms)) missed_same

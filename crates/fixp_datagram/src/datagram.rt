@@ -1,7 +1,7 @@
 //! A datagram's bytes, taken apart: its first number, and the payloads of its messages.
 //! Nothing is copied: a payload is lent from the bytes.
 
-ghost use Rattle.std.specs.Prelude.{◌≡◌, ℕ, [], ◌∷◌, ◌<◌, ◌≤◌, length, IfOk, IfErr, IfSome, IfNone, IsOkAnd, IsErrOf};
+ghost use Rattle.std.specs.Prelude.{◌≡◌, ℕ, List, [], ◌∷◌, ◌++◌, ◌<◌, ◌≤◌, length, IfOk, IfErr, IfSome, IfNone, IsOkAnd, IsErrOf};
 ghost use Rattle.fixp_msgs.specs.Payload.{IsApplication};
 ghost use Rattle.fixp_datagram.specs.declared.datagram.DgFault.TheVariants as faults;
 ghost use Rattle.fixp_datagram.specs.Datagrams.{Contents, most_bytes, IsApplicationFrame, BeginsWithSequence, BeginsWithApplications, SpellsDatagram};
