@@ -95,4 +95,5 @@ cut_is_written flow most per h one room =
     let w : World = record (begun flow most) { history = h } in
     run-append (accepts h) (writes per (length h)) (begun flow most)
     ∙ (ap (λ w'. run (writes per (length h)) w') (run_accepts h (begun flow most) (omega (arith, room)))
-    ∙ run_writes per (cut_count per (length h)) 1 w (omega arith) (last_there per (length h) one))
+    ∙ (run_writes per (cut_count per (length h)) 1 w (omega arith) (last_there per (length h) one)
+    ∙ ap (λ n. record w { written = map (cut_at per (payloads h)) (counts_from 1 (cut_count per n)) }) (sym (length-map h (λ (e : Entry). e.payload)))))

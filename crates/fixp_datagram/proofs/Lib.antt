@@ -7,3 +7,6 @@ pub mod Known
 pub mod Cutting
 pub mod Framed
 pub mod Packed
+pub mod Appended
+pub mod Reading
+pub mod Sampled

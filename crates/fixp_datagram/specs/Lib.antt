@@ -8,3 +8,4 @@ pub mod Delivering
 pub mod Calls
 pub mod World
 pub mod Laws
+pub mod Samples

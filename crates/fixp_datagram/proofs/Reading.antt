@@ -1,0 +1,97 @@
+-- Reading a datagram frame by frame.
+use Rattle.std.proofs.Common.{◌≡◌, ◌≢◌, ℕ, ◌+◌, ◌-◌, ◌<◌, ◌≤◌, List, [], ◌∷◌, ◌++◌, map, length, take, drop, refl, sym, ap, subst, ◌∙◌, arith, append_assoc, append-nil, length-append}
+use Rattle.std.specs.Int.{w16, w32, to_be_bytes}
+use Rattle.std.specs.List.{AllByRecursion}
+use Rattle.std.proofs.Math.Seq.{drop-append_seam, take-append_seam}
+use Rattle.sbe_prim.specs.declared.Order.{Order}
+use Rattle.sofh_frame.specs.Framing.{Frame, IsFrame, header_of, spelled, encoding_of, First, frame, rest, bad_length, bad_encoding, first_of, BeginsWith}
+use Rattle.sofh_frame.specs.Splits.{spelled_all, IsNoFrame, IsSplit, frames_of}
+use Rattle.sofh_frame.proofs.FramingLemmas.{frame-begins}
+use Rattle.sofh_frame.proofs.SplitLemmas.{length-spelled, spelled_all-push, AllByRecursion-push, frames_of-split, frames_of-none}
+use Rattle.fixp_msgs.specs.Numbering.{payload_of}
+use Rattle.fixp_msgs.specs.Payload.{IsApplication}
+use Rattle.fixp_datagram.specs.Datagrams.{IsApplicationFrame, BeginsWithApplications}
+use Rattle.fixp_datagram.specs.Opened.{payloads_in, AreApplications, BeginsWithApplication}
+use Rattle.fixp_datagram.proofs.Framed.{no_frame_in_nothing, HasNone}
+
+-- application frames are frames
+all_frames : (fs : List Frame) → AllByRecursion IsApplicationFrame fs → AllByRecursion IsFrame fs
+all_frames [] all = tt
+all_frames (f ∷ fs) all = (all.0.admissible, all_frames fs all.1)
+
+-- the payloads in application frames are theirs
+pub payloads_found : (bytes : List ℕ) (fs : List Frame) → AllByRecursion IsApplicationFrame fs → bytes ≡ spelled_all fs ++ [] → frames_of bytes ≡ fs
+payloads_found bytes fs all joins = frames_of-split bytes fs [] (record { joins = joins; each = all_frames fs all; ends = tt })
+
+pub are_applications : (bytes : List ℕ) (fs : List Frame) → AllByRecursion IsApplicationFrame fs → bytes ≡ spelled_all fs ++ [] → AreApplications bytes
+are_applications bytes fs all joins =
+    record { frames = fs; each = all; joins = joins; holds = ap (λ gs. map payload_of gs) (sym (payloads_found bytes fs all joins)) }
+
+-- behind 4 bytes of a frame stands its payload
+pub payload_in : (f : Frame) → drop 4 (spelled f) ≡ payload_of f
+unfolding header_of
+payload_in f =
+    let size = to_be_bytes w32 (6 + length f.message) in
+    ap (drop 4) (append_assoc size (to_be_bytes w16 (encoding_of f.order)) f.message) ∙ drop-append_seam size (payload_of f)
+
+-- the next message of application frames
+pub record IsNext (bytes : List ℕ) (size : ℕ) : Type 0 where
+  pub payloads : payloads_in bytes ≡ drop 4 (take size bytes) ∷ payloads_in (drop size bytes)
+  pub behind : AreApplications (drop size bytes)
+  pub application : IsApplication (drop 4 (take size bytes))
+
+pub next_in : (bytes : List ℕ) (order : Order) (message : List ℕ) (size : ℕ) → AreApplications bytes → first_of bytes ≡ frame order message size → IsNext bytes size
+next_in bytes order message size a e = by_frames a.frames a.each a.joins
+  where
+    by_frames : (fs : List Frame) → AllByRecursion IsApplicationFrame fs → bytes ≡ spelled_all fs ++ [] → IsNext bytes size
+    by_frames [] all joins = absurd (cc (sym e ∙ ap first_of joins))
+    by_frames (f ∷ fs) all joins =
+        let more = spelled_all fs ++ [] in
+        let begins : bytes ≡ spelled f ++ more = joins ∙ append_assoc (spelled f) (spelled_all fs) [] in
+        let found : frame order message size ≡ frame f.order f.message (6 + length f.message) =
+        sym e ∙ (ap first_of begins ∙ frame-begins f more all.0.admissible) in
+        let size_is : size ≡ length (spelled f) = let s : size ≡ 6 + length f.message = cc found in s ∙ sym (length-spelled f) in
+        let front : take size bytes ≡ spelled f = ap (λ n. take n bytes) size_is ∙ (ap (take (length (spelled f))) begins ∙ take-append_seam (spelled f) more) in
+        let back : drop size bytes ≡ more = ap (λ n. drop n bytes) size_is ∙ (ap (drop (length (spelled f))) begins ∙ drop-append_seam (spelled f) more) in
+        let payload : drop 4 (take size bytes) ≡ payload_of f = ap (drop 4) front ∙ payload_in f in
+        record {
+          payloads = ap (λ gs. map payload_of gs) (payloads_found bytes (f ∷ fs) all joins)
+              ∙ (ap (λ gs. payload_of f ∷ map payload_of gs) (sym (payloads_found (drop size bytes) fs all.1 back))
+              ∙ ap (λ p. p ∷ payloads_in (drop size bytes)) (sym payload));
+          behind = are_applications (drop size bytes) fs all.1 back;
+          application = record {
+            frame = f;
+            admissible = all.0.admissible;
+            application = all.0.application;
+            spelled = sym payload;
+          };
+        }
+
+-- where no frame stands at the front there is no payload
+pub none_in : (bytes : List ℕ) → IsNoFrame (first_of bytes) → payloads_in bytes ≡ []
+none_in bytes none = ap (λ gs. map payload_of gs) (frames_of-none bytes none)
+
+-- what was read so far
+abbrev pub IsRead : List ℕ → List ℕ → Type 0
+IsRead bytes rest = (payloads : List (List ℕ)) × BeginsWithApplications bytes payloads rest
+
+pub nothing_read : (bytes : List ℕ) → IsRead bytes bytes
+nothing_read bytes = ([], record { frames = []; each = tt; joins = refl; holds = refl })
+
+-- one frame more
+pub read_more : (bytes rest : List ℕ) (size : ℕ) → IsRead bytes rest → BeginsWithApplication rest size → IsRead bytes (drop size rest)
+read_more bytes rest size read next =
+    let fs = read.1.frames in
+    let f = next.frame in
+    let behind = drop size rest in (
+      map payload_of (fs ++ f ∷ []),
+      record {
+        frames = fs ++ f ∷ [];
+        each = AllByRecursion-push IsApplicationFrame fs f read.1.each next.is_application;
+        joins = read.1.joins
+            ∙ (ap (λ xs. spelled_all fs ++ xs) next.joins
+            ∙ (sym (append_assoc (spelled_all fs) (spelled f) behind)
+            ∙ ap (λ xs. xs ++ behind) (sym (spelled_all-push fs f))));
+        holds = refl;
+      },
+    )
