@@ -79,8 +79,7 @@ app_known r n fit = by_test (nat_lt r.most (number r)) refl
         let above : r.most < number r = grind (arith, nat_tests) in
         (λ h. inl h, λ h. elim h [ inl a ↦ a | inr b ↦ absurd (omega (arith, above, b.0)) ])
     by_test false t =
-        let within : number r ≤ r.most = grind (arith, nat_tests) in
-        (
+        let within : number r ≤ r.most = grind (arith, nat_tests) in (
           λ h. elim (less_max n r.known (number r + 1) h) [ inl a ↦ inl a | inr b ↦ by_place (n == number r) refl b within ],
           λ h. elim h [ inl a ↦ omega (arith, a) | inr b ↦ omega (arith, b.1) ],
         )

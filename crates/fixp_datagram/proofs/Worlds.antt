@@ -67,12 +67,28 @@ record Keeps (flow : Flow) (w : World) : Type 0 where
 
 keeps_begun : (flow : Flow) (most : ℕ) → IsCarried flow → Keeps flow (begun flow most)
 keeps_begun Recoverable most c = record {
-  flow_is = refl; receiver_flow = refl; receiver_most = refl; follows = refl; within = omega arith; reach = omega arith;
-  written = tt; true_all = tt; grown = refl; where_is = tt;
+  flow_is = refl;
+  receiver_flow = refl;
+  receiver_most = refl;
+  follows = refl;
+  within = omega arith;
+  reach = omega arith;
+  written = tt;
+  true_all = tt;
+  grown = refl;
+  where_is = tt;
 }
 keeps_begun Idempotent most c = record {
-  flow_is = refl; receiver_flow = refl; receiver_most = refl; follows = refl; within = omega arith; reach = omega arith;
-  written = tt; true_all = tt; grown = refl; where_is = refl;
+  flow_is = refl;
+  receiver_flow = refl;
+  receiver_most = refl;
+  follows = refl;
+  within = omega arith;
+  reach = omega arith;
+  written = tt;
+  true_all = tt;
+  grown = refl;
+  where_is = refl;
 }
 keeps_begun Unsequenced most c = absurd c
 keeps_begun NoFlow most c = absurd c
@@ -100,13 +116,17 @@ keeps_longer : (flow : Flow) (w : World) (e : Entry) → Keeps flow w → length
 keeps_longer flow w e k room =
     let longer = length-append w.history (e ∷ []) in
     record {
-      flow_is = k.flow_is; receiver_flow = k.receiver_flow; receiver_most = k.receiver_most; follows = k.follows;
+      flow_is = k.flow_is;
+      receiver_flow = k.receiver_flow;
+      receiver_most = k.receiver_most;
+      follows = k.follows;
       within = omega (arith, longer, room);
       reach = omega (arith, longer, k.reach);
       written = all_weaker (IsOf w.history) (IsOf (w.history ++ e ∷ [])) (of_longer w.history e) w.written k.written;
       true_all = all_weaker _ _ (λ es t. true_stays_true w.history (w.history ++ e ∷ []) None es (prefix_of_append w.history (e ∷ [])) t)
           (carried flow w.delivered) k.true_all;
-      grown = k.grown; where_is = k.where_is;
+      grown = k.grown;
+      where_is = k.where_is;
     }
 
 keeps_accept : (flow : Flow) (w : World) (e : Entry) → Keeps flow w → Keeps flow (happens w (accept e))
@@ -131,17 +151,31 @@ keeps_write flow w first count k = by_test (are_entries w.history first count) r
     by_test : (b : Bool) → are_entries w.history first count ≡ b
         → Keeps flow (if b then record w { written = w.written ++ entries_from w.history first count ∷ [] } else w)
     by_test true t = record {
-      flow_is = k.flow_is; receiver_flow = k.receiver_flow; receiver_most = k.receiver_most; follows = k.follows;
-      within = k.within; reach = k.reach;
+      flow_is = k.flow_is;
+      receiver_flow = k.receiver_flow;
+      receiver_most = k.receiver_most;
+      follows = k.follows;
+      within = k.within;
+      reach = k.reach;
       written = all_append (IsOf w.history) w.written (entries_from w.history first count ∷ []) k.written (entries_are_of w.history first count t, tt);
-      true_all = k.true_all; grown = k.grown; where_is = k.where_is;
+      true_all = k.true_all;
+      grown = k.grown;
+      where_is = k.where_is;
     }
     by_test false t = k
 
 keeps_restart : (flow : Flow) (w : World) → Keeps flow w → Keeps flow (happens w restart)
 keeps_restart flow w k = record {
-  flow_is = k.flow_is; receiver_flow = k.flow_is; receiver_most = refl; follows = refl;
-  within = k.within; reach = k.reach; written = k.written; true_all = k.true_all; grown = k.grown; where_is = k.where_is;
+  flow_is = k.flow_is;
+  receiver_flow = k.flow_is;
+  receiver_most = refl;
+  follows = refl;
+  within = k.within;
+  reach = k.reach;
+  written = k.written;
+  true_all = k.true_all;
+  grown = k.grown;
+  where_is = k.where_is;
 }
 
 -- one connection more

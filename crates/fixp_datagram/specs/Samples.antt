@@ -2,18 +2,16 @@
 use Rattle.std.specs.Prelude.{◌≡◌, ℕ, List, [], ◌∷◌, ◌++◌, map, Option, Some, None}
 use Rattle.std.specs.Int.{w64, to_le_bytes}
 use Rattle.session_model.specs.Journal.{Entry, counts_from}
-use Rattle.session_model.specs.Inbox.{InboxRecord, apply, next_number}
-use Rattle.session_model.specs.Inbox as model
+use Rattle.session_model.specs.Inbox.{InboxRecord, apply, skip}
 use Rattle.fixp_msgs.specs.declared.flow.Flow.TheVariants.{Recoverable, Idempotent}
 use Rattle.fixp_msgs.specs.declared.numbering.Range.{Range}
 use Rattle.fixp_datagram.specs.declared.receiver.Start.TheVariants as starts
 use Rattle.fixp_datagram.specs.declared.receiver.DgSeen.TheVariants as messages
 use Rattle.fixp_datagram.specs.Datagrams.{Contents}
 use Rattle.fixp_datagram.specs.Packing.{packed, cut_at}
-use Rattle.fixp_datagram.specs.Receiving.{Receiver, fresh, start_of, seen_as, asked}
+use Rattle.fixp_datagram.specs.Receiving.{fresh, start_of, seen_as, asked}
 use Rattle.fixp_datagram.specs.Delivering.{Report, missing, deliver, late, Delivery, deliveries, received_all}
-use Rattle.fixp_datagram.specs.World.{World, Event, restart, begun, run, accepts, writes}
-use Rattle.fixp_datagram.specs.World.Event as events
+use Rattle.fixp_datagram.specs.World.{Event, deliver as comes, restart, begun, run, accepts, writes}
 
 -- the payload of message k: template 1 of schema 200 with no fields, and k in 8 bytes behind it
 abbrev pub payload : ℕ → List ℕ
@@ -64,7 +62,7 @@ entry_of p = record { sender = 1; own_number = 1; payload = p }
 
 abbrev pub story : List Event
 story = accepts (map entry_of six) ++ writes 2 6
-    ++ events.deliver 0 ∷ events.deliver 2 ∷ restart ∷ events.deliver 1 ∷ restart ∷ events.deliver 1 ∷ events.deliver 2 ∷ []
+    ++ comes 0 ∷ comes 2 ∷ restart ∷ comes 1 ∷ restart ∷ comes 1 ∷ comes 2 ∷ []
 
 abbrev pub applied_number : ℕ → InboxRecord
 applied_number n = apply (record { number = n; payload = payload n })
@@ -73,7 +71,7 @@ abbrev pub RestartedRow : Type 0
 RestartedRow =
     ((run story (begun Recoverable 6)).inbox ≡ map applied_number (counts_from 1 6))
     × ((run story (begun Idempotent 6)).inbox
-    ≡ applied_number 1 ∷ applied_number 2 ∷ model.skip (record { first = 3; count = 2 }) ∷ applied_number 5 ∷ applied_number 6 ∷ [])
+    ≡ applied_number 1 ∷ applied_number 2 ∷ skip (record { first = 3; count = 2 }) ∷ applied_number 5 ∷ applied_number 6 ∷ [])
 
 -- The edges: a datagram begins with 1 to most + 1; of the numbers, those above most are too large; and at most 256 are asked for
 abbrev pub EdgesRow : Type 0

@@ -32,8 +32,13 @@ pub data Event : Type 0 where
 -- nothing happened yet
 abbrev pub begun : Flow → ℕ → World
 begun flow most = record {
-  flow = flow; most = most; history = []; written = [];
-  receiver = fresh flow 1 most; inbox = []; delivered = [];
+  flow = flow;
+  most = most;
+  history = [];
+  written = [];
+  receiver = fresh flow 1 most;
+  inbox = [];
+  delivered = [];
 }
 
 -- `count` entries from number `first` on, under their true number

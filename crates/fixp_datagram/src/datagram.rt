@@ -11,7 +11,7 @@ ghost use Rattle.fixp_datagram.specs.Answering.{Answers};
 ghost use Rattle.sofh_frame.specs.Framing.{Frame, spelled};
 ghost use Rattle.fixp_msgs.specs.declared.frames.FrameKind.TheVariants.{Session};
 ghost use Rattle.fixp_msgs.specs.Header.{kind_of};
-ghost use Rattle.fixp_msgs.specs.Message.{sequence};
+ghost use Rattle.fixp_msgs.specs.Message.{sequence, message_of};
 ghost use Rattle.fixp_msgs.specs.Grammar.{Spells};
 
 use fixp_msgs::{FrameKind, SessionMsg, kind, read};
@@ -141,7 +141,9 @@ fn sequence_at_front(bytes: &[u8]) -> Option<(u64, &[u8])>
     else {
         return None;
     };
-    let number = sequence_number(order, message)?;
+    let Some(number) = sequence_number(order, message) else {
+        return None;
+    };
     let (_, behind) = bytes.split_at(size);
     Some((number, behind))
 }
@@ -155,10 +157,35 @@ fn sequence_number(order: Order, message: &[u8]) -> Option<u64>
 {
     match kind(order, message) {
         FrameKind::Session => match read(message) {
-            Ok(SessionMsg::Sequence(sequence)) => Some(sequence.next_seq),
-            Ok(_) | Err(_) => None,
+            Ok(found) => next_seq_of(&found),
+            Err(_fault) => None,
         },
         FrameKind::App | FrameKind::Wrong => None,
+    }
+}
+
+/// The number of a session message, if it is a Sequence.
+fn next_seq_of(message: &SessionMsg<'_>) -> Option<u64>
+    ensures found { IfSome result (λ n. message_of message.now ≡ sequence n) }
+    ensures none { IfNone result ((n : ℕ) → message_of message.now ≡ sequence n → ⊥) }
+{
+    match message {
+        SessionMsg::Sequence(sequence) => Some(sequence.next_seq),
+        SessionMsg::Negotiate(_)
+        | SessionMsg::NegotiationResponse(_)
+        | SessionMsg::NegotiationReject(_)
+        | SessionMsg::Establish(_)
+        | SessionMsg::EstablishmentAck(_)
+        | SessionMsg::EstablishmentReject(_)
+        | SessionMsg::UnsequencedHeartbeat(_)
+        | SessionMsg::RetransmitRequest(_)
+        | SessionMsg::Retransmission(_)
+        | SessionMsg::RetransmitReject(_)
+        | SessionMsg::Applied(_)
+        | SessionMsg::NotApplied(_)
+        | SessionMsg::FinishedSending(_)
+        | SessionMsg::FinishedReceiving(_)
+        | SessionMsg::Terminate(_) => None,
     }
 }
 

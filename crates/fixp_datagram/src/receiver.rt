@@ -1,7 +1,7 @@
 //! The receiver of a recoverable or idempotent flow in datagrams: what each datagram's start and each message comes to, and
 //! which numbers are to be asked for. It keeps numbers alone, and takes no memory.
 
-ghost use Rattle.std.specs.Prelude.{◌≡◌, ◌-◌, ◌<◌, ◌^◌, IsSome};
+ghost use Rattle.std.specs.Prelude.{◌≡◌, ◌≢◌, ◌-◌, ◌<◌, ◌^◌, IsSome};
 ghost use Rattle.fixp_datagram.specs.Receiving.{IsCarried, fresh, missed, start_of, started, seen, counted, asked, ask};
 
 use fixp_msgs::{Flow, Range};
@@ -77,6 +77,8 @@ impl DgReceiver {
     pub fn on_start(&mut self, n: u64) -> Start
         ensures answer { result ≡ start_of self.old n }
         ensures after { self.new ≡ started self.old n }
+        ensures begun { result ≢ Start.TooLarge → IsSome self.new.counting }
+        ensures dropped { result ≡ Start.TooLarge → self.new.counting ≡ None }
     {
         if n == 0 || n > self.most + 1 {
             self.counting = None;
@@ -98,6 +100,7 @@ impl DgReceiver {
         requires begun { IsSome self.old.counting }
         ensures seen { result ≡ seen self.old }
         ensures after { self.new ≡ counted self.old }
+        ensures goes_on { IsSome self.new.counting }
     {
         let number = self.counting.unwrap_or(0);
         if number > self.most {
