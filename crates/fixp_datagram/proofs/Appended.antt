@@ -1,13 +1,12 @@
 -- Frames that are put one behind another into the room of a datagram.
-use Rattle.std.proofs.Common.{◌≡◌, ℕ, zero, suc, ◌+◌, ◌-◌, ◌<◌, ◌≤◌, min, List, [], ◌∷◌, ◌++◌, map, length, take, drop, get_or, refl, sym, ap, subst, ◌∙◌, arith, append_assoc, append-nil, length-append, take-add}
+use Rattle.std.proofs.Common.{◌≡◌, ℕ, zero, suc, ◌+◌, ◌-◌, ◌<◌, ◌≤◌, List, [], ◌∷◌, ◌++◌, map, length, take, drop, get_or, sym, ap, subst, ◌∙◌, arith, append_assoc, append-nil, length-append, take-add}
 use Rattle.std.specs.List.{AllByRecursion}
-use Rattle.std.proofs.lemmas.List.{map-append, take_all}
+use Rattle.std.proofs.lemmas.List.{map-append}
 use Rattle.std.proofs.lemmas.List.Elements.{All-from_recursion}
 use Rattle.std.proofs.lemmas.Grind.{flat_map-append, take_at_read}
 use Rattle.sofh_frame.specs.Framing.{spelled}
 use Rattle.sofh_frame.specs.Splits.{spelled_all}
 use Rattle.fixp_msgs.specs.Payload.{IsApplication}
-use Rattle.fixp_datagram.specs.Datagrams.{most_bytes}
 use Rattle.fixp_datagram.specs.Packing.{frame_of}
 use Rattle.fixp_datagram.proofs.Packed.{length-frame_of}
 

@@ -1,14 +1,14 @@
 -- The calls for some datagrams are their deliveries, and deliveries are events of the world.
-use Rattle.std.proofs.Common.{◌≡◌, ℕ, List, [], ◌∷◌, ◌++◌, map, slice_get, Option, Some, None, refl, sym, ap, ◌∙◌, append_assoc, append-nil}
+use Rattle.std.proofs.Common.{◌≡◌, ℕ, List, [], ◌∷◌, ◌++◌, map, slice_get, Some, refl, sym, ap, ◌∙◌, append_assoc, append-nil}
 use Rattle.std.specs.List.{flat_map}
 use Rattle.fixp_datagram.specs.declared.receiver.Start.{Start}
 use Rattle.fixp_datagram.specs.declared.receiver.Start.TheVariants.{Plain, Missing, TooLarge}
 use Rattle.fixp_datagram.specs.Datagrams.{Contents}
 use Rattle.fixp_datagram.specs.Receiving.{Receiver, start_of, started, seen, counted}
-use Rattle.fixp_datagram.specs.Delivering.{Report, missing, told, told_all, counted_all, reports_behind, received_behind, reports, received, recorded, Delivery, deliveries, received_all}
+use Rattle.fixp_datagram.specs.Delivering.{missing, told, told_all, counted_all, reports_behind, received_behind, reports, received, recorded, Delivery, deliveries, received_all}
 use Rattle.fixp_datagram.specs.Calls.{Call, start, app, called, start_told, reported, calls_behind, calls_of}
-use Rattle.fixp_datagram.specs.World.{World, Event, deliver, delivered_to, happens, run}
-use Rattle.fixp_datagram.specs.Laws.{CallsAreDeliveries, HasDelivered, DeliveriesAreEvents}
+use Rattle.fixp_datagram.specs.World.{World, deliver, delivered_to, happens, run}
+use Rattle.fixp_datagram.specs.Laws.{CallsAreDeliveries, DeliveriesAreEvents}
 use Rattle.fixp_datagram.proofs.Chained.{recorded-append}
 
 -- calls in two parts

@@ -1,8 +1,8 @@
 -- What the messages of a datagram have delivered is the chain of its numbered messages from the number waited for.
-use Rattle.std.proofs.Common.{◌≡◌, ℕ, zero, suc, ◌+◌, ◌-◌, ◌<◌, ◌≤◌, ◌==◌, max, nat_lt, Bool, true, false, if◌then◌else◌, List, [], ◌∷◌, ◌++◌, map, length, drop, Option, Some, None, refl, sym, ap, ◌∙◌, arith, eqb-true, append_assoc}
+use Rattle.std.proofs.Common.{◌≡◌, ℕ, zero, suc, ◌+◌, ◌-◌, ◌<◌, ◌≤◌, ◌==◌, max, nat_lt, Bool, true, false, if◌then◌else◌, List, [], ◌∷◌, ◌++◌, map, length, drop, Some, refl, sym, ap, ◌∙◌, arith, eqb-true}
 use Rattle.std.proofs.lemmas.Bool.Decides.{nat_tests}
 use Rattle.std.proofs.lemmas.Grind.{flat_map-append}
-use Rattle.session_model.specs.Inbox.{Numbered, InboxRecord, apply}
+use Rattle.session_model.specs.Inbox.{Numbered, apply}
 use Rattle.session_model.specs.Events.{message, numbered}
 use Rattle.session_model.specs.Growth.{chain}
 use Rattle.fixp_msgs.specs.declared.flow.Flow.{Flow}

@@ -1,12 +1,11 @@
 -- Entries that are cut into datagrams are what a world writes.
-use Rattle.std.proofs.Common.{◌≡◌, ℕ, zero, suc, ◌+◌, ◌-◌, ◌*◌, ◌/◌, ◌<◌, ◌≤◌, min, nat_lt, nat_le, ◌&&◌, Bool, true, false, if◌then◌else◌, List, [], ◌∷◌, ◌++◌, map, length, take, drop, refl, sym, ap, subst, ◌∙◌, arith, append_assoc, append-nil, length-append, length-drop}
+use Rattle.std.proofs.Common.{◌≡◌, ℕ, zero, suc, ◌+◌, ◌-◌, ◌*◌, ◌≤◌, min, nat_lt, nat_le, Bool, true, false, if◌then◌else◌, List, [], ◌∷◌, ◌++◌, map, length, take, drop, refl, sym, ap, subst, ◌∙◌, arith, append_assoc, append-nil, length-append, length-drop}
 use Rattle.std.proofs.lemmas.Bool.Decides.{nat_tests}
 use Rattle.std.proofs.lemmas.List.{take_all, length-map}
 use Rattle.std.proofs.Math.Nat.{div-mul-le_self, mul-le-mul_right}
 use Rattle.session_model.specs.Journal.{Entry, payloads, counts_from}
-use Rattle.fixp_datagram.specs.Datagrams.{Contents}
-use Rattle.fixp_datagram.specs.Packing.{cut_count, cut_at, cut}
-use Rattle.fixp_datagram.specs.World.{World, Event, accept, write, begun, entries_from, are_entries, happens, run, accepts, writes}
+use Rattle.fixp_datagram.specs.Packing.{cut_count, cut_at}
+use Rattle.fixp_datagram.specs.World.{World, Event, write, begun, entries_from, are_entries, happens, run, accepts, writes}
 use Rattle.fixp_datagram.specs.Laws.{CutIsWritten}
 
 run-append : (first second : List Event) (w : World) → run (first ++ second) w ≡ run second (run first w)

@@ -1,20 +1,19 @@
 -- Bytes spell at most one datagram, and fail to for at most one reason.
-use Rattle.std.proofs.Common.{◌≡◌, ◌≢◌, ℕ, ◌+◌, ◌<◌, ◌≤◌, List, [], ◌∷◌, ◌++◌, map, length, take, drop, Result, Ok, Err, IsOkAnd, IsErrOf, refl, sym, ap, subst, ◌∙◌, arith, append_assoc, append-nil, length-append}
+use Rattle.std.proofs.Common.{◌≡◌, ℕ, ◌+◌, ◌<◌, ◌≤◌, List, [], ◌∷◌, ◌++◌, map, length, drop, Result, Ok, Err, IsOkAnd, IsErrOf, refl, sym, ap, subst, ◌∙◌, arith, append_assoc, length-append}
 use Rattle.std.specs.List.{AllByRecursion}
-use Rattle.std.proofs.Math.Seq.{drop-append_seam, take-append_seam}
 use Rattle.sbe_prim.specs.declared.Order.{Order}
-use Rattle.sofh_frame.specs.Framing.{Frame, IsFrame, header_of, spelled, First, frame, first_of}
+use Rattle.sofh_frame.specs.Framing.{Frame, IsFrame, spelled, frame, first_of}
 use Rattle.sofh_frame.specs.Splits.{spelled_all}
 use Rattle.sofh_frame.proofs.FramingLemmas.{frame-begins}
 use Rattle.sofh_frame.proofs.SplitLemmas.{length-spelled, drop-spelled}
-use Rattle.fixp_msgs.specs.Message.{Message, sequence}
+use Rattle.fixp_msgs.specs.Message.{sequence}
 use Rattle.fixp_msgs.specs.Grammar.{Spells}
 use Rattle.fixp_msgs.specs.Numbering.{payload_of}
 use Rattle.fixp_msgs.proofs.Rows.{at_most_one}
 use Rattle.fixp_datagram.specs.declared.datagram.Datagram.{Datagram}
 use Rattle.fixp_datagram.specs.declared.datagram.DgFault.{DgFault}
 use Rattle.fixp_datagram.specs.declared.datagram.DgFault.TheVariants.{NoSequence, BadFrame, TooLong}
-use Rattle.fixp_datagram.specs.Datagrams.{Contents, most_bytes, IsApplicationFrame, IsSequenceFrame, BeginsWithSequence, BeginsWithApplications, SpellsDatagram}
+use Rattle.fixp_datagram.specs.Datagrams.{Contents, most_bytes, IsApplicationFrame, BeginsWithSequence, BeginsWithApplications, SpellsDatagram}
 use Rattle.fixp_datagram.specs.Faults.{IsBadAt, HasCause}
 use Rattle.fixp_datagram.specs.Answering.{Answers}
 use Rattle.fixp_datagram.specs.Laws.{OneDatagram}

@@ -1,20 +1,19 @@
 -- A datagram that is delivered grows an inbox as the session model has it.
-use Rattle.std.proofs.Common.{◌≡◌, ℕ, zero, suc, ◌+◌, ◌-◌, ◌<◌, ◌≤◌, ◌==◌, max, nat_lt, nat_le, Bool, true, false, if◌then◌else◌, List, [], ◌∷◌, ◌++◌, map, length, take, drop, Contains, Option, Some, None, option_map, unwrap_or, refl, sym, ap, subst, ◌∙◌, arith, eqb-true, append-nil, length-drop}
+use Rattle.std.proofs.Common.{◌≡◌, ℕ, zero, suc, ◌+◌, ◌-◌, ◌<◌, ◌≤◌, ◌==◌, max, nat_lt, nat_le, Bool, true, false, if◌then◌else◌, List, [], ◌∷◌, ◌++◌, map, length, take, drop, Contains, Some, None, unwrap_or, refl, sym, ap, subst, ◌∙◌, arith, eqb-true, append-nil, length-drop}
 use Rattle.std.specs.List.{AllByRecursion}
 use Rattle.std.proofs.lemmas.Bool.Decides.{nat_tests}
 use Rattle.std.proofs.lemmas.List.{drop-drop, length-take}
 use Rattle.std.proofs.lemmas.List.Elements.{Contains-append_right}
 use Rattle.session_model.specs.Journal.{Entry, payloads, counts_from}
 use Rattle.session_model.specs.Inbox.{Numbered, InboxRecord, apply, applied, skips, numbers_of, next_number}
-use Rattle.session_model.specs.Events.{Event, announce, in_flow, message, standing, numbered, TrueOfJournal}
-use Rattle.session_model.specs.Growth.{recoverable, idempotent, chain, jump, jumps, NeverBack, Grown, GrownRecoverable, GrownIdempotent}
+use Rattle.session_model.specs.Events.{announce, in_flow, message, standing, TrueOfJournal}
+use Rattle.session_model.specs.Growth.{recoverable, idempotent, chain, jump, jumps, NeverBack, Grown}
 use Rattle.session_model.proofs.Lists.{all_weaker}
 use Rattle.session_model.proofs.Inboxes.{applied-append, skips-append}
 use Rattle.session_model.proofs.Numbering.{numbering_looks_back}
 use Rattle.session_model.proofs.Recoverable.{next_behind}
 use Rattle.session_model.proofs.Idempotent.{idempotent_settles}
 use Rattle.session_model.proofs.Truth.{announced_entries_are_true}
-use Rattle.fixp_msgs.specs.declared.numbering.Range.{Range}
 use Rattle.flow_idem.specs.Applying.{jump_of}
 use Rattle.fixp_datagram.specs.Datagrams.{Contents}
 use Rattle.fixp_datagram.specs.Laws.{events_of, news}

@@ -1,7 +1,6 @@
 -- What is asked for is what is known to have been sent.
 use Rattle.std.proofs.Common.{◌≡◌, ◌↔◌, ℕ, ◌+◌, ◌-◌, ◌<◌, ◌≤◌, ◌⊎◌, inl, inr, max, min, ◌==◌, eqb-true, unwrap_or, nat_lt, Bool, true, false, if◌then◌else◌, List, [], ◌∷◌, Option, Some, None, IfSome, refl, sym, ap, subst, ◌∙◌, arith}
 use Rattle.std.proofs.lemmas.Bool.Decides.{nat_tests}
-use Rattle.fixp_msgs.specs.declared.flow.Flow.{Flow}
 use Rattle.fixp_msgs.specs.declared.flow.Flow.TheVariants.{Recoverable}
 use Rattle.fixp_datagram.specs.Receiving.{Receiver, fresh, may_begin, next_behind, started, number, counted, most_asked, asked, ask, ask_on}
 use Rattle.fixp_datagram.specs.Calls.{Call, start, app, called, IsKnown, IsIn}

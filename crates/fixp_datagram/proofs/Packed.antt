@@ -1,12 +1,12 @@
 -- The bytes of payloads' frames, and of a datagram as it is packed.
-use Rattle.std.proofs.Common.{◌≡◌, ℕ, ◌+◌, ◌-◌, ◌<◌, ◌≤◌, ◌^◌, Bool, if◌then◌else◌, List, [], ◌∷◌, ◌++◌, map, length, take, drop, Option, Some, None, unwrap_or, refl, sym, ap, subst, ◌∙◌, arith, append_assoc, append-nil, length-append, eq-eqb}
+use Rattle.std.proofs.Common.{◌≡◌, ℕ, ◌+◌, ◌<◌, ◌≤◌, ◌^◌, Bool, if◌then◌else◌, List, [], ◌∷◌, ◌++◌, map, length, take, drop, unwrap_or, refl, sym, ap, subst, ◌∙◌, arith, append_assoc, append-nil, length-append, eq-eqb}
 use Rattle.std.specs.Int.{w16, w32, from_be_bytes, to_be_bytes}
 use Rattle.std.specs.List.{AllByRecursion}
 use Rattle.std.proofs.Math.Seq.{drop-append_seam, take-append_seam}
 use Rattle.std.proofs.lemmas.Nat.{from_be_bytes-to_be_bytes_2}
 use Rattle.sbe_prim.specs.declared.Order.{Order}
 use Rattle.sbe_prim.specs.declared.Order.TheVariants.{Little, Big}
-use Rattle.sofh_frame.specs.Framing.{Frame, IsFrame, header_of, spelled, encoding_of, order_of}
+use Rattle.sofh_frame.specs.Framing.{Frame, header_of, spelled, encoding_of, order_of}
 use Rattle.sofh_frame.specs.Splits.{spelled_all}
 use Rattle.sofh_frame.proofs.FramingLemmas.{order_of-encoding_of}
 use Rattle.sofh_frame.proofs.SplitLemmas.{length-spelled}
@@ -18,7 +18,7 @@ use Rattle.fixp_msgs.specs.Numbering.{payload_of}
 use Rattle.fixp_msgs.specs.Payload.{IsApplication}
 use Rattle.fixp_msgs.proofs.Sizes.{frame_bytes_least, frame_bytes_most}
 use Rattle.fixp_msgs.proofs.Written.{message_spells}
-use Rattle.fixp_datagram.specs.Datagrams.{Contents, IsApplicationFrame, IsSequenceFrame, SpellsDatagram}
+use Rattle.fixp_datagram.specs.Datagrams.{IsApplicationFrame, IsSequenceFrame, SpellsDatagram}
 use Rattle.fixp_datagram.specs.Packing.{frame_of, packed}
 
 length-encoding : (order : Order) → length (to_be_bytes w16 (encoding_of order)) ≡ 2

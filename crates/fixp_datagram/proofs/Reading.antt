@@ -1,11 +1,11 @@
 -- Reading a datagram frame by frame.
-use Rattle.std.proofs.Common.{◌≡◌, ◌==◌, ◌⊎◌, inl, inr, true, eqb-true, ℕ, ◌+◌, ◌-◌, ◌<◌, ◌≤◌, List, [], ◌∷◌, ◌++◌, map, length, take, drop, refl, sym, ap, subst, ◌∙◌, arith, append_assoc, append-nil, length-append, Bor}
+use Rattle.std.proofs.Common.{◌≡◌, ◌==◌, ◌⊎◌, inl, inr, true, eqb-true, ℕ, ◌+◌, ◌≤◌, List, [], ◌∷◌, ◌++◌, map, length, take, drop, refl, sym, ap, subst, ◌∙◌, arith, append_assoc, length-append, Bor}
 use Rattle.std.specs.Int.{w16, w32, to_be_bytes}
 use Rattle.std.specs.List.{AllByRecursion}
 use Rattle.std.proofs.Math.Seq.{drop-append_seam, take-append_seam}
 use Rattle.sbe_prim.specs.declared.Order.{Order}
 use Rattle.sofh_frame.specs.Framing.{Frame, IsFrame, header_of, spelled, encoding_of, First, frame, first_of}
-use Rattle.sofh_frame.specs.Splits.{spelled_all, IsNoFrame, IsSplit, frames_of}
+use Rattle.sofh_frame.specs.Splits.{spelled_all, IsNoFrame, frames_of}
 use Rattle.sofh_frame.proofs.FramingLemmas.{frame-begins}
 use Rattle.sofh_frame.proofs.SplitLemmas.{length-spelled, spelled_all-push, AllByRecursion-push, frames_of-split, frames_of-none}
 use Rattle.sofh_frame.specs.FirstFrame.{seen}
@@ -20,7 +20,7 @@ use Rattle.fixp_msgs.specs.Numbering.{payload_of}
 use Rattle.fixp_msgs.specs.Payload.{IsApplication}
 use Rattle.fixp_datagram.specs.Datagrams.{IsApplicationFrame, BeginsWithSequence, BeginsWithApplications}
 use Rattle.fixp_datagram.specs.Opened.{payloads_in, AreApplications, BeginsWithApplication}
-use Rattle.fixp_datagram.proofs.Framed.{no_frame_in_nothing, HasNone}
+use Rattle.fixp_datagram.proofs.Framed.{HasNone}
 
 -- application frames are frames
 all_frames : (fs : List Frame) → AllByRecursion IsApplicationFrame fs → AllByRecursion IsFrame fs

@@ -1,17 +1,15 @@
 -- A datagram that is taken, step by step: what it jumps over, and then what its messages have delivered.
-use Rattle.std.proofs.Common.{◌≡◌, ℕ, ◌+◌, ◌-◌, ◌<◌, ◌≤◌, max, nat_lt, nat_le, ◌&&◌, Bool, true, false, if◌then◌else◌, List, [], ◌∷◌, ◌++◌, map, length, drop, Option, Some, None, option_map, option_to_list, refl, sym, ap, ◌∙◌, arith}
+use Rattle.std.proofs.Common.{◌≡◌, ℕ, ◌+◌, ◌≤◌, max, Bool, true, if◌then◌else◌, List, ◌++◌, map, length, Option, Some, None, option_map, option_to_list, refl, ap, ◌∙◌, arith}
 use Rattle.std.proofs.lemmas.Bool.Decides.{nat_tests}
 use Rattle.session_model.specs.Inbox.{InboxRecord, apply}
 use Rattle.session_model.specs.Growth.{chain}
-use Rattle.fixp_msgs.specs.declared.flow.Flow.{Flow}
 use Rattle.fixp_msgs.specs.declared.numbering.Range.{Range}
 use Rattle.flow_idem.specs.Laws.{skipped}
-use Rattle.fixp_datagram.specs.declared.receiver.Start.{Start}
-use Rattle.fixp_datagram.specs.declared.receiver.Start.TheVariants.{Plain, Missing, TooLarge}
+use Rattle.fixp_datagram.specs.declared.receiver.Start.TheVariants.{TooLarge}
 use Rattle.fixp_datagram.specs.Datagrams.{Contents}
 use Rattle.fixp_datagram.specs.Receiving.{Receiver, may_begin, missed, next_behind, start_with, start_of, started}
-use Rattle.fixp_datagram.specs.Delivering.{Report, told_all, counted_all, recorded, reports_behind, received_behind, reports, received}
-use Rattle.fixp_datagram.proofs.Chained.{inside, messages_from, recorded-append, told_chain, Behind, counted_behind}
+use Rattle.fixp_datagram.specs.Delivering.{told_all, counted_all, recorded, reports_behind, received_behind, reports, received}
+use Rattle.fixp_datagram.proofs.Chained.{inside, messages_from, told_chain, Behind, counted_behind}
 
 -- the record of what is jumped over, if anything is
 abbrev pub jump_records : Option Range → List InboxRecord

@@ -1,16 +1,15 @@
 -- What every world keeps, whatever happens in it.
-use Rattle.std.proofs.Common.{◌≡◌, ℕ, zero, suc, ◌+◌, ◌-◌, ◌<◌, ◌≤◌, max, nat_lt, nat_le, ◌&&◌, Bool, true, false, if◌then◌else◌, List, [], ◌∷◌, ◌++◌, map, length, take, drop, slice_get, Option, Some, None, option_map, unwrap_or, refl, sym, ap, subst, ◌∙◌, arith, append-nil, append_assoc, length-append, length-drop}
+use Rattle.std.proofs.Common.{◌≡◌, ℕ, zero, suc, ◌+◌, ◌-◌, ◌<◌, ◌≤◌, max, nat_lt, Bool, true, false, if◌then◌else◌, List, [], ◌∷◌, ◌++◌, map, length, take, drop, slice_get, Option, Some, None, unwrap_or, refl, sym, ap, subst, ◌∙◌, arith, length-append, length-drop}
 use Rattle.std.specs.List.{AllByRecursion}
 use Rattle.std.proofs.lemmas.Bool.Decides.{nat_tests}
 use Rattle.std.proofs.lemmas.List.{take-append-le, drop-append-le, map-append, length-map}
-use mathlib.Core.List.{IsPrefix}
 use Rattle.session_model.specs.Journal.{Entry, payloads}
-use Rattle.session_model.specs.Inbox.{InboxRecord, apply, skips, next_number}
+use Rattle.session_model.specs.Inbox.{InboxRecord, apply, next_number}
 use Rattle.session_model.specs.Events.{announce, in_flow, message, TrueOfJournal}
 use Rattle.session_model.specs.Events as events
 use Rattle.session_model.specs.Growth.{recoverable, idempotent, unsequenced, no_flow, jump, jumps_through, Grown, GrownThrough, AppliesPrefix, SettlesOnce}
 use Rattle.session_model.specs.Growth as growth
-use Rattle.session_model.proofs.Lists.{prefix_of_append, prefix_self, prefix_map, all_weaker, all_append}
+use Rattle.session_model.proofs.Lists.{prefix_of_append, all_weaker, all_append}
 use Rattle.session_model.proofs.Recoverable.{recoverable_keeps_prefix}
 use Rattle.session_model.proofs.Idempotent.{idempotent_keeps_once, idempotent_connections}
 use Rattle.session_model.proofs.Through.{through_keeps, connections_go_on}
@@ -19,13 +18,13 @@ use Rattle.fixp_msgs.specs.declared.flow.Flow.{Flow}
 use Rattle.fixp_msgs.specs.declared.flow.Flow.TheVariants.{Recoverable, Idempotent, Unsequenced, None as NoFlow}
 use Rattle.flow_idem.specs.Applying.{jump_of}
 use Rattle.fixp_datagram.specs.Datagrams.{Contents}
-use Rattle.fixp_datagram.specs.Receiving.{IsCarried, Receiver, missed, next_behind}
+use Rattle.fixp_datagram.specs.Receiving.{IsCarried, missed, next_behind}
 use Rattle.fixp_datagram.specs.Delivering.{reports, received, recorded}
 use Rattle.fixp_datagram.specs.World.{World, Event, accept, write, deliver, restart, begun, entries_from, are_entries, delivered_to, happens, run, jumps_over}
-use Rattle.fixp_datagram.specs.Laws.{RecoverableIsPrefix, HasEachOnce, IdempotentHasEachOnce, HasNumber, numbered_from, NextGrows, events_of, news, all_news, RecoverableGrows, IdempotentGrows, ReceiverFollows}
+use Rattle.fixp_datagram.specs.Laws.{RecoverableIsPrefix, IdempotentHasEachOnce, HasNumber, numbered_from, NextGrows, events_of, news, all_news, RecoverableGrows, IdempotentGrows, ReceiverFollows}
 use Rattle.fixp_datagram.proofs.Chained.{messages_from, chain_from}
 use Rattle.fixp_datagram.proofs.Started.{jump_records, records_taken, receiver_behind}
-use Rattle.fixp_datagram.proofs.Grown.{length-messages_from, chain_reach, in_order, recoverable_step, recoverable_next, with_jump, jump_to_greater, news_jumps, idempotent_step, news_reach, news_standing, idempotent_next, IsOf, datagram_true, news_of, within_of}
+use Rattle.fixp_datagram.proofs.Grown.{length-messages_from, chain_reach, in_order, recoverable_step, recoverable_next, with_jump, news_jumps, idempotent_step, news_reach, news_standing, idempotent_next, IsOf, datagram_true, news_of, within_of}
 
 -- the same flow, as the session model names it
 abbrev model_of : Flow → growth.Flow

@@ -1,5 +1,5 @@
 -- What a datagram that is delivered has its receiver report, and what the receiver is then.
-use Rattle.std.specs.Prelude.{◌≡◌, ℕ, List, [], ◌∷◌, ◌++◌, map, Option}
+use Rattle.std.specs.Prelude.{ℕ, List, [], ◌∷◌, ◌++◌, Option}
 use Rattle.std.specs.List.{flat_map}
 use Rattle.session_model.specs.Inbox.{Numbered, InboxRecord, apply}
 use Rattle.fixp_msgs.specs.declared.numbering.Range.{Range}

@@ -1,5 +1,5 @@
 -- Worked rows, for who reads the definitions: each is computed.
-use Rattle.std.specs.Prelude.{◌≡◌, ℕ, List, [], ◌∷◌, ◌++◌, map, Option, Some, None}
+use Rattle.std.specs.Prelude.{◌≡◌, ℕ, List, [], ◌∷◌, ◌++◌, map, Some, None}
 use Rattle.std.specs.Int.{w64, to_le_bytes}
 use Rattle.session_model.specs.Journal.{Entry, counts_from}
 use Rattle.session_model.specs.Inbox.{InboxRecord, apply, skip}
@@ -10,7 +10,7 @@ use Rattle.fixp_datagram.specs.declared.receiver.DgSeen.TheVariants as messages
 use Rattle.fixp_datagram.specs.Datagrams.{Contents}
 use Rattle.fixp_datagram.specs.Packing.{packed, cut_at}
 use Rattle.fixp_datagram.specs.Receiving.{fresh, start_of, seen_as, asked}
-use Rattle.fixp_datagram.specs.Delivering.{Report, missing, deliver, late, Delivery, deliveries, received_all}
+use Rattle.fixp_datagram.specs.Delivering.{Report, missing, deliver, late, deliveries, received_all}
 use Rattle.fixp_datagram.specs.World.{Event, deliver as comes, restart, begun, run, accepts, writes}
 
 -- the payload of message k: template 1 of schema 200 with no fields, and k in 8 bytes behind it

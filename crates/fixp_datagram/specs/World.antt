@@ -1,6 +1,6 @@
 -- Datagrams over a network that loses, repeats and reorders them, as a list of events (this project's profile). A loss is a
 -- delivery that never comes.
-use Rattle.std.specs.Prelude.{◌≡◌, ℕ, ◌+◌, ◌-◌, ◌*◌, min, max, nat_lt, nat_le, ◌&&◌, Bool, if◌then◌else◌, List, [], ◌∷◌, ◌++◌, map, length, take, drop, slice_get, Option, Some, None}
+use Rattle.std.specs.Prelude.{ℕ, ◌+◌, ◌-◌, ◌*◌, min, max, nat_lt, nat_le, ◌&&◌, Bool, if◌then◌else◌, List, [], ◌∷◌, ◌++◌, map, length, take, drop, slice_get, Option, Some, None}
 use Rattle.session_model.specs.Journal.{Entry, payloads, counts_from}
 use Rattle.session_model.specs.Inbox.{Range, InboxRecord, next_number}
 use Rattle.session_model.specs.Growth.{jump}
@@ -8,7 +8,7 @@ use Rattle.fixp_msgs.specs.declared.flow.Flow.{Flow}
 use Rattle.fixp_datagram.specs.Datagrams.{Contents}
 use Rattle.fixp_datagram.specs.Packing.{cut_count}
 use Rattle.fixp_datagram.specs.Receiving.{Receiver, fresh}
-use Rattle.fixp_datagram.specs.Delivering.{Report, reports, received, recorded}
+use Rattle.fixp_datagram.specs.Delivering.{reports, received, recorded}
 
 -- what the sender accepted, in the order of numbers; every datagram that was ever written; the receiver; what it delivered and
 -- gave up; and which datagrams were delivered, in order

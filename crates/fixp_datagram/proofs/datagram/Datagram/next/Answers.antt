@@ -5,7 +5,7 @@ use Rattle.sofh_frame.specs.Splits.{IsNoFrame}
 use Rattle.fixp_msgs.specs.Payload.{IsApplication}
 use Rattle.fixp_datagram.specs.Datagrams.{Contents}
 use Rattle.fixp_datagram.specs.Opened.{payloads_in, AreApplications}
-use Rattle.fixp_datagram.proofs.Reading.{IsNext, next_in, none_in, not_frame}
+use Rattle.fixp_datagram.proofs.Reading.{next_in, none_in, not_frame}
 use Rattle.fixp_datagram.proofs.datagram.Datagram.next.Goals as goal
 
 pub returns-in_default : goal.returns-in_default
