@@ -1,12 +1,15 @@
 -- Entries that are cut into datagrams are what a world writes.
-use Rattle.std.proofs.Common.{◌≡◌, ℕ, zero, suc, ◌+◌, ◌-◌, ◌*◌, ◌≤◌, min, nat_lt, nat_le, Bool, true, false, if◌then◌else◌, List, [], ◌∷◌, ◌++◌, map, length, take, drop, refl, sym, ap, subst, ◌∙◌, arith, append_assoc, append-nil, length-append, length-drop}
+use Rattle.std.proofs.Common.{◌≡◌, ℕ, zero, suc, ◌+◌, ◌-◌, ◌*◌, ◌≤◌, min, nat_lt, nat_le, Bool, true, false, if◌then◌else◌, List, [], ◌∷◌, ◌++◌, map, length, take, drop, refl, sym, ap, subst, ◌∙◌, arith, append_assoc, append-nil, length-append, length-drop, ◌<◌, slice_get, Some}
 use Rattle.std.proofs.lemmas.Bool.Decides.{nat_tests}
 use Rattle.std.proofs.lemmas.List.{take_all, length-map}
 use Rattle.std.proofs.Math.Nat.{div-mul-le_self, mul-le-mul_right}
+use Rattle.std.specs.List.{AllByRecursion}
 use Rattle.session_model.specs.Journal.{Entry, payloads, counts_from}
-use Rattle.fixp_datagram.specs.Packing.{cut_count, cut_at}
-use Rattle.fixp_datagram.specs.World.{World, Event, write, begun, entries_from, are_entries, happens, run, accepts, writes}
-use Rattle.fixp_datagram.specs.Laws.{CutIsWritten}
+use Rattle.fixp_datagram.specs.Datagrams.{Contents}
+use Rattle.fixp_datagram.specs.Packing.{cut_count, cut_at, cut}
+use Rattle.fixp_datagram.specs.World.{World, Event, write, begun, entries_from, are_entries, happens, run, accepts, writes, places_of, delivers}
+use Rattle.fixp_datagram.specs.Laws.{CutIsWritten, CutIsDelivered}
+use Rattle.fixp_datagram.proofs.Called.{deliveries_are_events}
 
 run-append : (first second : List Event) (w : World) → run (first ++ second) w ≡ run second (run first w)
 run-append [] second w = refl
@@ -96,3 +99,39 @@ cut_is_written flow most per h one room =
     ∙ (ap (λ w'. run (writes per (length h)) w') (run_accepts h (begun flow most) (omega (arith, room)))
     ∙ (run_writes per (cut_count per (length h)) 1 w (omega arith) (last_there per (length h) one)
     ∙ ap (λ n. record w { written = map (cut_at per (payloads h)) (counts_from 1 (cut_count per n)) }) (sym (length-map h (λ (e : Entry). e.payload)))))
+
+-- the one with a number stands at the place before it
+get_counts : (f : ℕ → Contents) (m c j : ℕ) → j < c → slice_get (map f (counts_from m c)) j ≡ Some (f (m + j))
+get_counts f m zero j h = absurd (omega arith)
+get_counts f m (suc c) zero h = let same : m ≡ m + 0 = omega arith in ap (λ n. Some (f n)) same
+get_counts f m (suc c) (suc j) h =
+    let same : m + 1 + j ≡ m + suc j = omega arith in
+    get_counts f (m + 1) c j (omega arith) ∙ ap (λ n. Some (f n)) same
+
+stand_there : (per : ℕ) (h : List Entry) (ks : List ℕ) → AllByRecursion (λ k. (1 ≤ k) × (k ≤ cut_count per (length h))) ks
+    → map (slice_get (cut per (payloads h))) (places_of ks) ≡ map Some (map (cut_at per (payloads h)) ks)
+stand_there per h [] all = refl
+stand_there per h (k ∷ ks) all =
+    let f = cut_at per (payloads h) in
+    let len : length (payloads h) ≡ length h = length-map h (λ (e : Entry). e.payload) in
+    let number : 1 + (k - 1) ≡ k = omega (arith, all.0.0) in
+    let within : k - 1 < cut_count per (length h) = omega (arith, all.0.0, all.0.1) in
+    let here : slice_get (cut per (payloads h)) (k - 1) ≡ Some (f k) =
+    ap (λ n. slice_get (map f (counts_from 1 (cut_count per n))) (k - 1)) len
+    ∙ (get_counts f 1 (cut_count per (length h)) (k - 1) within ∙ ap (λ n. Some (f n)) number) in
+    ap (λ o. o ∷ map (slice_get (cut per (payloads h))) (places_of ks)) here
+    ∙ ap (λ os. Some (f k) ∷ os) (stand_there per h ks all.1)
+
+pub cut_is_delivered : CutIsDelivered
+cut_is_delivered flow most per h ks one room all =
+    let w : World = record (begun flow most) { history = h; written = cut per (payloads h) } in
+    let ds = map (cut_at per (payloads h)) ks in
+    let same : run (accepts h ++ writes per (length h) ++ delivers ks) (begun flow most) ≡ run (delivers ks) w =
+    run-append (accepts h ++ writes per (length h)) (delivers ks) (begun flow most)
+    ∙ ap (λ w'. run (delivers ks) w') (cut_is_written flow most per h one room) in
+    let told = deliveries_are_events w (places_of ks) ds (stand_there per h ks all) in
+    record {
+      receiver = ap (λ (x : World). x.receiver) same ∙ told.receiver;
+      inbox = ap (λ (x : World). x.inbox) same ∙ told.inbox;
+      delivered = ap (λ (x : World). x.delivered) same ∙ told.delivered;
+    }

@@ -1,6 +1,6 @@
 -- The laws of flows in datagrams, over every list of events.
 use Rattle.std.specs.Prelude.{◌≡◌, ◌↔◌, ℕ, ◌+◌, ◌-◌, ◌<◌, ◌≤◌, max, List, [], ◌∷◌, ◌++◌, map, length, drop, slice_get, Some}
-use Rattle.std.specs.List.{flat_map}
+use Rattle.std.specs.List.{flat_map, AllByRecursion}
 use Rattle.session_model.specs.Journal.{Entry, payloads}
 use Rattle.session_model.specs.Inbox.{Numbered, apply, skips, next_number}
 use Rattle.session_model.specs.Events.{announce, in_flow, message, numbered}
@@ -9,11 +9,11 @@ use Rattle.session_model.specs.Growth.{recoverable, idempotent, GrownThrough, Ap
 use Rattle.fixp_msgs.specs.declared.flow.Flow.{Flow}
 use Rattle.fixp_msgs.specs.declared.flow.Flow.TheVariants.{Recoverable, Idempotent}
 use Rattle.fixp_datagram.specs.Datagrams.{Contents, SpellsDatagram}
-use Rattle.fixp_datagram.specs.Packing.{cut}
+use Rattle.fixp_datagram.specs.Packing.{cut, cut_at, cut_count}
 use Rattle.fixp_datagram.specs.Receiving.{IsCarried, Receiver, fresh, ask}
 use Rattle.fixp_datagram.specs.Calls.{Call, called, calls_of, reported, IsKnown, IsIn}
 use Rattle.fixp_datagram.specs.Delivering.{Delivery, deliveries, received_all, recorded}
-use Rattle.fixp_datagram.specs.World.{World, Event, deliver, accepts, writes, begun, happens, run, jumps_over}
+use Rattle.fixp_datagram.specs.World.{World, Event, deliver, accepts, writes, delivers, begun, happens, run, jumps_over}
 
 -- Whatever is lost, repeated or reordered, and whenever the receiver is made again: a recoverable inbox is a prefix of what was
 -- accepted, each entry once under its number
@@ -107,3 +107,10 @@ abbrev pub CutIsWritten : Type 0
 CutIsWritten = (flow : Flow) (most per : ℕ) (h : List Entry) → 1 ≤ per → length h ≤ most
     → run (accepts h ++ writes per (length h)) (begun flow most)
     ≡ record (begun flow most) { history = h; written = cut per (payloads h) }
+
+-- entries that are accepted and written in datagrams of `per`, of which those with these numbers are delivered: what is
+-- delivered, recorded and received is that of the deliveries, one behind another
+abbrev pub CutIsDelivered : Type 0
+CutIsDelivered = (flow : Flow) (most per : ℕ) (h : List Entry) (ks : List ℕ) → 1 ≤ per → length h ≤ most
+    → AllByRecursion (λ k. (1 ≤ k) × (k ≤ cut_count per (length h))) ks
+    → HasDelivered (begun flow most) (run (accepts h ++ writes per (length h) ++ delivers ks) (begun flow most)) (map (cut_at per (payloads h)) ks)

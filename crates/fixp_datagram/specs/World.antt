@@ -79,6 +79,13 @@ accepts h = map accept h
 abbrev pub writes : (per count : ℕ) → List Event
 writes per count = map (λ k. write (1 + (k - 1) * per) (min per (count - (k - 1) * per))) (counts_from 1 (cut_count per count))
 
+-- the datagrams with these numbers among those written, from 1 on, are delivered one behind another
+abbrev pub places_of : List ℕ → List ℕ
+places_of ks = map (λ k. k - 1) ks
+
+abbrev pub delivers : List ℕ → List Event
+delivers ks = map deliver (places_of ks)
+
 -- the jumps of some datagrams, in order, where `next` is the number reached: from it up to a first number beyond it
 abbrev pub jumps_over : ℕ → List Contents → List Range
 jumps_over next [] = []

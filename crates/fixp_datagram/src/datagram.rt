@@ -105,7 +105,7 @@ impl<'a> Datagram<'a> {
     }
 }
 
-/// The same, as one fact.
+/// What `open_datagram` answers, as one fact.
 fn read_datagram<'a>(bytes: &'a [u8]) -> Result<Datagram<'a>, DgFault>
     ensures { Answers bytes.now result }
 {

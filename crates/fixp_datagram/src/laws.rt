@@ -1,7 +1,7 @@
 //! The laws of flows in datagrams, over every list of events of a network that loses, repeats and reorders them.
 //! Each function has an empty body; its clause is a statement about the definitions that the calls of this crate meet.
 
-ghost use Rattle.fixp_datagram.specs.Laws.{RecoverableIsPrefix, IdempotentHasEachOnce, NextGrows, RecoverableGrows, IdempotentGrows, ReceiverFollows, CallsAreDeliveries, AsksKnown, OneDatagram, DeliveriesAreEvents, CutIsWritten};
+ghost use Rattle.fixp_datagram.specs.Laws.{RecoverableIsPrefix, IdempotentHasEachOnce, NextGrows, RecoverableGrows, IdempotentGrows, ReceiverFollows, CallsAreDeliveries, AsksKnown, OneDatagram, DeliveriesAreEvents, CutIsWritten, CutIsDelivered};
 
 /// A recoverable inbox is a prefix of what was accepted.
 pub fn recoverable_is_prefix()
@@ -56,4 +56,9 @@ pub fn deliveries_are_events()
 /// Entries that are cut into datagrams are what a world writes.
 pub fn cut_is_written()
     ensures law { CutIsWritten }
+{}
+
+/// Of these, some that are delivered one behind another have the receiver report what its calls answer.
+pub fn cut_is_delivered()
+    ensures law { CutIsDelivered }
 {}

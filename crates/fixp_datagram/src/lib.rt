@@ -10,9 +10,9 @@ mod samples;
 
 pub use datagram::{Datagram, DgFault, MOST_BYTES, open_datagram};
 pub use laws::{
-    asks_known, calls_are_deliveries, cut_is_written, deliveries_are_events, idempotent_grows,
-    idempotent_has_each_once, next_grows, one_datagram, receiver_follows, recoverable_grows,
-    recoverable_is_prefix,
+    asks_known, calls_are_deliveries, cut_is_delivered, cut_is_written, deliveries_are_events,
+    idempotent_grows, idempotent_has_each_once, next_grows, one_datagram, receiver_follows,
+    recoverable_grows, recoverable_is_prefix,
 };
 pub use packing::pack;
 pub use receiver::{DgReceiver, DgSeen, MOST_ASKED, Start};
