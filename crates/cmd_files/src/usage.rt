@@ -23,6 +23,7 @@ const USAGE: &str =
   fixpgw format OUTBOX INBOX            makes the two journals of a new session
   fixpgw journal OUTBOX INBOX OUT       prints both journals to OUT
   fixpgw migrate OLD NEW                moves a journal of format 1 to a file of its own, in the format of today
+  fixpgw datagram CONFIG OUT            packs messages into datagrams, delivers those that CONFIG lists, and prints what comes to OUT
   fixpgw rehearse CONFIG OUT            runs two ends in memory by the script in CONFIG, and prints what both hold to OUT
   fixpgw soak N OUT                     runs two ends in memory over N messages, with cuts, and prints what both hold to OUT
   fixpgw COMMAND --help                 what a command takes and does
@@ -127,6 +128,15 @@ for INBOX. The first byte of NEW is written last: cut off at any moment, it leav
   OLD      the journal of format 1 (read, and kept to this process meanwhile; it stays as it is)
   NEW      the journal of format 2 (made where it is missing; else it is empty, or what was begun of this journal)";
 
+const DATAGRAM: &str = "usage: fixpgw datagram CONFIG OUT
+
+Numbers messages of a recoverable or an idempotent flow, packs them into datagrams, and delivers these to a receiver as CONFIG lists
+them: each maybe never, maybe several times, in any order. No address is opened.
+
+  CONFIG   the script, as TOML (read)
+  OUT      `missing FROM COUNT`, `deliver N` and `late N` as they come, behind each delivery `ask FROM COUNT` where numbers are to be
+           sent again, and at the end `next N` (written); - is standard output";
+
 const REHEARSE: &str = "usage: fixpgw rehearse CONFIG OUT
 
 Runs two ends of a session in memory, an initiator whose senders send orders, and an acceptor that may have desks, as a
@@ -157,6 +167,7 @@ fn usage_of(command: &str) -> Option<&'static str> {
         "format" => Some(FORMAT),
         "journal" => Some(JOURNAL),
         "migrate" => Some(MIGRATE),
+        "datagram" => Some(DATAGRAM),
         "rehearse" => Some(REHEARSE),
         "soak" => Some(SOAK),
         _ => None,

@@ -2,6 +2,7 @@
 //! the command run over them, prints its status and exits with it. What is between is the crate `cmd_run`.
 #![tactic(auto)]
 
+mod datagrams;
 mod feeding;
 mod progress;
 mod rehearsals;
@@ -10,6 +11,7 @@ mod soaks;
 
 use cmd_files::{Report, VERSION, asked, finish, run_over_files, usage_fault};
 use cmd_run::{Status, command_of};
+use datagrams::{DatagramFiles, deliver_over_files};
 use feeding::{AcceptedFile, Feeds, feed_over_sockets};
 use gw_fed_files::ComingFile;
 use gw_real::{FileDisk, Opening};
@@ -73,6 +75,9 @@ fn run_words<R: Threads + Wait + Sync + Clock + Files<File = File> + Print + Epr
     words: &[String],
     shows_progress: bool,
 ) -> ExitCode {
+    if let Some(files) = DatagramFiles::of(words) {
+        return deliver_over_files(rt, files);
+    }
     if let Some(files) = RehearsalFiles::of(words) {
         return rehearse_over_files(rt, files, shows_progress);
     }

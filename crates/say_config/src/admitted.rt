@@ -111,6 +111,26 @@ const SCRIPT: &[Row] = &[
     },
 ];
 
+/// The keys of the script of messages in datagrams.
+const DATAGRAMS: &[Row] = &[
+    Row {
+        keys: &["flow"],
+        admitted: Admitted::Words(cmd_datagram::FLOW_WORDS),
+    },
+    Row {
+        keys: &["messages"],
+        admitted: Admitted::Number(cmd_datagram::MESSAGES),
+    },
+    Row {
+        keys: &["per"],
+        admitted: Admitted::Number(cmd_datagram::PER),
+    },
+    Row {
+        keys: &["deliver"],
+        admitted: Admitted::Other("a list of at most 100000 numbers of datagrams"),
+    },
+];
+
 /// The keys of a schema. A `length` is a primitive in data.
 const SCHEMA: &[Row] = &[
     Row {
@@ -198,6 +218,13 @@ pub fn in_script(key: &str) -> Admitted {
         return Admitted::Other("a table");
     }
     admitted_in(SCRIPT, key).unwrap_or(in_settings(key))
+}
+
+/// What stands at a key of a script of messages in datagrams, or at a place of its list.
+pub fn in_datagrams(key: &str) -> Admitted {
+    admitted_in(DATAGRAMS, key).unwrap_or(Admitted::Other(
+        "the number of a datagram, from 1 to messages divided by per, rounded up",
+    ))
 }
 
 /// What a command asks of a key on top.

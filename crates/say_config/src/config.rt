@@ -1,7 +1,7 @@
 //! What is wrong with CONFIG: the place, what was found there, and what would be right.
 
 use crate::admitted::{
-    Admitted, Asked, asked_by, asked_by_script, in_schema, in_script, in_settings,
+    Admitted, Asked, asked_by, asked_by_script, in_datagrams, in_schema, in_script, in_settings,
 };
 use cmd_config::Purpose;
 use say_toml::{Broken, found_at, last_key, list_key, push_value, push_where, schema_fault};
@@ -20,6 +20,8 @@ pub enum Wanted {
     Session(Purpose),
     /// The script of a rehearsal.
     Script,
+    /// The script of messages in datagrams.
+    Datagrams,
     /// A schema.
     Schema,
 }
@@ -29,6 +31,7 @@ fn admitted_at(wanted: Wanted, key: &str, found: Option<&Value>) -> Admitted {
     match wanted {
         Wanted::Session(_) => in_settings(key),
         Wanted::Script => in_script(key),
+        Wanted::Datagrams => in_datagrams(key),
         Wanted::Schema => in_schema(key, found),
     }
 }
@@ -56,7 +59,7 @@ fn asked_at(wanted: Wanted, key: &str, found: Option<&Value>) -> Option<Asked> {
     match wanted {
         Wanted::Session(purpose) => asked_by(purpose, key, found),
         Wanted::Script => asked_by_script(key, found),
-        Wanted::Schema => None,
+        Wanted::Datagrams | Wanted::Schema => None,
     }
 }
 
