@@ -20,6 +20,7 @@ const USAGE: &str =
   fixpgw check CONFIG OUT               checks the schema in CONFIG, and prints its layout to OUT
   fixpgw decode CONFIG INPUT OUT        prints the messages in the frames of INPUT as text to OUT
   fixpgw encode CONFIG INPUT WIRE       writes the messages in the text of INPUT as frames to WIRE
+  fixpgw extends NEW OLD OUT            says whether the schema in NEW is a later version of that in OLD
   fixpgw format OUTBOX INBOX            makes the two journals of a new session
   fixpgw journal OUTBOX INBOX OUT       prints both journals to OUT
   fixpgw migrate OLD NEW                moves a journal of format 1 to a file of its own, in the format of today
@@ -31,8 +32,8 @@ const USAGE: &str =
   fixpgw --version                      the name and the version
   fixpgw --quiet COMMAND ..             accept and connect say on standard error only what is refused, broken or lost
 
-OUT may be -, which is standard output; so may ACCEPTED, where OUT is not. The last line on standard output is `status N NAME`, and N is the
-exit status: 0 done, 1 words, 2 config, 3 input-fault, 4 output-fault, 5 journal-fault, 6 journal-bad,
+OUT may be -, which is standard output; so may ACCEPTED, where OUT is not. The last line on standard output is `status N NAME`, but where OUT of
+extends is -, then it is on standard error. N is the exit status: 0 done, 1 words, 2 config, 3 input-fault, 4 output-fault, 5 journal-fault, 6 journal-bad,
 7 dial-fault, 8 unfinished, 9 rejected, 10 full, 11 turns, 12 message, 13 undrained, 14 memory.";
 
 const ACCEPT: &str = "usage: fixpgw accept ADDRESS N CONFIG INPUT OUTBOX INBOX OUT [ACCEPTED]
@@ -104,6 +105,15 @@ Writes messages from their text. Nothing is written where a line of the text is 
   INPUT    the lines of the messages, as decode prints them (read)
   WIRE     the messages in their frames (written)";
 
+const EXTENDS: &str = "usage: fixpgw extends NEW OLD OUT
+
+Says whether one schema is a later version of another: whoever knows the other alone reads its messages too.
+
+  NEW      the schema that may be the later version, as TOML (read); - is standard input
+  OLD      the schema that it may extend, as TOML (read); - is standard input, where NEW is not
+  OUT      `extends`, or `differs` with the place of the first difference (written); - is standard output, and then the status goes to
+           standard error";
+
 const FORMAT: &str = "usage: fixpgw format OUTBOX INBOX
 
 Makes the two journals of a new session, without records. A file that is a journal already, of whatever format, is refused.
@@ -164,6 +174,7 @@ fn usage_of(command: &str) -> Option<&'static str> {
         "connect" => Some(CONNECT),
         "decode" => Some(DECODE),
         "encode" => Some(ENCODE),
+        "extends" => Some(EXTENDS),
         "format" => Some(FORMAT),
         "journal" => Some(JOURNAL),
         "migrate" => Some(MIGRATE),

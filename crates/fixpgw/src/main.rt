@@ -3,6 +3,7 @@
 #![tactic(auto)]
 
 mod datagrams;
+mod extending;
 mod feeding;
 mod progress;
 mod rehearsals;
@@ -12,6 +13,7 @@ mod soaks;
 use cmd_files::{Report, VERSION, asked, finish, run_over_files, usage_fault};
 use cmd_run::{Status, command_of};
 use datagrams::{DatagramFiles, deliver_over_files};
+use extending::{ExtendsFiles, extends_over_files};
 use feeding::{AcceptedFile, Feeds, feed_over_sockets};
 use gw_fed_files::ComingFile;
 use gw_real::{FileDisk, Opening};
@@ -83,6 +85,9 @@ fn run_words<R: Threads + Wait + Sync + Clock + Files<File = File> + Print + Epr
     }
     if let Some(file) = SoakFile::of(words) {
         return soak_over_file(rt, file, shows_progress);
+    }
+    if let Some(files) = ExtendsFiles::of(words) {
+        return extends_over_files(rt, files);
     }
     let report = if command_of(words).is_some() {
         run_over_files(rt, words)

@@ -154,7 +154,7 @@ fn position(before: &[u8]) -> (u64, u64) {
 }
 
 /// The table that a text is, as far as it is one.
-fn table_of(alloc: Global, text: &[u8]) -> Option<Value> {
+pub(crate) fn table_of(alloc: Global, text: &[u8]) -> Option<Value> {
     let text = std::str::from_utf8(text).ok()?;
     let table = toml::table_from_str(alloc, text).ok()?;
     Some(Value::Table(table))

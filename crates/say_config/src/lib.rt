@@ -4,5 +4,7 @@
 
 mod admitted;
 mod config;
+mod differing;
 
 pub use config::{Wanted, push_config_fault};
+pub use differing::push_difference;

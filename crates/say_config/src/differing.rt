@@ -1,0 +1,40 @@
+//! Where the schema of one text differs from that of another, in a line for people.
+
+use crate::config::table_of;
+use say_toml::{found_at, last_key, push_where};
+use say_words::push_path;
+use sbe_value::Path;
+use std::alloc::{AllocError, Global};
+
+/// What is to be said of a place at which OLD has something and NEW has not the same.
+fn words_at(path: &Path) -> &'static str {
+    match (path.len(), last_key(path)) {
+        (1, "id") => "NEW is a schema of another id",
+        (1, "order") => "NEW has the other byte order",
+        (1, "version") => "the version of NEW is below this one",
+        _ => "NEW has not the same here",
+    }
+}
+
+/// Adds a place at which OLD, whose text this is, has something, and NEW has not the same; and says whether OLD has something there.
+///
+/// # Errors
+/// Want of memory.
+pub fn push_difference(
+    alloc: Global,
+    line: &mut String,
+    path: &Path,
+    older: &[u8],
+) -> Result<bool, AllocError> {
+    let Some(root) = table_of(alloc, older) else {
+        return Ok(false);
+    };
+    if found_at(&root, path).is_none() {
+        return Ok(false);
+    }
+    push_path(line, path)?;
+    line.push_str(": ")?;
+    push_where(alloc, line, &root, path, older)?;
+    line.push_str(words_at(path))?;
+    Ok(true)
+}
