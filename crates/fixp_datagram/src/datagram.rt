@@ -17,7 +17,6 @@ ghost use Rattle.fixp_msgs.specs.Grammar.{Spells};
 use fixp_msgs::{FrameKind, SessionMsg, kind, read};
 use sofh_frame::{FirstFrame, Order};
 use std::marker::Model;
-use thiserror::Error;
 
 /// The most bytes of a datagram.
 pub const MOST_BYTES: usize = 65_000;
@@ -26,19 +25,16 @@ pub const MOST_BYTES: usize = 65_000;
 pub(crate) const LENGTH_SIZE: usize = 4;
 
 /// Why bytes are no datagram.
-#[derive(Clone, Copy, Debug, PartialEq, Eq, Error)]
+#[derive(Clone, Copy, Debug)]
 pub enum DgFault {
     /// They do not begin with a whole Sequence frame.
-    #[error("the datagram does not begin with a Sequence")]
     NoSequence,
     /// Behind the Sequence stand not only whole application frames.
-    #[error("no application frame at byte {at} of the datagram")]
     BadFrame {
         /// The place where the first of them should begin, in bytes from the datagram's first.
         at: u64,
     },
     /// They are more than 65,000.
-    #[error("the datagram is longer than 65000 bytes")]
     TooLong,
 }
 

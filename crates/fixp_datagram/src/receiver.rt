@@ -12,7 +12,7 @@ use std::marker::Model;
 pub const MOST_ASKED: u64 = 256;
 
 /// What a datagram's first number comes to.
-#[derive(Clone, Copy, Debug, PartialEq, Eq)]
+#[derive(Clone, Copy, Debug)]
 pub enum Start {
     /// Its messages are taken.
     Plain,
@@ -23,7 +23,7 @@ pub enum Start {
 }
 
 /// What becomes of a message, with its number.
-#[derive(Clone, Copy, Debug, PartialEq, Eq)]
+#[derive(Clone, Copy, Debug)]
 pub enum DgSeen {
     /// It is the one that the inbox waits for, and is delivered.
     Deliver(u64),
