@@ -1,9 +1,10 @@
-//! Cases of values, schemas, bytes and texts of messages, versions of a schema, and session messages. Each section reads
+//! Cases of values, schemas, bytes and texts of messages, versions of a schema, session messages, and datagrams. Each section reads
 //! its cases, a line each, and prints what they show; a word on the command line names one section. What the program has to print
 //! stands in `stdout`, worked out by hand.
 #![tactic(auto)]
 
 mod codec;
+mod datagrams;
 mod messages;
 mod schemas;
 mod skew;
@@ -28,6 +29,9 @@ fn main(rt: HostRuntime) -> io::Result<()> {
     }
     if begins(&rt, &asked, "messages")? {
         messages::print(&rt)?;
+    }
+    if begins(&rt, &asked, "datagrams")? {
+        datagrams::print(&rt)?;
     }
     Ok(())
 }
