@@ -1,0 +1,6 @@
+mod Readings
+mod Giving
+mod Payloads
+mod Writing
+mod Listed
+mod Worlds

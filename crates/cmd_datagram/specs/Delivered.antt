@@ -50,15 +50,15 @@ received_lines r ds = flat_map delivery_lines (deliveries r ds) ++ number_line (
 abbrev pub delivered_lines : Script → List ℕ
 delivered_lines s = received_lines (fresh s.flow 1 most) (delivered s)
 
--- an output was given the front of a text, and the rest of it is held
-pub record Wrote (before now : Option (List ℕ)) (text held : List ℕ) : Type 0 where
-  pub given : List ℕ
-  pub appended : Appends before now given
-  pub joins : given ++ held ≡ text
+-- this text was written: some of it was pushed to an output that told this before, and the rest is held
+pub record Wrote (before : Option (List ℕ)) (text : List ℕ) (now : Option (List ℕ)) (held : List ℕ) : Type 0 where
+  pub pushed : List ℕ
+  pub joins : text ≡ pushed ++ held
+  pub gained : Appends before now pushed
 
--- more lines were written behind those before, or only a front of them
+-- whatever was written before, this text more was written, or a front of both was pushed
 abbrev pub WritesMore : (old new : Option (List ℕ)) → (held now_held more : List ℕ) → Type 0
-WritesMore old new held now_held more = (before : Option (List ℕ)) (text : List ℕ) → Wrote before old text held → Wrote before new (text ++ more) now_held
+WritesMore old new held now_held more = (before : Option (List ℕ)) (text : List ℕ) → Wrote before text old held → Wrote before (text ++ more) new now_held
 
 abbrev pub WritesFront : (old new : Option (List ℕ)) → (held more : List ℕ) → Type 0
-WritesFront old new held more = (before : Option (List ℕ)) (text : List ℕ) → Wrote before old text held → TakesFront before new (text ++ more)
+WritesFront old new held more = (before : Option (List ℕ)) (text : List ℕ) → Wrote before text old held → TakesFront before new (text ++ more)

@@ -2,7 +2,7 @@
 use Rattle.std.specs.Prelude.{ℕ, ◌-◌, ◌^◌, List, [], ◌∷◌, ◌++◌, map}
 use Rattle.std.specs.Int.{w64, to_le_bytes}
 use Rattle.session_model.specs.Journal.{Entry, counts_from}
-use Rattle.fixp_datagram.specs.World.{World, Event, deliver, accepts, writes, begun}
+use Rattle.fixp_datagram.specs.World.{World, Event, accepts, writes, delivers, begun}
 use Rattle.cmd_datagram.specs.declared.script.Script.{Script}
 
 -- the payload of message k: the encoding type of little-endian SBE; a message header with block length 8, template 1, schema 200 and
@@ -25,10 +25,6 @@ most = 2 ^ 64 - 2
 abbrev pub begins : Script → World
 begins s = begun s.flow most
 
--- the listed datagrams are delivered, in order; datagram k has the place k - 1 among those written
-abbrev pub delivers : Script → List Event
-delivers s = map (λ k. deliver (k - 1)) s.deliver
-
 -- all messages are accepted, then all are written in datagrams of `per`, then the listed ones are delivered
 abbrev pub events_of : Script → List Event
-events_of s = accepts (entries s.messages) ++ writes s.per s.messages ++ delivers s
+events_of s = accepts (entries s.messages) ++ writes s.per s.messages ++ delivers s.deliver

@@ -14,11 +14,11 @@ ghost use Rattle.fixp_datagram.specs.Packing.{cut};
 use crate::delivering::{GiveFault, give_all};
 use crate::outcome::Outcome;
 use crate::packing::{datagrams, payloads};
-use crate::script::{Script, read_script};
-use cmd_base::{TextFault, begin, read_text};
+use crate::script::Script;
+use cmd_base::{Status, begin, read_config};
+use fixp_datagram::cut_is_written;
 use gw_outside::{Sink, Source};
 use sbe_value::Payloads;
-use schema_toml::TEXT_LIMIT;
 use std::alloc::{AllocError, Global};
 
 /// The devices of a run.
@@ -40,15 +40,12 @@ fn script_from<S: Source>(alloc: Global, config: &mut S) -> Result<Script, Outco
     ensures fault { IsErrOf result Outcome.InputFault → HasRisen (S.faults config.old) (S.faults config.new) }
     ensures refusal { IfErr result IsRefusal }
 {
-    let text = match read_text(alloc, config, TEXT_LIMIT) {
-        Ok(text) => text,
-        Err(TextFault::Source) => return Err(Outcome::InputFault),
-        Err(TextFault::Memory) => return Err(Outcome::Memory),
-    };
-    match read_script(alloc, text.as_slice()) {
+    match read_config::<S, Script>(alloc, (), config) {
         Ok(script) => Ok(script),
-        Err(fault) if fault.is_memory() => Err(Outcome::Memory),
-        Err(fault) => Err(Outcome::Config(fault)),
+        Err(Status::Config(fault)) => Err(Outcome::Config(fault)),
+        Err(Status::InputFault) => Err(Outcome::InputFault),
+        // No status but want of memory is left.
+        Err(_) => Err(Outcome::Memory),
     }
 }
 
@@ -62,6 +59,7 @@ fn packed(alloc: Global, script: &Script) -> Result<Payloads, AllocError>
 }
 
 /// Packs the messages of a script, delivers the listed datagrams, and gives the lines.
+#[tactic(auto, using(crate::proofs::Giving::gave_none))]
 fn run_script<K: Sink>(alloc: Global, script: &Script, out: &mut K) -> Outcome
     requires { IsScript script.now }
     ensures gave { Gave script.now (K.taken out.old) (K.taken out.new) result }
@@ -72,6 +70,8 @@ fn run_script<K: Sink>(alloc: Global, script: &Script, out: &mut K) -> Outcome
     let Ok(datagrams) = packed(alloc, script) else {
         return Outcome::Memory;
     };
+    // The world's datagrams are those that were packed.
+    cut_is_written();
     match give_all(alloc, script, &datagrams, out) {
         Ok(()) => Outcome::Done,
         Err(GiveFault::Output) => Outcome::OutputFault,
@@ -81,6 +81,7 @@ fn run_script<K: Sink>(alloc: Global, script: &Script, out: &mut K) -> Outcome
 
 /// `datagram`: packs the messages of the script in CONFIG into datagrams, delivers the listed ones to a receiver, and gives OUT the
 /// lines of what each delivery makes, and at the end the number that the receiver waits for. OUT is begun once CONFIG was read.
+#[tactic(auto, using(crate::proofs::Giving::gave_behind, crate::proofs::Giving::gave_refused, crate::proofs::Giving::gave_unbegun))]
 pub fn run_datagram<S: Source, K: Sink>(
     alloc: Global,
     devices: &mut DatagramDevices<S, K>,

@@ -41,8 +41,8 @@ fn push_messages(
     datagram: Datagram<'_>,
 ) -> Result<(), AllocError>
     requires begun { IsSome receiver.old.counting }
-    ensures lines { OnOk result (lines.new.items ≡ lines.old.items ++ flat_map report_line (told_all receiver.old datagram.payloads)) }
-    ensures after { OnOk result (receiver.new ≡ counted_all receiver.old datagram.payloads) }
+    ensures lines { OnOk result (lines.new.items ≡ lines.old.items ++ flat_map report_line (told_all receiver.old datagram.entry.payloads)) }
+    ensures after { OnOk result (receiver.new ≡ counted_all receiver.old datagram.entry.payloads) }
 {
     let mut datagram = datagram;
     while let Some(_payload) = datagram.next() {
@@ -59,8 +59,8 @@ fn push_behind(
     datagram: Datagram<'_>,
 ) -> Result<(), AllocError>
     requires begun { (start ≡ starts.TooLarge → ⊥) → IsSome receiver.old.counting }
-    ensures lines { OnOk result (lines.new.items ≡ lines.old.items ++ flat_map report_line (reports_behind start receiver.old datagram.payloads)) }
-    ensures after { OnOk result (receiver.new ≡ received_behind start receiver.old datagram.payloads) }
+    ensures lines { OnOk result (lines.new.items ≡ lines.old.items ++ flat_map report_line (reports_behind start receiver.old datagram.entry.payloads)) }
+    ensures after { OnOk result (receiver.new ≡ received_behind start receiver.old datagram.entry.payloads) }
 {
     match start {
         Start::Plain => push_messages(lines, receiver, datagram),
@@ -73,11 +73,7 @@ fn push_behind(
 }
 
 /// Delivers a datagram, and adds its lines.
-fn deliver(
-    lines: &mut Vec<u8>,
-    receiver: &mut DgReceiver,
-    bytes: &[u8],
-) -> Result<(), AllocError>
+fn deliver(lines: &mut Vec<u8>, receiver: &mut DgReceiver, bytes: &[u8]) -> Result<(), AllocError>
     requires packed { (d : Contents) × IsPacked bytes.now d }
     ensures lines { (d : Contents) → IsPacked bytes.now d → OnOk result (lines.new.items ≡ lines.old.items ++ lines_at receiver.old (Some d)) }
     ensures after { (d : Contents) → IsPacked bytes.now d → OnOk result (receiver.new ≡ received receiver.old d) }

@@ -12,4 +12,6 @@ mod script;
 
 pub use command::{DatagramDevices, run_datagram};
 pub use outcome::Outcome;
-pub use script::{DELIVERIES, Deliveries, FLOW_WORDS, MESSAGES, PER, Script, datagram_count, read_script};
+pub use script::{
+    DELIVERIES, Deliveries, FLOW_WORDS, MESSAGES, PER, Script, datagram_count, read_script,
+};

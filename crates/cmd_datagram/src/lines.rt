@@ -10,11 +10,7 @@ use std::alloc::AllocError;
 use text_words::push_number;
 
 /// Adds a word, a number and the line's end.
-pub(crate) fn push_numbered(
-    lines: &mut Vec<u8>,
-    word: &[u8],
-    number: u64,
-) -> Result<(), AllocError>
+pub(crate) fn push_numbered(lines: &mut Vec<u8>, word: &[u8], number: u64) -> Result<(), AllocError>
     ensures { OnOk result (lines.new.items ≡ lines.old.items ++ number_line word.now number) }
 {
     push_number(lines, word, number)?;
@@ -22,11 +18,7 @@ pub(crate) fn push_numbered(
 }
 
 /// Adds a word, a range and the line's end.
-pub(crate) fn push_range(
-    lines: &mut Vec<u8>,
-    word: &[u8],
-    range: Range,
-) -> Result<(), AllocError>
+pub(crate) fn push_range(lines: &mut Vec<u8>, word: &[u8], range: Range) -> Result<(), AllocError>
     ensures { OnOk result (lines.new.items ≡ lines.old.items ++ range_line word.now range) }
 {
     push_number(lines, word, range.from)?;

@@ -12,6 +12,7 @@ ghost use Rattle.fixp_datagram.specs.Packing.{cut_count};
 ghost use Rattle.fixp_datagram.specs.Receiving.{IsCarried};
 ghost use Rattle.cmd_datagram.specs.Script.{IsNumberOf, IsScript, deliver_of, flow_of, script_of, script_of_text};
 
+use cmd_base::Configured;
 use cmd_config::Range;
 use fixp_msgs::Flow;
 use lists::List;
@@ -124,6 +125,7 @@ fn ensure_few(alloc: Global, deliver: &[u64]) -> Result<(), TomlFault>
 }
 
 /// Which of so many datagrams are delivered, none where the key is absent.
+#[tactic(auto, using(crate::proofs::Readings::deliver_each))]
 fn read_deliver(alloc: Global, datagrams: u64, keys: &Value) -> Result<Deliveries, TomlFault>
     ensures value { Reads result (deliver_of datagrams (view keys.now)) }
     ensures each { IfOk result (λ deliver. AllByRecursion (IsNumberOf datagrams) deliver) }
@@ -134,6 +136,7 @@ fn read_deliver(alloc: Global, datagrams: u64, keys: &Value) -> Result<Deliverie
 }
 
 /// The flow that carries the messages.
+#[tactic(auto, using(crate::proofs::Readings::flow_carried))]
 fn read_flow(alloc: Global, keys: &Value) -> Result<Flow, TomlFault>
     ensures value { Reads result (required (codes "flow") flow_of (view keys.now)) }
     ensures carried { IfOk result IsCarried }
@@ -183,5 +186,27 @@ pub fn read_script(alloc: Global, text: &[u8]) -> Result<Script, ConfigFault>
     match read_keys(alloc, text) {
         Ok(script) => Ok(script),
         Err(fault) => Err(ConfigFault::Toml(fault)),
+    }
+}
+
+impl Configured for Script {
+    ghost use Rattle.toml_walk.specs.Documents.{document_of};
+    ghost use Rattle.toml_walk.specs.Reading.{◌>>=◌};
+    ghost use Rattle.schema_toml.specs.Faults.{of_text};
+    ghost use Rattle.cmd_datagram.specs.Script.{IsScript, script_of};
+    ghost use Rattle.cmd_datagram.specs.declared.script.Script as scripts;
+
+    type For = ();
+
+    ghost Told = { scripts.Script };
+
+    ghost told = { λ script. script };
+
+    ghost reading = { λ _ text. of_text (document_of text >>= script_of) };
+
+    ghost is_valid = { IsScript };
+
+    fn read(alloc: Global, _wanted: (), text: &[u8]) -> Result<Script, ConfigFault> {
+        read_script(alloc, text)
     }
 }
