@@ -60,7 +60,7 @@ fn are_applications(payloads: &[Bytes]) -> bool
 }
 
 /// Packs payloads from an index on into so much room; None where that is too little, or one is no message of an application.
-pub fn packed(
+pub fn pack_from(
     alloc: Global,
     first: u64,
     payloads: &Payloads,
@@ -106,7 +106,7 @@ pub fn add_packed(alloc: Global, words: &str, told: &mut String) -> Result<(), A
     let (from, words) = halves(words);
     let payloads = payloads_of(alloc, words)?;
     let from = number(from).min(MOST_FRAMES) as usize;
-    match packed(alloc, number(first), &payloads, from, room_of(room))? {
+    match pack_from(alloc, number(first), &payloads, from, room_of(room))? {
         Some(packed) => {
             let digits = digits(alloc, packed.bytes.as_slice())?;
             let size = packed.bytes.len();
@@ -141,7 +141,7 @@ pub fn add_sizes(alloc: Global, words: &str, told: &mut String) -> Result<(), Al
     let (first, words) = halves(words);
     let (room, words) = halves(words);
     let payloads = payloads_sized(alloc, words)?;
-    match packed(alloc, number(first), &payloads, 0, room_of(room))? {
+    match pack_from(alloc, number(first), &payloads, 0, room_of(room))? {
         Some(packed) => {
             let mut bytes = packed.bytes;
             let size = bytes.len();

@@ -4,7 +4,7 @@
 
 ghost use Rattle.std.specs.Prelude.{IsSome};
 
-use crate::datagrams::packing::{packed, payload};
+use crate::datagrams::packing::{pack_from, payload};
 use cases_words::{halves, number, parted};
 use fixp_datagram::{Datagram, DgReceiver, Start, open_datagram};
 use fixp_msgs::Flow;
@@ -111,7 +111,7 @@ fn add_place(
         .saturating_mul(per)
         .min(MOST_MESSAGES);
     let room = (1 + per) * FRAME;
-    match packed(alloc, from + 1, payloads, from as usize, room as usize)? {
+    match pack_from(alloc, from + 1, payloads, from as usize, room as usize)? {
         Some(packed) => add_delivery(receiver, packed.bytes.as_slice(), told),
         None => write!(told, " none"),
     }
@@ -153,7 +153,7 @@ fn add_start(
     let count = number(count).min(MOST_MESSAGES);
     let payloads = payloads(alloc, first, count)?;
     let room = (1 + count) * FRAME;
-    match packed(alloc, first, &payloads, 0, room as usize)? {
+    match pack_from(alloc, first, &payloads, 0, room as usize)? {
         Some(packed) => add_delivery(receiver, packed.bytes.as_slice(), told),
         None => write!(told, " none"),
     }

@@ -411,7 +411,7 @@ fn push_full<R: Wait>(
 }
 
 /// The journals of both ends, of which that of this role is to be stopped, and so many messages come to it; none where memory runs out.
-fn begun<R: Wait>(alloc: Global, role: Role, count: u8, rt: &R) -> Option<Begun> {
+fn both_begun<R: Wait>(alloc: Global, role: Role, count: u8, rt: &R) -> Option<Begun> {
     Some(Begun {
         near: first_journals(alloc, role, OWN, rt)?,
         far: first_journals(alloc, other(role), count, rt)?,
@@ -468,7 +468,7 @@ pub fn push_stopped<R: Wait>(
         line,
         "{role:?} with {count} messages in a turn: stopped at a call of its inbox"
     )?;
-    match begun(alloc, role, count, rt) {
+    match both_begun(alloc, role, count, rt) {
         Some(begun) => push_all(alloc, line, role, count, &begun, rt),
         None => line.push_str(" no journals"),
     }
