@@ -1,8 +1,9 @@
 -- What OUT was given behind its beginning, which gives nothing.
-use Rattle.std.proofs.Common.{◌≡◌, ℕ, List, [], take, length, Option, Some, None, refl, sym, ◌∙◌, arith, append-nil}
+use Rattle.std.proofs.Common.{◌≡◌, ℕ, List, [], take, length, Option, Some, None, Result, Ok, refl, sym, ◌∙◌, arith, append-nil}
 use Rattle.std.specs.Io.KnownBytes.{Appends, Keeps}
 use Rattle.std.proofs.KnownBytes.{Appends-trans}
 use Rattle.gw_outside.specs.Faults.{TakesFront}
+use Rattle.schema_toml.specs.declared.fault.ConfigFault.{ConfigFault}
 use Rattle.cmd_datagram.specs.declared.script.Script.{Script}
 use Rattle.cmd_datagram.specs.declared.outcome.Outcome.{Outcome}
 use Rattle.cmd_datagram.specs.declared.outcome.Outcome.TheVariants as outcomes
@@ -52,3 +53,7 @@ gave_refused script old outcomes.OutputFault is = absurd is
 gave_refused script old (outcomes.Config fault) is = keeps_self old
 gave_refused script old outcomes.InputFault is = keeps_self old
 gave_refused script old outcomes.Memory is = gave_none script old
+
+-- a text says one script
+pub same_script : (r : Result Script ConfigFault) (a b : Script) → r ≡ Ok a → r ≡ Ok b → a ≡ b
+same_script r a b x y = cc

@@ -36,9 +36,12 @@ script_of keys =
     deny_unknown_keys (codes "flow" ∷ codes "messages" ∷ codes "per" ∷ codes "deliver" ∷ []) keys >>= λ _.
     Ok (record { flow = flow; messages = messages; per = per; deliver = deliver })
 
+abbrev pub script_of_document : List ℕ → Read Script
+script_of_document text = document_of text >>= script_of
+
 -- the script that a text is, or why it is none
 abbrev pub script_of_text : List ℕ → Result Script ConfigFault
-script_of_text = limited (λ text. of_text (document_of text >>= script_of))
+script_of_text = limited (λ text. of_text (script_of_document text))
 
 -- the number of one of so many datagrams, from 1
 abbrev pub IsNumberOf : ℕ → ℕ → Type 0

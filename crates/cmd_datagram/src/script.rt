@@ -4,13 +4,12 @@ ghost use Rattle.std.specs.Prelude.{◌≡◌, ◌<◌, ◌≤◌, nat_le, codes
 ghost use Rattle.std.specs.List.{AllByRecursion};
 ghost use Rattle.toml.specs.View.{view};
 ghost use Rattle.toml_walk.specs.Keys.{required};
-ghost use Rattle.toml_walk.specs.Reading.{Reads, ◌>>=◌};
-ghost use Rattle.toml_walk.specs.Documents.{document_of};
+ghost use Rattle.toml_walk.specs.Reading.{Reads};
 ghost use Rattle.schema_toml.specs.Faults.{Tells, text_limit};
 ghost use Rattle.cmd_config.specs.Settings.{ensure_in_range};
 ghost use Rattle.fixp_datagram.specs.Packing.{cut_count};
 ghost use Rattle.fixp_datagram.specs.Receiving.{IsCarried};
-ghost use Rattle.cmd_datagram.specs.Script.{IsNumberOf, IsScript, deliver_of, flow_of, script_of, script_of_text};
+ghost use Rattle.cmd_datagram.specs.Script.{IsNumberOf, IsScript, deliver_of, flow_of, script_of, script_of_document, script_of_text};
 
 use cmd_base::Configured;
 use cmd_config::Range;
@@ -163,7 +162,7 @@ fn read_table(alloc: Global, keys: &Value) -> Result<Script, TomlFault>
 
 /// The script that a document is.
 fn read_keys(alloc: Global, text: &[u8]) -> Result<Script, TomlFault>
-    ensures value { Reads result (document_of text.now >>= script_of) }
+    ensures value { Reads result (script_of_document text.now) }
     ensures valid { IfOk result IsScript }
 {
     let keys = read_document(alloc, text)?;
@@ -190,10 +189,8 @@ pub fn read_script(alloc: Global, text: &[u8]) -> Result<Script, ConfigFault>
 }
 
 impl Configured for Script {
-    ghost use Rattle.toml_walk.specs.Documents.{document_of};
-    ghost use Rattle.toml_walk.specs.Reading.{◌>>=◌};
     ghost use Rattle.schema_toml.specs.Faults.{of_text};
-    ghost use Rattle.cmd_datagram.specs.Script.{IsScript, script_of};
+    ghost use Rattle.cmd_datagram.specs.Script.{IsScript, script_of_document};
     ghost use Rattle.cmd_datagram.specs.declared.script.Script as scripts;
 
     type For = ();
@@ -202,7 +199,7 @@ impl Configured for Script {
 
     ghost told = { λ script. script };
 
-    ghost reading = { λ _ text. of_text (document_of text >>= script_of) };
+    ghost reading = { λ _ text. of_text (script_of_document text) };
 
     ghost is_valid = { IsScript };
 

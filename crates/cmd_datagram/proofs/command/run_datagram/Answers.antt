@@ -2,8 +2,7 @@ use Rattle.std.proofs.Common.{◌≡◌, subst}
 use Rattle.cmd_datagram.specs.declared.script.Script.{Script}
 use Rattle.cmd_datagram.specs.Promise.{Gave}
 use Rattle.cmd_datagram.specs.Script.{script_of_text}
-use Rattle.cmd_datagram.proofs.Reading.{same_script}
-use Rattle.cmd_datagram.proofs.Giving.{gave_behind, gave_unbegun}
+use Rattle.cmd_datagram.proofs.Giving.{gave_behind, gave_unbegun, same_script}
 use Rattle.cmd_datagram.proofs.command.run_datagram.Goals as goal
 
 pub returns-in_default-clause-gave : goal.returns-in_default-clause-gave
