@@ -1,0 +1,4 @@
+pub mod Stood
+pub mod Doing
+pub mod Agreed
+pub mod Fallen

@@ -1,0 +1,4 @@
+pub mod Standing
+pub mod Acting
+pub mod Agreeing
+pub mod Falling
