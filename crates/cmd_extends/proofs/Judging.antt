@@ -62,8 +62,8 @@ keeps_self (Some xs) = refl
 
 -- where a text was refused nothing was given
 pub gave_refused : (newer older : Schema) (out : Option (List ℕ)) (text : Text) (o : Outcome) → IsRefusal text o → Gave newer older out out o
-gave_refused newer older out text (outcomes.Config of fault) is = keeps_self out
-gave_refused newer older out text (outcomes.InputFault of) is = keeps_self out
+gave_refused newer older out text (outcomes.Config other fault) is = keeps_self out
+gave_refused newer older out text (outcomes.InputFault other) is = keeps_self out
 gave_refused newer older out text outcomes.Memory is = keeps_self out
 gave_refused newer older out text outcomes.Extends is = absurd is
 gave_refused newer older out text (outcomes.Differs path) is = absurd is

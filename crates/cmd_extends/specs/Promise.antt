@@ -61,15 +61,15 @@ StopsAtNewer _ = ⊥
 
 -- the outcomes of a text that gives no schema, and what they say of it
 abbrev pub IsRefusal : Text → Outcome → Type 0
-IsRefusal text (outcomes.Config of fault) = of ≡ text
-IsRefusal text (outcomes.InputFault of) = of ≡ text
+IsRefusal text (outcomes.Config other fault) = other ≡ text
+IsRefusal text (outcomes.InputFault other) = other ≡ text
 IsRefusal text outcomes.Memory = Unit {0}
 IsRefusal text _ = ⊥
 
 abbrev pub Refuses : Outcome → Result Schema ConfigFault → Type 0
-Refuses (outcomes.Config of fault) told = told ≡ Err fault
+Refuses (outcomes.Config text fault) told = told ≡ Err fault
 Refuses outcomes.Memory told = Unit {0}
-Refuses (outcomes.InputFault of) told = Unit {0}
+Refuses (outcomes.InputFault text) told = Unit {0}
 Refuses _ told = ⊥
 
 -- the outcomes of a comparison

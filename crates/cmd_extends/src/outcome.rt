@@ -23,10 +23,15 @@ pub enum Outcome {
     Extends,
     /// A text is no schema: the first such text, its fault and the fault's place.
     #[error("config: NEW or OLD is no schema")]
-    Config { text: Text, fault: ConfigFault },
+    Config {
+        text: Text,
+        fault: ConfigFault,
+    },
     /// A text could not be read.
     #[error("input: NEW or OLD could not be read")]
-    InputFault { text: Text },
+    InputFault {
+        text: Text,
+    },
     /// OUT could not be written.
     #[error("output: OUT could not be written")]
     OutputFault,
