@@ -25,7 +25,7 @@ first_place newer older = option_map (place_of newer older) (difference_of newer
 
 -- the one schema does not extend the other, and this is where they differ first
 pub record DiffersAt (newer older : Schema) (path : List Step) : Type 0 where
-  pub not : ¬ Extends newer older
+  pub refuted : ¬ Extends newer older
   pub first : first_place newer older ≡ Some path
 
 -- `extends`
