@@ -1,5 +1,5 @@
 -- What an outcome says of both texts, from what it says of the one that was refused, or of none.
-use Rattle.std.proofs.Common.{◌≡◌, Option, Some, None, List, ℕ, Result, Ok, Err, IsOk, refl, sym, ◌∙◌}
+use Rattle.std.proofs.Common.{◌≡◌, Option, Some, None, List, ℕ, Result, Ok, Err, IsOk, refl, subst}
 use Rattle.std.specs.Io.KnownBytes.{Keeps}
 use Rattle.schema_types.specs.declared.schema.Schema.{Schema}
 use Rattle.schema_toml.specs.declared.fault.ConfigFault.{ConfigFault}
@@ -70,5 +70,11 @@ gave_refused newer older out text (outcomes.Differs path) is = absurd is
 gave_refused newer older out text outcomes.OutputFault is = absurd is
 
 -- a text says one schema
-pub same_schema : (r : Result Schema ConfigFault) (a b : Schema) → r ≡ Ok a → r ≡ Ok b → a ≡ b
+same_schema : (r : Result Schema ConfigFault) (a b : Schema) → r ≡ Ok a → r ≡ Ok b → a ≡ b
 same_schema r a b x y = cc
+
+-- what was given of the schemas that were read was given of those that both texts spell
+pub gave_of : (one other : Result Schema ConfigFault) (a b c d : Schema) (old new : Option (List ℕ)) (o : Outcome) → one ≡ Ok a → one ≡ Ok b → other ≡ Ok c → other ≡ Ok d
+    → Gave a c old new o → Gave b d old new o
+gave_of one other a b c d old new o first second third fourth gave =
+    subst (λ (s : Schema). Gave s d old new o) (same_schema one a b first second) (subst (λ (s : Schema). Gave a s old new o) (same_schema other c d third fourth) gave)

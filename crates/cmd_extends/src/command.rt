@@ -93,7 +93,6 @@ fn differs_line(alloc: Global, path: &Path) -> Result<Vec<u8>, AllocError>
 }
 
 /// Gives the line of a difference.
-#[tactic(auto, using(crate::proofs::Giving::differs_at, crate::proofs::Giving::differs_front))]
 fn give_difference<K: Sink>(
     alloc: Global,
     newer: &Schema,
@@ -121,7 +120,6 @@ fn give_difference<K: Sink>(
 }
 
 /// Compares two schemas, and gives the line of the answer.
-#[tactic(auto, using(crate::proofs::Giving::extends_front))]
 fn give_answer<K: Sink>(alloc: Global, newer: &Checked, older: &Checked, out: &mut K) -> Outcome
     ensures gave { Gave newer.now.schema older.now.schema (K.taken out.old) (K.taken out.new) result }
     ensures left { LeavesOut result → out.new ≡ out.old }
@@ -142,7 +140,7 @@ fn give_answer<K: Sink>(alloc: Global, newer: &Checked, older: &Checked, out: &m
 }
 
 /// `extends`: whether the schema of NEW is a later version of that of OLD, in a line on OUT, which is not touched before that is known.
-#[tactic(auto, using(crate::proofs::Judging::judged_newer, crate::proofs::Judging::judged_older, crate::proofs::Judging::judged_end, crate::proofs::Judging::older_behind, crate::proofs::Judging::end_behind, crate::proofs::Judging::gave_refused, crate::proofs::Giving::gave_of))]
+#[tactic(auto, using(crate::proofs::Judging::judged_newer, crate::proofs::Judging::judged_older, crate::proofs::Judging::judged_end, crate::proofs::Judging::older_behind, crate::proofs::Judging::end_behind, crate::proofs::Judging::gave_refused))]
 pub fn run_extends<S: Source, K: Sink>(alloc: Global, devices: &mut ExtendsDevices<S, K>) -> Outcome
     ensures verdict { (new_text old_text : List ℕ) → S.left devices.old.newer ≡ Some new_text → S.left devices.old.older ≡ Some old_text →
         Judges result (checked_of_text new_text) (checked_of_text old_text) }
