@@ -181,6 +181,11 @@ fn report_of<R: Files<File = File> + Print + AllocGlobal>(
         _ => None,
     };
     let is_closed = matches!(outcome, Outcome::OutputFault) && is_closed(devices.out.reason());
+    let ExtendsDevices {
+        newer: _,
+        older: _,
+        out: _,
+    } = devices;
     ExtendsReport {
         outcome,
         line,
