@@ -1,5 +1,5 @@
 -- What a run gives OUT, and what its outcome says of the script (this project's profile).
-use Rattle.std.specs.Prelude.{◌≡◌, ℕ, List, Option, Result, Err, IsOk}
+use Rattle.std.specs.Prelude.{◌≡◌, ℕ, codes, List, Option, Result, Err, IsOk}
 use Rattle.std.specs.Io.KnownBytes.{Appends, Keeps}
 use Rattle.gw_outside.specs.Faults.{TakesFront}
 use Rattle.schema_toml.specs.declared.fault.ConfigFault.{ConfigFault}
@@ -8,13 +8,20 @@ use Rattle.cmd_datagram.specs.declared.outcome.Outcome.{Outcome}
 use Rattle.cmd_datagram.specs.declared.outcome.Outcome.TheVariants as outcomes
 use Rattle.cmd_datagram.specs.Lines.{script_lines}
 
--- the number of an outcome
+-- the number of an outcome, and its name
 abbrev pub code_of : Outcome → ℕ
 code_of outcomes.Done = 0
 code_of (outcomes.Config fault) = 2
 code_of outcomes.InputFault = 3
 code_of outcomes.OutputFault = 4
 code_of outcomes.Memory = 14
+
+abbrev pub name_of : Outcome → List ℕ
+name_of outcomes.Done = codes "done"
+name_of (outcomes.Config fault) = codes "config"
+name_of outcomes.InputFault = codes "input-fault"
+name_of outcomes.OutputFault = codes "output-fault"
+name_of outcomes.Memory = codes "memory"
 
 -- the text is refused with its fault exactly where it has one, unless a device or memory failed before
 abbrev pub Judges : Outcome → Result Script ConfigFault → Type 0
