@@ -1,0 +1,7 @@
+pub mod Stood
+pub mod Doing
+pub mod Agreed
+pub mod Fallen
+pub mod Shut
+pub mod Closed
+pub mod Sampled

@@ -1,0 +1,65 @@
+-- What an end has to do, and that of two ends whose connections both go on one has something to do until both finishes are exchanged and
+-- the connection is closed.
+use Rattle.std.specs.Prelude.{◌≡◌, ℕ, ◌<◌, ◌≤◌, ◌&&◌, ◌⊎◌, Bool, true, false, List, [], ◌∷◌, length, take, None, IsSome}
+use Rattle.session_model.specs.Journal.{Entry}
+use Rattle.fixp_msgs.specs.Message.{Message, sequence, unsequenced_heartbeat}
+use Rattle.flow_retrans.specs.Requests.{is_coming}
+use Rattle.fixp_shake.specs.Flows.{is_absent}
+use Rattle.fixp_shake.specs.Phases.{is_idle, is_established}
+use Rattle.fixp_replies.specs.Events.{tells_finish, closes}
+use Rattle.fixp_machine.specs.Machine.{State, around}
+use Rattle.connection_laws.specs.Writing.{Piece, said, entry}
+use Rattle.honest_ends.specs.Worlds.{World, Step, world_after, AllMayStep}
+use Rattle.honest_ends.specs.Knowing.{StartsKnown}
+use Rattle.drain_laws.specs.Counts.{answered}
+use Rattle.drain_ends.specs.Standing.{BothGo}
+
+-- a message that keeps a connection alive, or ends a retransmission
+abbrev pub is_beat_of : Message → Bool
+is_beat_of (sequence next) = true
+is_beat_of unsequenced_heartbeat = true
+is_beat_of _ = false
+
+abbrev pub is_beat : Piece → Bool
+is_beat (said m) = is_beat_of m
+is_beat (entry payload) = false
+
+abbrev pub all_beats : List Piece → Bool
+all_beats [] = true
+all_beats (p ∷ later) = is_beat p && all_beats later
+
+-- how many messages a turn takes at most (this project's profile)
+abbrev pub turn_frames : ℕ
+turn_frames = 16
+
+-- An end of which so many entries of its outbox are seen that comes to have these, and what is under way to it. It serves a range; one of
+-- the messages that a turn takes is no heartbeat, or ends a retransmission that comes in; an entry is seen that was not sent; all
+-- are sent, and the finish is to be told; or both finishes are exchanged, and it is to close
+pub data Acts (h : List Entry) (seen : ℕ) (s : State) (way : List Piece) : Type 0 where
+  serves : IsSome s.facts.connection.serving → Acts h seen s way
+  reads : all_beats (take turn_frames way) ≡ false → Acts h seen s way
+  ends_range : is_coming s.facts.connection.requester ≡ true → 1 ≤ length way → Acts h seen s way
+  sends : is_established s.facts.connection.phase ≡ true → is_absent s.config.own_flow ≡ false → s.facts.recorded.sent < seen → Acts h seen s way
+  tells : seen ≡ length h → tells_finish (around s 0 0) s.facts (length h) ≡ true → Acts h seen s way
+  shuts : closes (around s 0 0) s.facts ≡ true → Acts h seen s way
+
+-- as many heartbeats as a turn takes, or more, stand first
+pub record BeatsFirst (way : List Piece) : Type 0 where
+  pub many : turn_frames ≤ length way
+  pub beats : all_beats (take turn_frames way) ≡ true
+
+-- an end whose connection goes on has something to do, or heartbeats to read
+pub data HasToDo (hi ha : List Entry) (seen : ℕ) (w : World) : Type 0 where
+  at_initiator : w.initiator.ending ≡ None → Acts hi (length hi) w.initiator w.homeward → HasToDo hi ha seen w
+  at_acceptor : w.acceptor.ending ≡ None → Acts ha seen w.acceptor w.outward → HasToDo hi ha seen w
+  homeward_beats : w.initiator.ending ≡ None → BeatsFirst w.homeward → HasToDo hi ha seen w
+  outward_beats : w.acceptor.ending ≡ None → BeatsFirst w.outward → HasToDo hi ha seen w
+
+-- Whatever steps came, where each may come, behind the beginning of a connection. The initiator has seen its whole outbox, and so has
+-- the acceptor where the initiator's finish is answered, or the initiator sends nothing
+abbrev pub SomethingToDo : Type 0
+SomethingToDo = (hi ha : List Entry) (w : World) (steps : List Step) (seen : ℕ) → StartsKnown hi ha w → AllMayStep hi ha w steps
+    → BothGo (world_after w steps) → is_idle (world_after w steps).initiator.facts.connection.phase ≡ false
+    → (world_after w steps).acceptor.facts.recorded.sent ≤ seen
+    → ((answered (world_after w steps).acceptor.facts ≡ 1) ⊎ (is_absent (world_after w steps).acceptor.config.peer_flow ≡ true) → seen ≡ length ha)
+    → HasToDo hi ha seen (world_after w steps)
