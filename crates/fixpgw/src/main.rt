@@ -3,8 +3,10 @@
 #![tactic(auto)]
 
 mod datagrams;
+mod dumping;
 mod extending;
 mod feeding;
+mod piped;
 mod progress;
 mod rehearsals;
 mod sessions;
@@ -13,6 +15,7 @@ mod soaks;
 use cmd_files::{Report, VERSION, asked, finish, run_over_files, usage_fault};
 use cmd_run::{Status, command_of};
 use datagrams::{DatagramFiles, deliver_over_files};
+use dumping::{DumpFiles, dump_over_files};
 use extending::{ExtendsFiles, extends_over_files};
 use feeding::{AcceptedFile, Feeds, feed_over_sockets};
 use gw_fed_files::ComingFile;
@@ -88,6 +91,9 @@ fn run_words<R: Threads + Wait + Sync + Clock + Files<File = File> + Print + Epr
     }
     if let Some(files) = ExtendsFiles::of(words) {
         return extends_over_files(rt, files);
+    }
+    if let Some(files) = DumpFiles::of(words) {
+        return dump_over_files(rt, files);
     }
     let report = if command_of(words).is_some() {
         run_over_files(rt, words)

@@ -1,5 +1,6 @@
 pub mod Fitting
 pub mod Made
+pub mod Names
 pub mod Numerals
 pub mod Printed
 pub mod Shrinking
