@@ -22,9 +22,6 @@ const PAYLOAD: usize = 62;
 /// The room of a datagram, in bytes.
 const ROOM: usize = 2048;
 
-/// The most frames of a datagram.
-const MOST_FRAMES: u64 = 65_000;
-
 /// The greatest number that a message may have.
 const MOST: u64 = u64::MAX - 1;
 
@@ -86,10 +83,7 @@ fn sum_of_messages(receiver: &mut DgReceiver, datagram: Datagram<'_>) -> u64
 {
     let mut datagram = datagram;
     let mut sum = 0u64;
-    for _ in 0..MOST_FRAMES {
-        let Some(payload) = datagram.next() else {
-            break;
-        };
+    while let Some(payload) = datagram.next() {
         sum = sum.wrapping_add(sum_of(receiver.on_app(), payload));
     }
     sum

@@ -1,7 +1,6 @@
 //! Cases of datagrams: reads `datagrams.txt` and the frames of `datagram-frames.txt`, and prints what each case shows. What it has to print
 //! stands in `stdout`, worked out by hand from the profile. A line that begins with `#` is a heading.
 
-mod orders;
 mod packing;
 mod receiving;
 
@@ -22,9 +21,8 @@ fn add_case(
         "pack" => packing::add_packed(alloc, words, told),
         "sizes" => packing::add_sizes(alloc, words, told),
         "open" => packing::add_opened(alloc, frames, words, told),
-        "row" => receiving::add_row(alloc, words, told),
         "starts" => receiving::add_starts(alloc, words, told),
-        "orders" => orders::add_orders(words, told),
+        "orders" => receiving::add_orders(alloc, words, told),
         _ => Ok(()),
     }
 }

@@ -1,6 +1,7 @@
 -- A life that was fed, once the gate is closed.
 use Rattle.std.proofs.Common.{◌≡◌, ℕ, ◌^◌, ◌<◌, false, List, Option, refl, sym, ap, subst, ◌∙◌}
-use Rattle.session_model.specs.Journal.{History}
+use Rattle.std.specs.Prelude.{Result}
+use Rattle.session_model.specs.Journal.{History, OutboxRecord}
 use Rattle.fixp_shake.specs.declared.config.EndConfig.{EndConfig}
 use Rattle.fixp_machine.specs.Machine.{State, fresh}
 use Rattle.jr_dated.specs.declared.journal.Journal.{Ghosts}
@@ -16,6 +17,8 @@ use Rattle.gate_senders.specs.Gate.{opening_of, OpensOn, ClosedWith}
 use Rattle.gate_senders.specs.declared.gate.Gate.{Gate}
 use Rattle.gate_senders.specs.declared.kept.Kept.{Kept}
 use Rattle.conn_door.specs.Answers.{answer_of}
+use Rattle.conn_door.specs.declared.answer.LifeEnd.{LifeEnd}
+use Rattle.conn_door.specs.declared.answer.ServeFault.{ServeFault}
 use Rattle.conn_serve.specs.Moments.{Beside, beside}
 use Rattle.conn_serve.specs.Opening.{opened_state}
 use Rattle.conn_fed.specs.declared.serving.Fed.{Fed}
@@ -24,12 +27,13 @@ use Rattle.life_laws.proofs.Boxes.{lived_by}
 use Rattle.fed_laws.specs.Answers.{fed_refusal}
 use Rattle.fed_laws.specs.At.{FedAt, fed_beside}
 use Rattle.fed_laws.specs.Given.{GiveThese, fed_plans}
-use Rattle.fed_laws.specs.Told.{WasFed}
+use Rattle.fed_laws.specs.Told.{WasFed, is_done, MarksDone}
 use Rattle.cmd_base.specs.declared.status.Status.{Status}
 use Rattle.cmd_session.specs.Lived.{status_of, over_boxes}
 use Rattle.cmd_session.specs.Outsides.{Hears}
 use Rattle.cmd_session.specs.declared.outside.Live.{Live}
-use Rattle.cmd_feed.specs.Fed.{status_of_feeding, streams, HasLivedFed}
+use Rattle.cmd_feed.specs.Fed.{status_of_feeding, StatusSays, streams, HasLivedFed}
+use Rattle.cmd_feed.proofs.Statuses.{status_says}
 
 module _ {J O K N C : Type 0} {G : Ghosts J} {H : Ghosts O} (hears : Hears K N C) (config : EndConfig) (senders : ℕ) (gate : Gate O H) (passes : Passes (Kept O H)) (old new : Live K N C) (outbox closed : Outbox O H) (box since : Inbox J G)
     (left left' taken taken' : Option (List ℕ)) (fed : Fed) (status : Status) (o : OpensOn gate outbox) (sound : is_broken outbox ≡ false) (in_sound : inboxes.is_broken box ≡ false) (k : ClosedWith gate passes closed) (few : front_of closed < 2 ^ 40)
@@ -56,6 +60,12 @@ module _ {J O K N C : Type 0} {G : Ghosts J} {H : Ghosts O} (hears : Hears K N C
         fed = w.0;
         give = subst (λ (ls : List (List ℕ)). GiveThese senders ls f.gifts) (sym w.1) f.give;
         status_is = is ∙ ap (λ c. status_of_feeding c fed.end fed.refused) (sym (l.3 ∙ f.connections_are));
+        marks = subst (λ (rs : List OutboxRecord). MarksDone (is_done fed.end) (opening_of gate).history l.0.closing rs) (sym l.5)
+            (subst (λ (h : History). MarksDone (is_done fed.end) (opening_of gate).history h k.refused) (sym l.2) (f.marks (account closed k.history k.refused) k.closed));
+        marking = f.marking;
+        says = subst (λ (s : Status). StatusSays l.0.connections (answer_of fed.connections (fed_refusal fed.end fed.refused)) s) (sym is)
+            (subst (λ (c : Result LifeEnd ServeFault). StatusSays c (answer_of fed.connections (fed_refusal fed.end fed.refused)) (status_of_feeding fed.connections fed.end fed.refused)) (sym (l.3 ∙ f.connections_are))
+            (status_says fed.connections fed.end fed.refused f.marking));
       }
 
 -- what a life left, of equal counts, and of what ACCEPTED took alike

@@ -45,6 +45,7 @@ use Rattle.conn_serve.specs.Opening.{opened_state}
 use Rattle.life_laws.specs.Lives.{LifeOfLoop, served_of}
 use Rattle.life_laws.proofs.Loops.{served_keeps}
 use Rattle.life_laws.proofs.Opened.{opened_opens}
+use Rattle.life_laws.proofs.Finishing.{finishes_stand}
 use Rattle.life_laws.specs.Plans.{Senders, submitting, plans_at}
 use Rattle.life_laws.specs.PlanLives.{clocked, LivedBoxes, WasFull, FillsInbox}
 use Rattle.life_laws.proofs.Outboxes.{entries-outbox_of}
@@ -177,6 +178,8 @@ module _ {S K D N C J : Type 0} {H : Ghosts J} (outbox : Outbox J H) (sees : See
       served = record { life = l.served.life; links = l.served.links; clock = by_earlier (sees.last before.clock) at (sees.last after.clock) (all_of l.served.life.ended l.served.life.given_up) least l.served.clock };
       answer = l.answer;
       refusal = l.refusal;
+      finished = λ e. let both = finishes_stand H.tells config (2 ^ 26) (life_at (sees.carried before.dialer) (sees.taken before.out) l.opening box) (life_at (sees.carried after.dialer) (sees.taken after.out) l.seen since) l.opening i.inbox i.holds refl l.connections l.served.life e in
+          (λ none. let was = both.0 none in ap (λ (h : History). h.finished) (sym (l.begins.alone was)) ∙ was, both.1);
       begins = l.begins;
       grows = l.grows;
       lost = l.lost;
@@ -248,4 +251,7 @@ module _ {S I K A D N C J : Type 0} {H : Ghosts J} (outbox : Outbox J H) (seen :
       };
       give = h.give;
       status_is = h.status_is;
+      marks = h.marks;
+      marking = h.marking;
+      says = h.says;
     }

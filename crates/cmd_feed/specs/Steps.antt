@@ -1,6 +1,6 @@
 -- The steps of a session that is fed: CONFIG, which has no desks, the outbox, the inbox, OUT, which goes on over the inbox, ACCEPTED, and the life. A run
 -- ends at one of them, and leaves all that comes behind it as it was (this project's profile).
-use Rattle.std.specs.Prelude.{◌≡◌, ◌⊎◌, ℕ, ◌+◌, ◌^◌, ◌<◌, ◌≤◌, Bool, false, All, List, [], ◌∷◌, take, flat_map, codes, Option, Some, IsSomeAnd}
+use Rattle.std.specs.Prelude.{◌≡◌, ◌⊎◌, ℕ, ◌+◌, ◌^◌, ◌<◌, ◌≤◌, Bool, false, All, List, [], ◌∷◌, take, flat_map, codes, Option, None, Some, IsSomeAnd}
 use Rattle.std.specs.Option.{ForSome}
 use Rattle.std.specs.Io.KnownBytes.{Keeps}
 use Rattle.hex.specs.Hex.{IsBytes}
@@ -20,7 +20,6 @@ use Rattle.jr_kept.specs.declared.outbox.Outbox.{Outbox}
 use Rattle.jr_kept.specs.Inbox as inboxes
 use Rattle.jr_kept.specs.Outbox as outboxes
 use Rattle.jr_boxes.specs.declared.faults.Which.TheVariants.{Inbox as InboxOf}
-use Rattle.jr_boxes.specs.declared.faults.JournalCause.TheVariants.{Changed}
 use Rattle.conn_out.specs.Messages.{messages_of}
 use Rattle.conn_out.specs.Projections.{Tells, Projects, ProjectsOn}
 use Rattle.cmd_base.specs.Contents.{Disks}
@@ -64,12 +63,11 @@ abbrev pub StillProjects : (told before after : Option (List ℕ)) → Type 0
 StillProjects told before after =
     ForSome told (λ content. (inbox : List InboxRecord) → IsJournal content (records_of_inbox inbox) → ProjectsOver inbox before after)
 
--- What a status says where OUT did not go on over an inbox whose disk told this: OUT, or the disk, or memory failed; or the disk gave a record otherwise
--- than it was written; and it is refused as a journal of the inbox only where it told nothing
+-- What a status says where OUT did not go on over an inbox whose disk told this: OUT, or the disk, or memory failed; and it is refused as a journal of the
+-- inbox, or for a record that it gave otherwise than it was written, only where it told nothing
 abbrev pub RefusesOut : (told : Option (List ℕ)) → Status → Type 0
 RefusesOut told OutputFault = Unit {0}
 RefusesOut told JournalFault = Unit {0}
-RefusesOut told (JournalBad InboxOf (Changed at)) = Unit {0}
 RefusesOut told (JournalBad InboxOf cause) = ForSome told (λ _. ⊥)
 RefusesOut told Memory = Unit {0}
 RefusesOut told _ = ⊥
@@ -116,34 +114,39 @@ module _ {S I K A D N C : Type 0} where
     pub live : KeepsLive (live_of (session_of before)) (live_of (session_of after))
     pub streams : KeepsStreams before after
 
-  -- OUT did not go on, or the inbox could not be opened once more; ACCEPTED and all behind it is as it was, and both disks leave what they held
+  -- OUT did not go on, or the inbox could not be opened once more; ACCEPTED and all behind it is as it was, and both disks leave what they held. OUT is
+  -- blamed where a call of it failed, or where it was found shorter than it had told, as one that tells its content never is
   pub record StopsAtOut (sees : FeedSees S I K A D N C) (before after : FeedOutside S I K A D N C) (status : Status) : Type 0 where
     pub refused : RefusesOut (sees.session.told before.in_disk) status
     pub journal : status ≡ JournalFault → HasRisen (sees.session.disk before.in_disk) (sees.session.disk after.in_disk)
+    pub output : status ≡ OutputFault → HasRisen (sees.session.sink before.out) (sees.session.sink after.out) ⊎ (sees.session.taken before.out ≡ None)
     pub out : StillProjects (sees.session.told before.in_disk) (sees.session.taken before.out) (sees.session.taken after.out)
     pub links : KeepsLinks before after
     pub streams : KeepsStreams before after
     pub left : LeftBoth sees.session.told sees.session.may_leave (disks_of (session_of before)) (disks_of (session_of after))
 
-  -- OUT went on, and ACCEPTED could not be begun; INPUT, the dialer and the clock are as they were, and both disks leave what they held
+  -- OUT went on, and ACCEPTED could not be begun, and took nothing; INPUT, the dialer and the clock are as they were, and both disks leave what they held
   pub record StopsAtAccepted (sees : FeedSees S I K A D N C) (before after : FeedOutside S I K A D N C) (status : Status) : Type 0 where
     pub out : WentOn sees.keeps (sees.session.told before.in_disk) (sees.session.taken before.out) (sees.session.taken after.out)
     pub failed : status ≡ OutputFault
     pub cause : HasRisen (sees.accepted before.accepted) (sees.accepted after.accepted)
+    pub accepted_kept : Keeps (sees.taken before.accepted) (sees.taken after.accepted)
     pub input_is : after.input ≡ before.input
     pub links : KeepsLinks before after
     pub left : LeftBoth sees.session.told sees.session.may_leave (disks_of (session_of before)) (disks_of (session_of after))
 
-  -- no life began, for want of memory: the dialer and INPUT are as they were, and both disks leave what they held
+  -- no life began, for want of memory: the dialer and INPUT are as they were, OUT and ACCEPTED took nothing, and both disks leave what they held
   pub record LivedNone (sees : FeedSees S I K A D N C) (before after : FeedOutside S I K A D N C) (status : Status) : Type 0 where
     pub memory : status ≡ Memory
     pub dialer_is : after.dialer ≡ before.dialer
     pub input_is : after.input ≡ before.input
+    pub out_kept : Keeps (sees.session.taken before.out) (sees.session.taken after.out)
+    pub accepted_kept : Keeps (sees.taken before.accepted) (sees.taken after.accepted)
     pub left : LeftBoth sees.session.told sees.session.may_leave (disks_of (session_of before)) (disks_of (session_of after))
 
 module _ {S I K A D N C J : Type 0} where
   -- OUT went on, ACCEPTED was begun, and the status is one of a life that is fed, with its cause where it blames INPUT, OUT, ACCEPTED or the dialer; and
-  -- no life began, for want of memory, or one was lived over both disks, with OUT as it went on
+  -- no life began, for want of memory, with OUT as it went on, or one was lived over both disks, from there on
   pub record Lives (G : Ghosts J) (sees : FeedSees S I K A D N C) (senders : ℕ) (end : EndConfig) (before after : FeedOutside S I K A D N C)
       (status : Status) : Type 0 where
     pub begun : K
@@ -153,7 +156,7 @@ module _ {S I K A D N C J : Type 0} where
     pub output : status ≡ OutputFault
         → HasRisen (sees.session.sink before.out) (sees.session.sink after.out) ⊎ HasRisen (sees.accepted before.accepted) (sees.accepted after.accepted)
     pub dial : status ≡ DialFault → HasRisen (sees.session.dials before.dialer) (sees.session.dials after.dialer)
-    pub lived : LivedNone sees before after status ⊎ HasLivedFedOver G sees end senders (record before { out = begun }) after status
+    pub lived : LivedNone sees (record before { out = begun }) after status ⊎ HasLivedFedOver G sees end senders (record before { out = begun }) after status
 
   -- where a run whose boxes were opened ended: OUT did not go on, or ACCEPTED could not be begun, or the session lived
   abbrev pub EndsBehindBoxes : Ghosts J → FeedSees S I K A D N C → (senders : ℕ) → EndConfig → (before after : FeedOutside S I K A D N C) → Status → Type 0

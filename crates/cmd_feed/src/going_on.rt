@@ -1,6 +1,7 @@
 //! OUT, gone on with over the inbox of a session.
 
-ghost use Rattle.std.specs.Prelude.{◌≡◌, ◌⊎◌, ◌+◌, ◌<◌, ◌≤◌, ◌^◌, ℕ, List, Option, false, IfOk, IfErr};
+ghost use Rattle.std.specs.Prelude.{◌≡◌, ◌⊎◌, ◌+◌, ◌<◌, ◌≤◌, ◌^◌, ℕ, List, Option, None, false, IfOk, IfErr};
+ghost use Rattle.std.specs.Option.{ForSome};
 ghost use Rattle.gw_outside.specs.Faults.{HasRisen};
 ghost use Rattle.fixp_msgs.specs.declared.flow.Flow.TheVariants as flows;
 ghost use Rattle.jr_kept.specs.Inbox as inboxes;
@@ -22,7 +23,7 @@ use std::alloc::Global;
 fn not_gone_on(fault: OutFault) -> Status
     ensures output { result ≡ Status.OutputFault → (fault ≡ out_faults.Output) ⊎ (fault ≡ out_faults.Short) }
     ensures journal { result ≡ Status.JournalFault → fault ≡ out_faults.Journal }
-    ensures refused { (told : Option (List ℕ)) → RefusesOut told result }
+    ensures refused { (told : Option (List ℕ)) → ((at : ℕ) → fault ≡ out_faults.Changed at → ForSome told (λ _. ⊥)) → RefusesOut told result }
 {
     match fault {
         OutFault::Output | OutFault::Short => Status::OutputFault,
@@ -63,6 +64,7 @@ pub(crate) fn out_on<K: Appended, D: Disk>(
     ensures never_falls { IfOk result (λ box. inboxes.faults_of inbox ≤ inboxes.faults_of box) }
     ensures refused_never_falls { IfErr result (λ e. inboxes.faults_of inbox ≤ D.faults e.1) }
     ensures journal { IfErr result (λ e. e.0 ≡ Status.JournalFault → HasRisen (inboxes.faults_of inbox) (D.faults e.1)) }
+    ensures output { IfErr result (λ e. e.0 ≡ Status.OutputFault → HasRisen (K.faults out.old) (K.faults out.new) ⊎ (K.taken out.old ≡ None)) }
     ensures counted { K.faults out.old ≤ K.faults out.new }
 {
     let mut journal = inbox.into_journal();

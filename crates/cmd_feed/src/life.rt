@@ -200,7 +200,7 @@ pub fn live_feeding<
     requires greatest { config.keepalive ≤ 60000 }
     requires credentials { length config.credentials ≤ 2048 }
     ensures lived { ((result.0 ≡ Status.Memory) × (input.new ≡ input.old) × (result.1 ≡ accepted)
-        × BeganNone K.faults (over_boxes devices.old outbox inbox.old) (over_boxes devices.new result.2 inbox.new) result.0)
+        × BeganNone K.taken K.faults (over_boxes devices.old outbox inbox.old) (over_boxes devices.new result.2 inbox.new) result.0)
         ⊎ HasLivedFed (hears K.Sink N.Dialer N.Link.Link C.Clock) config senders (over_boxes devices.old outbox inbox.old) (over_boxes devices.new result.2 inbox.new)
         (streams (S.left input.old) (A.taken accepted)) (streams (S.left input.new) (A.taken result.1)) result.0 }
     ensures of_life { IsOfLife result.0 ⊎ (result.0 ≡ Status.InputFault) }

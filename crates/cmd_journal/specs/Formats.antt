@@ -10,6 +10,7 @@ use Rattle.jr_boxes.specs.declared.faults.JournalCause.TheVariants.{Already}
 use Rattle.cmd_base.specs.declared.status.Status.{Status}
 use Rattle.cmd_base.specs.declared.status.Status.TheVariants.{Done, JournalFault, JournalBad}
 use Rattle.cmd_base.specs.Contents.{Disks}
+use Rattle.cmd_journal.specs.Moves.{KeepsOld}
 
 -- a disk was made a journal without records: it did not begin with the magic of either format, and each content that a stop may leave of it
 -- is such a journal
@@ -22,6 +23,11 @@ pub record IsAlready {D : Type 0} (told : D → Option (List ℕ)) (may_leave : 
   pub begins : ForSome (told before) (λ content. (take 8 content ≡ magic) ⊎ (take 8 content ≡ plain_magic))
   pub content : told after ≡ told before
   pub images : LeavesSame (may_leave before) (may_leave after)
+
+-- a disk that begins with the magic of either format tells what it told, and a stop leaves nothing of it that it might not have left before
+abbrev pub KeepsJournal : {D : Type 0} → (D → Option (List ℕ)) → (D → List ℕ → Type 0) → D → D → Type 0
+KeepsJournal told may_leave before after =
+    ForSome (told before) (λ content. (take 8 content ≡ magic) ⊎ (take 8 content ≡ plain_magic) → KeepsOld told may_leave before after)
 
 -- of a disk at most the first 17 bytes changed: the header and the closed byte
 abbrev pub KeepsBehindHeader : {D : Type 0} → (D → List ℕ → Type 0) → D → D → Type 0

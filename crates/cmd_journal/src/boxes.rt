@@ -33,6 +33,7 @@ fn unformatted<D: Disk>(which: Which, disk: &mut D) -> Status
     requires none { ForSome (D.told disk.old) IsNotFormatted }
     ensures refused { IsRefusal which (D.told disk.old) result }
     ensures content { D.told disk.new ≡ D.told disk.old }
+    ensures images { (image : List ℕ) → D.may_leave disk.new image → D.may_leave disk.old image }
     ensures never_falls { D.faults disk.old ≤ D.faults disk.new }
     ensures cause { result ≡ Status.JournalFault → HasRisen (D.faults disk.old) (D.faults disk.new) }
 {
@@ -54,6 +55,7 @@ fn refusal<D: Disk>(which: Which, disk: D, fault: OpenFault) -> (D, Status)
     requires refused { ForSome (D.told disk) (Refuses Two fault) }
     ensures refused { IsRefusal which (D.told disk) result.1 }
     ensures content { D.told result.0 ≡ D.told disk }
+    ensures images { (image : List ℕ) → D.may_leave result.0 image → D.may_leave disk image }
     ensures never_falls { D.faults disk ≤ D.faults result.0 }
     ensures cause { result.1 ≡ Status.JournalFault → (fault ≡ open_fault.Fault) ⊎ HasRisen (D.faults disk) (D.faults result.0) }
 {
@@ -99,9 +101,11 @@ pub fn open_box<D: Disk>(alloc: Global, which: Which, disk: D) -> Result<SegJour
     ensures holds { IfOk result (λ j. (h : List Dated) × RestsOn j h × ForSome (D.told disk) (IsBox which h)) }
     ensures sound { IfOk result (λ j. broken_of j ≡ false) }
     ensures content { IfOk result (λ j. D.told (disk_of j) ≡ D.told disk) }
+    ensures images { IfOk result (λ j. (image : List ℕ) → D.may_leave (disk_of j) image → D.may_leave disk image) }
     ensures never_falls { IfOk result (λ j. D.faults disk ≤ D.faults (disk_of j)) }
     ensures refused { IfErr result (λ e. IsRefusal which (D.told disk) e.1) }
     ensures refused_content { IfErr result (λ e. D.told e.0 ≡ D.told disk) }
+    ensures refused_images { IfErr result (λ e. (image : List ℕ) → D.may_leave e.0 image → D.may_leave disk image) }
     ensures refused_never_falls { IfErr result (λ e. D.faults disk ≤ D.faults e.0) }
     ensures cause { IfErr result (λ e. e.1 ≡ Status.JournalFault → HasRisen (D.faults disk) (D.faults e.0)) }
 {

@@ -11,6 +11,7 @@ ghost use Rattle.jr_boxes.specs.declared.faults.Which.TheVariants as which_box;
 ghost use Rattle.jr_dated.specs.Dated.{Dated};
 ghost use Rattle.jr_segments.specs.Journal.{OnlyRead, RestsOn, broken_of, disk_of};
 ghost use Rattle.cmd_journal.specs.Lines.{journal_lines};
+ghost use Rattle.cmd_journal.specs.Moves.{KeepsOld};
 ghost use Rattle.cmd_journal.specs.declared.printing.PrintFault.TheVariants as print;
 ghost use Rattle.cmd_journal.specs.Prints.{GaveLines, HasChanged, Prints, Stops, journal_devices};
 
@@ -76,8 +77,8 @@ fn print_journals<K: Sink, D: Disk>(
     in_disk: D,
 ) -> (Status, D, D)
     ensures prints { Prints (journal_devices K.Sink D.Disk) (record { outbox = out_disk; inbox = in_disk }) (record { outbox = result.1; inbox = result.2 }) out.old out.new result.0 }
-    ensures out_content { D.told result.1 ≡ D.told out_disk }
-    ensures in_content { D.told result.2 ≡ D.told in_disk }
+    ensures out_kept { KeepsOld D.told D.may_leave out_disk result.1 }
+    ensures in_kept { KeepsOld D.told D.may_leave in_disk result.2 }
     ensures out_counted { D.faults out_disk ≤ D.faults result.1 }
     ensures in_counted { D.faults in_disk ≤ D.faults result.2 }
     ensures counted { K.faults out.old ≤ K.faults out.new }
@@ -95,13 +96,13 @@ fn print_journals<K: Sink, D: Disk>(
     (status, outbox.close(), inbox.close())
 }
 
-/// `journal`: the lines of both journals.
+/// `journal`: the lines of both journals. Both disks are as they were whatever the status.
 pub fn journal<S: Source, K: Sink, D: Disk>(
     alloc: Global,
     outside: Outside<S, K, D>,
 ) -> (Status, Outside<S, K, D>)
     ensures journal_output { Prints (journal_devices K.Sink D.Disk) (disks_of outside) (disks_of result.1) outside.out result.1.out result.0 }
-    ensures journals_told { (D.told result.1.out_disk ≡ D.told outside.out_disk) × (D.told result.1.in_disk ≡ D.told outside.in_disk) }
+    ensures journals_kept { KeepsOld D.told D.may_leave outside.out_disk result.1.out_disk × KeepsOld D.told D.may_leave outside.in_disk result.1.in_disk }
     ensures untouched_by_journal { (result.1.config ≡ outside.config) × (result.1.input ≡ outside.input) × (result.1.wire ≡ outside.wire) }
     ensures none_fell { NoneFell (faults_of S.faults K.faults D.faults outside) (faults_of S.faults K.faults D.faults result.1) }
     ensures cause { IsCaused (faults_of S.faults K.faults D.faults outside) (faults_of S.faults K.faults D.faults result.1) result.0 }

@@ -2,7 +2,7 @@
 
 ghost use Rattle.std.specs.Prelude.{◌≡◌, ◌≤◌};
 ghost use Rattle.cmd_base.specs.Causes.{IsCaused, NoneFell, disk_counts};
-ghost use Rattle.cmd_journal.specs.Formats.{Formats, KeepsBehindHeader};
+ghost use Rattle.cmd_journal.specs.Formats.{Formats, KeepsBehindHeader, KeepsJournal};
 
 use cmd_base::{JournalCause, Status, Which};
 use gw_outside::Disk;
@@ -23,9 +23,12 @@ fn refusal(which: Which, fault: FormatFault) -> Status
     }
 }
 
-/// Makes both disks journals without records. Where the outbox is refused, the inbox is not touched.
+/// Makes both disks journals without records. Where the outbox is refused, the inbox is not touched. Whatever the status, a disk that begins
+/// with a magic is as it was.
 pub fn format_journals<D: Disk>(out_disk: &mut D, in_disk: &mut D) -> Status
     ensures formats { Formats D.told D.may_leave D.faults (record { outbox = out_disk.old; inbox = in_disk.old }) (record { outbox = out_disk.new; inbox = in_disk.new }) result }
+    ensures out_kept { KeepsJournal D.told D.may_leave out_disk.old out_disk.new }
+    ensures in_kept { KeepsJournal D.told D.may_leave in_disk.old in_disk.new }
     ensures out_within { KeepsBehindHeader D.may_leave out_disk.old out_disk.new }
     ensures in_within { KeepsBehindHeader D.may_leave in_disk.old in_disk.new }
     ensures quiet { result ≡ Status.Done → (D.faults out_disk.new ≡ D.faults out_disk.old) × (D.faults in_disk.new ≡ D.faults in_disk.old) }

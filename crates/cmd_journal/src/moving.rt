@@ -3,7 +3,7 @@
 ghost use Rattle.std.specs.Prelude.{◌≡◌, ◌≤◌, ℕ};
 ghost use Rattle.std.specs.Option.{ForSome};
 ghost use Rattle.cmd_base.specs.Causes.{IsCaused, NoneFell, disk_counts};
-ghost use Rattle.jr_log.specs.Fresh.{IsFresh};
+ghost use Rattle.jr_log.specs.Fresh.{IsFresh, IsUsed};
 ghost use Rattle.jr_log.specs.Migrates.{LeavesWhole};
 ghost use Rattle.jr_log.specs.declared.faults.MigrateFault.TheVariants as migrate_fault;
 ghost use Rattle.cmd_journal.specs.Moves.{KeepsOld, Moves, status_of};
@@ -41,6 +41,7 @@ fn refusal(fault: MigrateFault) -> Status
 pub fn migrate_journal<D: Disk>(alloc: Global, old: &mut D, new: &mut D) -> Status
     ensures moves { Moves D.told D.may_leave D.faults (record { outbox = old.old; inbox = new.old }) (record { outbox = old.new; inbox = new.new }) result }
     ensures old_kept { KeepsOld D.told D.may_leave old.old old.new }
+    ensures used_kept { ForSome (D.told new.old) (λ content. IsUsed content → KeepsOld D.told D.may_leave new.old new.new) }
     ensures left { ForSome (D.told new.old) IsFresh → ForSome (D.told old.old) (LeavesWhole (D.may_leave new.old) (D.may_leave new.new)) }
     ensures quiet { result ≡ Status.Done → (D.faults old.new ≡ D.faults old.old) × (D.faults new.new ≡ D.faults new.old) }
     ensures none_fell { NoneFell (disk_counts (D.faults old.old) (D.faults new.old)) (disk_counts (D.faults old.new) (D.faults new.new)) }

@@ -16,10 +16,10 @@ ghost use Rattle.cmd_answer.specs.Promise.{GaveBy};
 ghost use Rattle.cmd_codec.specs.Layouts.{GaveLayout};
 ghost use Rattle.cmd_codec.specs.Decodes.{GaveText};
 ghost use Rattle.cmd_codec.specs.Encodes.{GaveWire, LeavesWire};
-ghost use Rattle.cmd_journal.specs.Formats.{Formats, KeepsBehindHeader};
+ghost use Rattle.cmd_journal.specs.Formats.{Formats, KeepsBehindHeader, KeepsJournal};
 ghost use Rattle.cmd_journal.specs.Prints.{Prints, journal_devices};
 ghost use Rattle.cmd_journal.specs.Moves.{KeepsOld, Moves};
-ghost use Rattle.jr_log.specs.Fresh.{IsFresh};
+ghost use Rattle.jr_log.specs.Fresh.{IsFresh, IsUsed};
 ghost use Rattle.jr_log.specs.Migrates.{LeavesWhole};
 ghost use Rattle.std.specs.Option.{ForSome};
 ghost use Rattle.cmd_run.specs.Run.{IsRefused, JudgesBy};
@@ -44,7 +44,8 @@ use std::sync::Wait;
 /// a line of the text is refused. `format` makes both disks journals without records, the outbox first, and refuses a disk
 /// that begins as a journal of either format does. `journal` gives OUT the lines of the records that both disks hold, refuses a disk that
 /// holds none of its box, the outbox first, and gives both disks back as they were. `migrate` writes the records of a journal of format 1
-/// to a disk of its own as a journal of format 2.
+/// to a disk of its own as a journal of format 2. Whatever the status, `format` leaves a disk that begins with a magic, and `migrate` a new
+/// disk that is in use, as it was.
 pub fn run<R: Wait, S: Source, K: Sink, D: Disk>(
     rt: &R,
     alloc: Global,
@@ -66,15 +67,17 @@ pub fn run<R: Wait, S: Source, K: Sink, D: Disk>(
         GaveWire (plan_of_text text) input (K.taken outside.wire) (K.taken result.1.wire) result.0 }
     ensures untouched_by_encode { command_of (bytes_of words.now) ≡ Some commands.Encode → (result.1.out ≡ outside.out) × KeepsDisks outside result.1 }
     ensures format_output { command_of (bytes_of words.now) ≡ Some commands.Format → Formats D.told D.may_leave D.faults (disks_of outside) (disks_of result.1) result.0 }
+    ensures format_kept { command_of (bytes_of words.now) ≡ Some commands.Format → KeepsJournal D.told D.may_leave outside.out_disk result.1.out_disk × KeepsJournal D.told D.may_leave outside.in_disk result.1.in_disk }
     ensures format_within { command_of (bytes_of words.now) ≡ Some commands.Format → KeepsBehindHeader D.may_leave outside.out_disk result.1.out_disk × KeepsBehindHeader D.may_leave outside.in_disk result.1.in_disk }
     ensures untouched_by_format { command_of (bytes_of words.now) ≡ Some commands.Format → KeepsStreams outside result.1 }
 
     ensures journal_output { command_of (bytes_of words.now) ≡ Some commands.Journal → Prints (journal_devices K.Sink D.Disk) (disks_of outside) (disks_of result.1) outside.out result.1.out result.0 }
-    ensures journals_told { command_of (bytes_of words.now) ≡ Some commands.Journal → (D.told result.1.out_disk ≡ D.told outside.out_disk) × (D.told result.1.in_disk ≡ D.told outside.in_disk) }
+    ensures journals_kept { command_of (bytes_of words.now) ≡ Some commands.Journal → KeepsOld D.told D.may_leave outside.out_disk result.1.out_disk × KeepsOld D.told D.may_leave outside.in_disk result.1.in_disk }
     ensures untouched_by_journal { command_of (bytes_of words.now) ≡ Some commands.Journal → (result.1.config ≡ outside.config) × (result.1.input ≡ outside.input) × (result.1.wire ≡ outside.wire) }
 
     ensures migrate_output { command_of (bytes_of words.now) ≡ Some commands.Migrate → Moves D.told D.may_leave D.faults (disks_of outside) (disks_of result.1) result.0 }
     ensures migrate_old { command_of (bytes_of words.now) ≡ Some commands.Migrate → KeepsOld D.told D.may_leave outside.out_disk result.1.out_disk }
+    ensures migrate_kept { command_of (bytes_of words.now) ≡ Some commands.Migrate → ForSome (D.told outside.in_disk) (λ content. IsUsed content → KeepsOld D.told D.may_leave outside.in_disk result.1.in_disk) }
     ensures migrate_left { command_of (bytes_of words.now) ≡ Some commands.Migrate → ForSome (D.told outside.in_disk) IsFresh
         → ForSome (D.told outside.out_disk) (LeavesWhole (D.may_leave outside.in_disk) (D.may_leave result.1.in_disk)) }
     ensures untouched_by_migrate { command_of (bytes_of words.now) ≡ Some commands.Migrate → KeepsStreams outside result.1 }

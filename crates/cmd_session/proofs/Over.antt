@@ -1,5 +1,5 @@
 -- One life over both journals, from what it was over their boxes.
-use Rattle.std.proofs.Common.{◌≡◌, ◌⊎◌, inl, inr, ⊎_elim, ℕ, ◌^◌, ◌≤◌, true, List, [], ◌++◌, length, map, Option, Some, Result, sym, ap, subst, ◌∙◌, arith}
+use Rattle.std.proofs.Common.{◌≡◌, ◌⊎◌, inl, inr, ⊎_elim, ℕ, ◌^◌, ◌≤◌, true, List, [], ◌++◌, length, map, Option, Some, Result, refl, sym, ap, subst, ◌∙◌, arith}
 use Rattle.std.specs.Prelude.{option_to_list}
 use Rattle.std.specs.Option.{ForSome}
 use Rattle.std.proofs.Math.Logic.{∥∥₁_map, ∥∥₁_elim}
@@ -41,6 +41,7 @@ use Rattle.conn_serve.specs.Opening.{opened_state}
 use Rattle.life_laws.specs.Lives.{LifeOfLoop, served_of}
 use Rattle.life_laws.proofs.Loops.{served_keeps}
 use Rattle.life_laws.proofs.Opened.{opened_opens}
+use Rattle.life_laws.proofs.Finishing.{finishes_stand}
 use Rattle.life_laws.specs.Plans.{Senders, submitting, plans_at}
 use Rattle.life_laws.specs.PlanLives.{clocked, LivedBoxes, WasFull, FillsInbox}
 use Rattle.plan_outbox.specs.Behind.{GoesOnFrom}
@@ -163,6 +164,8 @@ module _ {S K D N C J : Type 0} {H : Ghosts J} (outbox : Outbox J H) (sees : See
       served = l.served;
       answer = l.answer;
       refusal = l.refusal;
+      finished = λ e. let both = finishes_stand H.tells config (2 ^ 26) (life_at (sees.carried before.dialer) (sees.taken before.out) l.opening box) (life_at (sees.carried after.dialer) (sees.taken after.out) l.seen since) l.opening i.inbox i.holds refl l.connections l.served.life e in
+          (λ none. let was = both.0 none in ap (λ (h : History). h.finished) (sym (l.begins.alone was)) ∙ was, both.1);
       begins = l.begins;
       grows = l.grows;
       lost = l.lost;
@@ -200,13 +203,14 @@ module _ {S K D N C J : Type 0} {H : Ghosts J} (outbox : Outbox J H) (sees : See
       (out_least : sees.disk before.out_disk ≤ outboxes.faults_of outbox) (in_least : sees.disk before.in_disk ≤ inboxes.faults_of box) (out_count : sees.disk after.out_disk ≡ outboxes.faults_of closed) (in_count : sees.disk after.in_disk ≡ inboxes.faults_of since) where
     -- what was lived over the boxes by some senders was lived over their disks
     pub lived_over_disks : (config : EndConfig) (senders : Senders)
-        → BeganNone sees.sink (over_boxes (live_of before) outbox box) (over_boxes (live_of after) closed since) status
+        → BeganNone sees.taken sees.sink (over_boxes (live_of before) outbox box) (over_boxes (live_of after) closed since) status
         ⊎ HasLived (heard sees) config senders (over_boxes (live_of before) outbox box) (over_boxes (live_of after) closed since) status
         → LeftAll sees before after status ⊎ HasLivedOver H sees config senders before after status
     lived_over_disks config senders l = ⊎_elim
         (λ b. inl (record {
           cause = b.cause;
           dialer_is = b.dialer_is;
+          out_kept = b.out_kept;
           left = record {
             outbox = held_kept sees.told sees.may_leave disk_at outbox before.out_disk after.out_disk o.history o.holds o.told (leaves_are (outboxes.journal_of outbox)) (now_out_is ∙ ap (λ (x : Outbox J H). disk_at (outboxes.journal_of x)) b.outbox_is);
             inbox = inbox_kept sees.told sees.may_leave disk_at box before.in_disk after.in_disk i (leaves_are (inboxes.journal_of box)) (now_in_is ∙ ap (λ (x : Inbox J H). disk_at (inboxes.journal_of x)) b.box_is);

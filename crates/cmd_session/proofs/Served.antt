@@ -1,10 +1,10 @@
 -- What is left of the senders behind a life, and what its answer blames.
-use Rattle.std.proofs.Common.{◌≡◌, ◌⊎◌, inl, inr, ⊎_elim, ℕ, ◌+◌, ◌<◌, ◌≤◌, Bool, List, [], ◌∷◌, ◌++◌, ◌^◌, length, slice_index_or, All, Option, Some, None, Result, Err, IfErr, sym, ap, ◌∙◌, subst, arith, append-nil}
+use Rattle.std.proofs.Common.{◌≡◌, ◌⊎◌, inl, inr, ⊎_elim, ℕ, ◌+◌, ◌<◌, ◌≤◌, Bool, List, [], ◌∷◌, ◌++◌, ◌^◌, length, slice_index_or, All, Option, Some, None, Result, Err, IfErr, refl, sym, ap, ◌∙◌, subst, arith, append-nil}
 use Rattle.std.proofs.lemmas.Option.{none-some}
 use mathlib.Core.Logic.{dite}
 use native.Mathlib.Decide.{ℕ_discrete}
 use Rattle.std.specs.Prelude.{option_to_list}
-use Rattle.std.specs.Io.KnownBytes.{Appends}
+use Rattle.std.specs.Io.KnownBytes.{Keeps, Appends}
 use Rattle.fixp_shake.specs.declared.config.EndConfig.{EndConfig}
 use Rattle.fixp_machine.specs.Machine.{State, fresh}
 use Rattle.gw_links.specs.declared.link.Link.{Ghosts as LinkGhosts}
@@ -218,6 +218,23 @@ lived_from {H = H} hears config senders old out clock outbox box after status h 
       (clocked H.tells hears.links (hears.last clock) (hears.last after.live.clock)) (hears.last old.clock) config senders outbox after.outbox l.result h le l.boxes;
 }
 
+-- OUT that took nothing holds what it held
+pub keeps_self : (taken : Option (List ℕ)) → Keeps taken taken
+keeps_self None = tt
+keeps_self (Some xs) = refl
+
+pub keeps_none : (old new : Option (List ℕ)) → Appends old new [] → Keeps old new
+keeps_none None new h = tt
+keeps_none (Some xs) None h = absurd h
+keeps_none (Some xs) (Some ys) h = h ∙ append-nil xs
+
+-- and so does one that took nothing behind that
+pub keeps_behind : (old mid new : Option (List ℕ)) → Appends old mid [] → Keeps mid new → Keeps old new
+keeps_behind None mid new h k = tt
+keeps_behind (Some xs) None new h k = absurd h
+keeps_behind (Some xs) (Some ys) None h k = absurd k
+keeps_behind (Some xs) (Some ys) (Some zs) h k = k ∙ h ∙ append-nil xs
+
 -- OUT that took nothing is as it was
 took_none : (taken : Option (List ℕ)) → Appends taken taken []
 took_none None = tt
@@ -226,10 +243,10 @@ took_none (Some xs) = sym (append-nil xs)
 -- what was lived, or was not begun, behind a look at the clock
 pub lived_since : {J : Type 0} {G : Ghosts J} {O : Type 0} {H : Ghosts O} {K N C : Type 0} (sink : K → ℕ) (hears : Hears K N C) (config : EndConfig) (senders : Senders)
     (old : Live K N C) (clock : C) (outbox : Outbox O H) (box : Inbox J G) (after : OverBoxes K N C (Outbox O H) (Inbox J G)) (status : Status) → hears.last old.clock ≤ hears.last clock
-    → BeganNone sink (over_boxes (record { out = old.out; dialer = old.dialer; clock = clock }) outbox box) after status
+    → BeganNone hears.taken sink (over_boxes (record { out = old.out; dialer = old.dialer; clock = clock }) outbox box) after status
     ⊎ HasLived hears config senders (over_boxes (record { out = old.out; dialer = old.dialer; clock = clock }) outbox box) after status
-    → BeganNone sink (over_boxes old outbox box) after status ⊎ HasLived hears config senders (over_boxes old outbox box) after status
+    → BeganNone hears.taken sink (over_boxes old outbox box) after status ⊎ HasLived hears config senders (over_boxes old outbox box) after status
 lived_since sink hears config senders old clock outbox box after status le l = ⊎_elim
-    (λ b. inl (record { cause = b.cause; dialer_is = b.dialer_is; box_is = b.box_is; outbox_is = b.outbox_is }))
+    (λ b. inl (record { cause = b.cause; dialer_is = b.dialer_is; out_kept = b.out_kept; box_is = b.box_is; outbox_is = b.outbox_is }))
     (λ h. inr (lived_from hears config senders old old.out clock outbox box after status (took_none (hears.taken old.out)) le h))
     l

@@ -1,11 +1,13 @@
 -- One life of a session over both journals: what they held, what was served, and what they hold behind it (this project's profile).
-use Rattle.std.specs.Prelude.{◌≡◌, ◌⊎◌, ℕ, ◌^◌, ◌<◌, true, List, [], ◌++◌, length, map, Option, IfSome, option_to_list, Result, Ok, Err, IsSomeAnd}
+use Rattle.std.specs.Prelude.{◌≡◌, ◌⊎◌, ℕ, ◌^◌, ◌<◌, true, false, List, [], ◌++◌, length, map, Option, IfSome, option_to_list, Result, Ok, Err, IsSomeAnd}
 use Rattle.std.specs.Option.{ForSome}
+use Rattle.std.specs.Io.KnownBytes.{Keeps}
 use Rattle.gw_outside.specs.Faults.{HasRisen}
 use Rattle.session_model.specs.Journal.{History, OutboxRecord, BeginsHistory, InOrder}
 use Rattle.session_model.specs.Inbox.{InboxRecord, applied, has_peer_finished}
 use Rattle.session_model.specs.Lives.{IsImage, KeepsContract}
 use Rattle.fixp_shake.specs.declared.config.EndConfig.{EndConfig}
+use Rattle.fixp_shake.specs.Flows.{is_absent}
 use Rattle.fixp_machine.specs.Machine.{fresh}
 use Rattle.fixp_machine.specs.Accepting.{model_flow}
 use Rattle.turn_laws.specs.MachineLives.{life_in}
@@ -30,6 +32,7 @@ use Rattle.conn_steps.specs.Settling.{IsPast, HaveRoom}
 use Rattle.conn_door.specs.declared.answer.ServeFault.{ServeFault}
 use Rattle.conn_door.specs.declared.answer.ServeFault.TheVariants as faults
 use Rattle.conn_door.specs.declared.answer.LifeEnd.{LifeEnd}
+use Rattle.conn_door.specs.declared.answer.LifeEnd.TheVariants as ends
 use Rattle.conn_door.specs.Answers.{answer_of, IsOfSender, IsUnrefused}
 use Rattle.conn_serve.specs.Connections.{all_of, adds_of, refused_of_all, wanted_of_all}
 use Rattle.conn_serve.specs.Moments.{life_at, beside}
@@ -129,8 +132,9 @@ module _ {J : Type 0} {G : Ghosts J} where
     -- the plans of these senders. A record of OUTBOX changes only where they do not. What is left are the records of the closing history and list, and
     -- behind them a beginning of those refused by a failed call: in the outbox of what the plans have next, if its disk failed, with all of which the
     -- closing history is one history in order, which keeps the plans too. Of senders that look at what is applied this is so where the disks tell.
-    -- Every record that the life added to its inbox had room, and so had the one whose append the disk failed. Why it answers so: the
-    -- connections and the refusal say it (`IsLifeAnswer`, `answer_of`), and the counts
+    -- Every record that the life added to its inbox had room, and so had the one whose append the disk failed. Where the connections came to
+    -- both finishes, as at status 0, the own one stands in the closing history and the peer's in the inbox, but for an absent flow. Why it
+    -- answers so: the connections and the refusal say it (`IsLifeAnswer`, `answer_of`), and the counts
     pub record LivedOver (sees : Sees S K D N C) (config : EndConfig) (senders : Senders)
         (before after : SessionOutside S K D N C) (old new : Inbox J G) (result : Result (Unit {0}) ServeFault) : Type 0 where
       pub opening : History
@@ -147,6 +151,8 @@ module _ {J : Type 0} {G : Ghosts J} where
           (life_at (sees.carried after.dialer) (sees.taken after.out) seen new) (fresh config (opened_state opening old) (2 ^ 26)) connections
       pub answer : result ≡ answer_of connections refused
       pub refusal : IfSome refused IsOfSender
+      pub finished : connections ≡ Ok ends.Finished → (is_absent config.own_flow ≡ false → closing.finished ≡ true)
+          × (is_absent config.peer_flow ≡ false → has_peer_finished (inbox ++ adds_of (all_of served.life.ended served.life.given_up)) ≡ true)
       pub begins : BeginsHistory seen closing
       pub grows : BeginsHistory opening closing
       pub lost : List OutboxRecord
@@ -191,10 +197,11 @@ abbrev pub IsUnbegun : {K : Type 0} → (K → ℕ) → (old new : K) → Status
 IsUnbegun sink old new status = (status ≡ Memory) ⊎ ((status ≡ OutputFault) × HasRisen (sink old) (sink new))
 
 module _ {S K D N C : Type 0} where
-  -- no life began: the dialer is as it was, and each disk leaves what it held
+  -- no life began: the dialer is as it was, OUT took nothing, and each disk leaves what it held
   pub record LeftAll (sees : Sees S K D N C) (before after : SessionOutside S K D N C) (status : Status) : Type 0 where
     pub cause : IsUnbegun sees.sink before.out after.out status
     pub dialer_is : after.dialer ≡ before.dialer
+    pub out_kept : Keeps (sees.taken before.out) (sees.taken after.out)
     pub left : LeftBoth sees.told sees.may_leave (disks_of before) (disks_of after)
 
 -- what a life over boxes is lived on: OUT, the dialer and the clock, and the boxes
@@ -207,10 +214,11 @@ abbrev pub over_boxes : {K N C O I : Type 0} → Live K N C → O → I → Over
 over_boxes live outbox inbox = record { live = live; outbox = outbox; inbox = inbox }
 
 module _ {K N C O I : Type 0} where
-  -- no life began: the dialer and the boxes are as they were
-  pub record BeganNone (sink : K → ℕ) (before after : OverBoxes K N C O I) (status : Status) : Type 0 where
+  -- no life began: the dialer and the boxes are as they were, and OUT took nothing
+  pub record BeganNone (taken : K → Option (List ℕ)) (sink : K → ℕ) (before after : OverBoxes K N C O I) (status : Status) : Type 0 where
     pub cause : IsUnbegun sink before.live.out after.live.out status
     pub dialer_is : after.live.dialer ≡ before.live.dialer
+    pub out_kept : Keeps (taken before.live.out) (taken after.live.out)
     pub box_is : after.inbox ≡ before.inbox
     pub outbox_is : after.outbox ≡ before.outbox
 
@@ -232,7 +240,7 @@ module _ {J : Type 0} {G : Ghosts J} {O : Type 0} {H : Ghosts O} where
       pub plans : List (List (List ℕ))
       pub life : IsPlannedLife sees senders plans input before.live after.live status
       pub goes_on : ForSome content (λ _. (h : History) → outboxes.HoldsBox before.outbox h [] → GoesOnFrom plans h)
-      pub lived : BeganNone sees.sink before after status ⊎ HasLived (heard sees) config (submitting plans) before after status
+      pub lived : BeganNone sees.taken sees.sink before after status ⊎ HasLived (heard sees) config (submitting plans) before after status
 
 module _ {S K D N C J : Type 0} where
   -- it lived over both disks, and the status is that of its answer

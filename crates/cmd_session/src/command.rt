@@ -139,7 +139,7 @@ fn run_over_boxes<K: Sink, D: Disk + Send, N: Dialer, C: Clock, R: Threads + Wai
     requires limit { (inboxes.limits_of inbox.old).entries ≡ 2 ^ 26 }
     requires numbered { inboxes.flow_of inbox.old ≡ flows.Recoverable → inboxes.next_of inbox.old + 1 < 2 ^ 64 }
     requires few_entries { outboxes.front_of outbox < 2 ^ 40 }
-    ensures lived { BeganNone K.faults (over_boxes devices.old outbox inbox.old) (over_boxes devices.new result.1 inbox.new) result.0
+    ensures lived { BeganNone K.taken K.faults (over_boxes devices.old outbox inbox.old) (over_boxes devices.new result.1 inbox.new) result.0
         ⊎ HasLived (hears K.Sink N.Dialer N.Link.Link C.Clock) config (submitting (map payloads_of plans.items)) (over_boxes devices.old outbox inbox.old) (over_boxes devices.new result.1 inbox.new) result.0 }
     ensures of_life { IsOfLife result.0 }
     ensures output { result.0 ≡ Status.OutputFault → HasRisen (K.faults devices.old.out) (K.faults devices.new.out) }
@@ -177,7 +177,7 @@ fn answer_over_boxes<K: Sink, D: Disk + Send, N: Dialer, C: Clock, R: Threads + 
     requires limit { (inboxes.limits_of inbox.old).entries ≡ 2 ^ 26 }
     requires numbered { inboxes.flow_of inbox.old ≡ flows.Recoverable → inboxes.next_of inbox.old + 1 < 2 ^ 64 }
     requires few_entries { outboxes.front_of outbox < 2 ^ 40 }
-    ensures lived { BeganNone K.faults (over_boxes devices.old outbox inbox.old) (over_boxes devices.new result.1 inbox.new) result.0
+    ensures lived { BeganNone K.taken K.faults (over_boxes devices.old outbox inbox.old) (over_boxes devices.new result.1 inbox.new) result.0
         ⊎ HasLived (hears K.Sink N.Dialer N.Link.Link C.Clock) config (answering (plan_of answerer) (desks_of answerer)) (over_boxes devices.old outbox inbox.old) (over_boxes devices.new result.1 inbox.new) result.0 }
     ensures of_life { IsOfLife result.0 }
     ensures output { result.0 ≡ Status.OutputFault → HasRisen (K.faults devices.old.out) (K.faults devices.new.out) }

@@ -240,7 +240,7 @@ pub fn live<K: Sink, D: Disk + Send, N: Dialer, C: Clock, R: Threads + Wait + Sy
     requires least { 100 ≤ config.keepalive }
     requires greatest { config.keepalive ≤ 60000 }
     requires credentials { length config.credentials ≤ 2048 }
-    ensures lived { BeganNone K.faults (over_boxes devices.old outbox inbox.old) (over_boxes devices.new result.1 inbox.new) result.0
+    ensures lived { BeganNone K.taken K.faults (over_boxes devices.old outbox inbox.old) (over_boxes devices.new result.1 inbox.new) result.0
         ⊎ HasLived (hears K.Sink N.Dialer N.Link.Link C.Clock) config (submitting (map payloads_of plans.items)) (over_boxes devices.old outbox inbox.old) (over_boxes devices.new result.1 inbox.new) result.0 }
     ensures of_life { IsOfLife result.0 }
     ensures output { result.0 ≡ Status.OutputFault → HasRisen (K.faults devices.old.out) (K.faults devices.new.out) }

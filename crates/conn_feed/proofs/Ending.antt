@@ -1,5 +1,5 @@
 -- What stands once a piece was answered, or a line refused, and what a feeding leaves that ends there.
-use Rattle.std.proofs.Common.{◌≡◌, ◌≢◌, ◌⊎◌, inl, inr, ℕ, suc, ◌+◌, ◌-◌, ◌^◌, ◌<◌, ◌≤◌, min, List, [], ◌∷◌, ◌++◌, length, take, drop, refl, sym, ap, subst, ◌∙◌, append_assoc, append-nil, length-append, arith}
+use Rattle.std.proofs.Common.{◌≡◌, ◌≢◌, ◌⊎◌, inl, inr, ℕ, zero, suc, ◌+◌, ◌-◌, ◌^◌, ◌<◌, ◌≤◌, min, List, [], ◌∷◌, ◌++◌, length, take, drop, slice_get, refl, sym, ap, subst, ◌∙◌, append_assoc, append-nil, length-append, arith}
 use Rattle.std.specs.Prelude.{Option, Some, None, Result, Ok, Err, All}
 use Rattle.std.specs.Io.KnownBytes.{Appends}
 use Rattle.std.proofs.KnownBytes.{Appends-trans}
@@ -24,7 +24,7 @@ use Rattle.conn_accepted.specs.Lines.{refused_line}
 use Rattle.conn_feed.specs.declared.end.FeedEnd.{FeedEnd}
 use Rattle.conn_feed.specs.declared.end.FeedEnd.TheVariants as ends
 use Rattle.conn_feed.specs.Words.{Word, refused, entries_in, words_text, IsWhy, CameOfEach, IsClear}
-use Rattle.conn_feed.specs.Fed.{part_at, gifts_to, Made, Fed, StandsIn, LosesLines}
+use Rattle.conn_feed.specs.Fed.{part_at, gifts_to, Made, Fed, StandsIn, LosesLines, OneFills}
 use Rattle.conn_feed.specs.Ends.{Point, Answered, AreLast, IsTold, IsShown, MayBeLast, why_of}
 use Rattle.conn_feed.specs.Course.{Stands, accepted_from, accepted_text, rest_words, piece_text, ended_by, Told}
 use Rattle.conn_feed.proofs.Texts.{text_append, accepted_words, rest_is}
@@ -45,6 +45,22 @@ drop_past : (xs ys : List (List ℕ)) → drop (length xs) (xs ++ ys) ≡ ys
 drop_past [] ys = refl
 drop_past (x ∷ xs) ys = drop_past xs ys
 
+drop_behind : (xs ys : List (List ℕ)) (k : ℕ) → drop (length xs + k) (xs ++ ys) ≡ drop k ys
+drop_behind [] ys k = let none : 0 + k ≡ k = omega arith in ap (λ (n : ℕ). drop n ys) none
+drop_behind (x ∷ xs) ys k =
+    let next : suc (length xs) + k ≡ suc (length xs + k) = omega arith in
+    ap (λ (n : ℕ). drop n (x ∷ (xs ++ ys))) next ∙ drop_behind xs ys k
+
+-- lines that give payloads, from the one that gives this payload on
+given_behind : (n s k : ℕ) (held ps : List (List ℕ)) (payload : List ℕ) → AreGiven n held (gifts_to s ps) → slice_get ps k ≡ Some payload → AreGiven n (drop k held) (gifts_to s (payload ∷ drop (suc k) ps))
+given_behind n s k [] [] payload given at = absurd (cc at)
+given_behind n s k [] (p ∷ ps) payload given at = absurd given
+given_behind n s k (line ∷ held) [] payload given at = absurd given
+given_behind n s zero (line ∷ held) (p ∷ ps) payload given at =
+    let same : p ≡ payload = cc at in
+    subst (λ (x : List ℕ). AreGiven n (line ∷ held) (gifts_to s (x ∷ ps))) same given
+given_behind n s (suc k) (line ∷ held) (p ∷ ps) payload given at = given_behind n s k held ps payload given.1 at
+
 pub front_more : (a b c : Option (List ℕ)) (xs ys : List ℕ) → Appends a b xs → TakesFront b c ys → TakesFront a c (xs ++ ys)
 front_more a b c xs ys first next = record {
   count = length xs + next.count;
@@ -58,9 +74,9 @@ front_whole a b xs all = record { count = length xs; within = omega arith; appen
 -- ---- an end at which nothing was refused
 
 pub halted : (n : ℕ) (start now : Point) (piece : Messages) (number : ℕ) (lines : List (List ℕ)) (end : FeedEnd)
-    → ((text : List ℕ) → Appends start.taken now.taken text → IsTold end start.taken now.taken text) → IsShown end start.parts now.parts → Stands n start now piece number lines
-    → Answered n start now lines end
-halted n start now piece number lines end tells shown s = record {
+    → ((text : List ℕ) → Appends start.taken now.taken text → IsTold end start.taken now.taken text) → IsShown end start.parts now.parts → ((entries bytes : ℕ) → end ≡ ends.Full entries bytes → ⊥)
+    → Stands n start now piece number lines → Answered n start now lines end
+halted n start now piece number lines end tells shown unfull s = record {
   first = s.first;
   behind = s.held;
   split = s.split;
@@ -70,6 +86,7 @@ halted n start now piece number lines end tells shown s = record {
   last = record { before = s.words; clear = s.clear; why = whys.Memory; count = 0; few = omega arith; split = sym (append-nil s.words); kind = λ l. absurd (omega (arith, l)) };
   told = tells (words_text n 1 s.words) s.told;
   shown = shown;
+  full = λ entries bytes e. absurd (unfull entries bytes e);
   unlost = λ _. s.unlost;
   lost = λ t i. inl (s.unlost t i);
 }
@@ -86,6 +103,7 @@ answered_more n start now lines more end a = record {
   last = a.last;
   told = a.told;
   shown = a.shown;
+  full = a.full;
   unlost = a.unlost;
   lost = a.lost;
 }
@@ -201,6 +219,38 @@ module _ (n : ℕ) (start now next : Point) (piece : Messages) (number : ℕ) (l
         unmarked = m.this.unmarked e;
       }
 
+  -- the first line that was refused gives the payload that is past a limit
+  fills_piece : (x y : ℕ) → r.refused ≡ Some (submit.Full x y) → OneFills n x y next.parts (drop (length (s.words ++ acc)) lines)
+  fills_piece x y e =
+      let w = m.this.full x y e in
+      let number_is : q.number ≡ piece.sender = m.this.turn.number ∙ m.number in
+      let lines_are : drop (length (s.words ++ acc)) lines ≡ drop r.count s.held =
+      ap (λ (k : ℕ). drop k lines) (length-append s.words acc ∙ sums (length s.words) (length s.first) (length acc) r.count told_long acc_long)
+      ∙ ap (λ (ls : List (List ℕ)). drop (length s.first + r.count) ls) s.split ∙ drop_behind s.first s.held r.count in
+      record {
+        sender = piece.sender;
+        there = subst (λ (k : ℕ). In k piece.sender) (s.fed.long ∙ many) m.there;
+        fills = record {
+          payload = w.payload;
+          behind = drop (suc r.count) ps;
+          given = subst (λ (ls : List (List ℕ)). AreGiven n ls (gifts_to q.number (w.payload ∷ drop (suc r.count) ps))) (sym lines_are)
+              (subst (λ (k : ℕ). AreGiven n (drop r.count s.held) (gifts_to k (w.payload ∷ drop (suc r.count) ps))) (sym number_is) (given_behind n piece.sender r.count s.held ps w.payload s.given w.next));
+          full = w.full;
+          unmarked = w.unmarked;
+        };
+      }
+    where
+      sums : (words first acc count : ℕ) → words ≡ first → acc ≡ count → words + acc ≡ first + count
+      sums words first acc count a b = omega (arith, a, b)
+
+  -- of the end that it is
+  fills_at : (x y : ℕ) → OneFills n x y next.parts (drop (length (s.words ++ acc)) lines) → (entries bytes : ℕ) → ends.Full x y ≡ ends.Full entries bytes
+      → OneFills n entries bytes next.parts (drop (length (s.words ++ acc)) lines)
+  fills_at x y h entries bytes same =
+      let first : x ≡ entries = cc same in
+      let second : y ≡ bytes = cc same in
+      subst (λ (k : ℕ). OneFills n entries k next.parts (drop (length (s.words ++ acc)) lines)) second (subst (λ (k : ℕ). OneFills n k y next.parts (drop (length (s.words ++ acc)) lines)) first h)
+
   clear : All IsClear (s.words ++ acc)
   clear = All-append IsClear s.words acc s.clear (clear_accepted (r.number - r.count + 1) (entries_after p (take r.count ps)))
 
@@ -237,9 +287,10 @@ module _ (n : ℕ) (start now next : Point) (piece : Messages) (number : ℕ) (l
 
   -- it ends where ACCEPTED was told all, or a front
   ends_by : (f : SubmitFault) (end : FeedEnd) → r.refused ≡ Some f → MayBeLast end (why_of f) → IsTold end start.taken next.taken (words_text n 1 words) → IsShown end start.parts next.parts
+      → ((entries bytes : ℕ) → end ≡ ends.Full entries bytes → OneFills n entries bytes next.parts (drop (length (s.words ++ acc)) lines))
       → (end ≢ ends.Journal → f ≢ submit.Fault) → Answered n start next lines end
   unfolding last_is
-  ends_by f end e may told shown kept = record {
+  ends_by f end e may told shown full kept = record {
     first = lines;
     behind = [];
     split = none_behind;
@@ -249,6 +300,7 @@ module _ (n : ℕ) (start now next : Point) (piece : Messages) (number : ℕ) (l
     last = last_is f end e may;
     told = told;
     shown = shown;
+    full = full;
     unlost = λ other. lost_none (λ g. kept other (cc (sym e ∙ g)));
     lost = lost_at f e;
   }
@@ -268,8 +320,9 @@ module _ (n : ℕ) (start now next : Point) (piece : Messages) (number : ℕ) (l
   all t = subst (Appends start.taken next.taken) (sym text) (Appends-trans start.taken now.taken next.taken (words_text n 1 s.words) (piece_text n number own piece r) s.told t)
 
   -- none was refused, and ACCEPTED took a front
-  told_not : (end : FeedEnd) → r.refused ≡ None → IsTold end start.taken next.taken (words_text n 1 words) → IsShown end start.parts next.parts → Answered n start next lines end
-  told_not end e told shown = record {
+  told_not : (end : FeedEnd) → r.refused ≡ None → IsTold end start.taken next.taken (words_text n 1 words) → IsShown end start.parts next.parts → ((entries bytes : ℕ) → end ≡ ends.Full entries bytes → ⊥)
+      → Answered n start next lines end
+  told_not end e told shown unfull = record {
     first = lines;
     behind = [];
     split = none_behind;
@@ -287,6 +340,7 @@ module _ (n : ℕ) (start now next : Point) (piece : Messages) (number : ℕ) (l
     };
     told = told;
     shown = shown;
+    full = λ entries bytes e. absurd (unfull entries bytes e);
     unlost = λ _. lost_none (λ f. cc (sym e ∙ f));
     lost = λ t i. inl (lost_none (λ f. cc (sym e ∙ f)) t i);
   }
@@ -306,13 +360,13 @@ module _ (n : ℕ) (start now next : Point) (piece : Messages) (number : ℕ) (l
   fails_at : (f : SubmitFault) (e end : FeedEnd) → r.refused ≡ Some f → f ≢ submit.Fault → TakesFront now.taken next.taken text_of_piece → (e ≡ ends.Accepted) ⊎ (e ≡ ends.Memory) → e ≡ end
       → Answered n start next lines end
   fails_at f e end is other a (inl k) same =
-      subst (Answered n start next lines) (sym k ∙ same) (ends_by f ends.Accepted is tt (front a) tt (λ _. other))
+      subst (Answered n start next lines) (sym k ∙ same) (ends_by f ends.Accepted is tt (front a) tt (λ entries bytes x. cc x) (λ _. other))
   fails_at f e end is other a (inr k) same =
-      subst (Answered n start next lines) (sym k ∙ same) (ends_by f ends.Memory is tt (front a) tt (λ _. other))
+      subst (Answered n start next lines) (sym k ∙ same) (ends_by f ends.Memory is tt (front a) tt (λ entries bytes x. cc x) (λ _. other))
 
   none_fails : (e end : FeedEnd) → r.refused ≡ None → TakesFront now.taken next.taken text_of_piece → (e ≡ ends.Accepted) ⊎ (e ≡ ends.Memory) → e ≡ end → Answered n start next lines end
-  none_fails e end is a (inl k) same = subst (Answered n start next lines) (sym k ∙ same) (told_not ends.Accepted is (front a) tt)
-  none_fails e end is a (inr k) same = subst (Answered n start next lines) (sym k ∙ same) (told_not ends.Memory is (front a) tt)
+  none_fails e end is a (inl k) same = subst (Answered n start next lines) (sym k ∙ same) (told_not ends.Accepted is (front a) tt (λ entries bytes x. cc x))
+  none_fails e end is a (inr k) same = subst (Answered n start next lines) (sym k ∙ same) (told_not ends.Memory is (front a) tt (λ entries bytes x. cc x))
 
   -- how a piece ends a feeding that was answered so
   pub over_at : (o : Option SubmitFault) (t : Result (Unit {0}) FeedEnd) (end : FeedEnd) → r.refused ≡ o → Told now.taken next.taken text_of_piece t → ended_by o t ≡ Err end → Answered n start next lines end
@@ -320,22 +374,21 @@ module _ (n : ℕ) (start now next : Point) (piece : Messages) (number : ℕ) (l
   over_at None (Err x) end e told is = none_fails x end e told.0 told.1 (cc is)
   over_at (Some submit.Broken) t end e told is =
       subst (Answered n start next lines) (cc is)
-      (ends_by submit.Broken ends.Journal e refl (front (front_of t told)) (record { sender = piece.sender; there = is_there; shows = inr (m.this.broken e) }) (λ other. absurd (other refl)))
+      (ends_by submit.Broken ends.Journal e refl (front (front_of t told)) (record { sender = piece.sender; there = is_there; shows = inr (m.this.broken e) }) (λ entries bytes x. cc x) (λ other. absurd (other refl)))
   over_at (Some submit.Fault) t end e told is =
       subst (Answered n start next lines) (cc is)
-      (ends_by submit.Fault ends.Journal e refl (front (front_of t told)) (record { sender = piece.sender; there = is_there; shows = inl failing }) (λ other. absurd (other refl)))
+      (ends_by submit.Fault ends.Journal e refl (front (front_of t told)) (record { sender = piece.sender; there = is_there; shows = inl failing }) (λ entries bytes x. cc x) (λ other. absurd (other refl)))
     where
       failing : HasFailed (part_at start.parts piece.sender).faults (part_at next.parts piece.sender).faults
       failing = failed_before (part_at start.parts piece.sender).faults p.faults q.faults (s.fed.each piece.sender is_there).goes_on.faults (m.this.fault e)
   over_at (Some submit.Closed) (Ok _) end e told is =
-      subst (Answered n start next lines) (cc is) (ends_by submit.Closed ends.Closed e refl (all told) (record { sender = piece.sender; there = is_there; shows = m.this.closed e }) (λ other. λ f. cc f))
+      subst (Answered n start next lines) (cc is) (ends_by submit.Closed ends.Closed e refl (all told) (record { sender = piece.sender; there = is_there; shows = m.this.closed e }) (λ entries bytes x. cc x) (λ other. λ f. cc f))
   over_at (Some submit.Closed) (Err x) end e told is = fails_at submit.Closed x end e (λ f. cc f) told.0 told.1 (cc is)
   over_at (Some (submit.Full x y)) (Ok _) end e told is =
       subst (Answered n start next lines) (cc is)
-      (ends_by (submit.Full x y) (ends.Full x y) e refl (all told)
-      (record { sender = piece.sender; there = is_there; shows = record { payloads = ps; count = r.count; full = m.this.full x y e } }) (λ other. λ f. cc f))
+      (ends_by (submit.Full x y) (ends.Full x y) e refl (all told) tt (fills_at x y (fills_piece x y e)) (λ other. λ f. cc f))
   over_at (Some (submit.Full x y)) (Err z) end e told is = fails_at (submit.Full x y) z end e (λ f. cc f) told.0 told.1 (cc is)
-  over_at (Some submit.Memory) (Ok _) end e told is = subst (Answered n start next lines) (cc is) (ends_by submit.Memory ends.Memory e tt (front (front_of (Ok tt) told)) tt (λ other. λ f. cc f))
+  over_at (Some submit.Memory) (Ok _) end e told is = subst (Answered n start next lines) (cc is) (ends_by submit.Memory ends.Memory e tt (front (front_of (Ok tt) told)) tt (λ entries bytes x. cc x) (λ other. λ f. cc f))
   over_at (Some submit.Memory) (Err x) end e told is = fails_at submit.Memory x end e (λ f. cc f) told.0 told.1 (cc is)
 
   -- and where it ends nothing
@@ -425,6 +478,7 @@ module _ (n : ℕ) (start now : Point) (piece : Messages) (number : ℕ) (lines 
     };
     told = subst (TakesFront start.taken taken) (sym (refused_text_is number_of why none e)) (front_more start.taken now.taken taken (words_text n 1 s.words) (refused_line n number_of why) s.told told);
     shown = tt;
+    full = λ entries bytes e. absurd (cc e);
     unlost = λ _. s.unlost;
     lost = λ t i. inl (s.unlost t i);
   }

@@ -45,19 +45,19 @@ module _ {J K : Type 0} {G : Ghosts J} where
   pub memory_at : (taken : K → Option (List ℕ)) (f : Feeder J K G) → EndsSo taken f f ends.Memory
   memory_at taken f start lines s =
       counted taken f start lines ends.Memory s.many
-      (halted (count_of f) start (point_of taken f) f.piece f.number lines ends.Memory (λ text told. front_whole start.taken (taken f.accepted) text told) tt s.stands)
+      (halted (count_of f) start (point_of taken f) f.piece f.number lines ends.Memory (λ text told. front_whole start.taken (taken f.accepted) text told) tt (λ entries bytes e. cc e) s.stands)
 
   pub stopped_at : (taken : K → Option (List ℕ)) (f : Feeder J K G) → EndsSo taken f f ends.Stopped
   stopped_at taken f start lines s =
-      counted taken f start lines ends.Stopped s.many (halted (count_of f) start (point_of taken f) f.piece f.number lines ends.Stopped (λ text told. told) tt s.stands)
+      counted taken f start lines ends.Stopped s.many (halted (count_of f) start (point_of taken f) f.piece f.number lines ends.Stopped (λ text told. told) tt (λ entries bytes e. cc e) s.stands)
 
   pub input_at : (taken : K → Option (List ℕ)) (f : Feeder J K G) → EndsSo taken f f ends.Input
   input_at taken f start lines s =
-      counted taken f start lines ends.Input s.many (halted (count_of f) start (point_of taken f) f.piece f.number lines ends.Input (λ text told. told) tt s.stands)
+      counted taken f start lines ends.Input s.many (halted (count_of f) start (point_of taken f) f.piece f.number lines ends.Input (λ text told. told) tt (λ entries bytes e. cc e) s.stands)
 
   pub ended_at : (taken : K → Option (List ℕ)) (f : Feeder J K G) → EndsSo taken f f ends.Ended
   ended_at taken f start lines s =
-      counted taken f start lines ends.Ended s.many (halted (count_of f) start (point_of taken f) f.piece f.number lines ends.Ended (λ text told. told) tt s.stands)
+      counted taken f start lines ends.Ended s.many (halted (count_of f) start (point_of taken f) f.piece f.number lines ends.Ended (λ text told. told) tt (λ entries bytes e. cc e) s.stands)
 
   -- ---- one step behind another
 

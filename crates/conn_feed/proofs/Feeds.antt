@@ -68,6 +68,7 @@ all_answered n start now piece number lines none s =
         last = record { before = s.words; clear = s.clear; why = whys.Memory; count = 0; few = omega arith; split = sym (append-nil s.words); kind = λ l. absurd (omega (arith, l)) };
         told = s.told;
         shown = tt;
+        full = λ entries bytes e. absurd (cc e);
         unlost = λ _. s.unlost;
         lost = λ t i. inl (s.unlost t i);
       },

@@ -20,8 +20,8 @@ at parts taken = record { parts = parts; taken = taken }
 abbrev pub Unfed : List Part → (taken left : Option (List ℕ)) → FeedEnd → Type 0
 Unfed parts taken left end = (f : Feeding (at parts taken) (at parts taken) left left end) × (f.read ≡ [])
 
-none_at : (parts : List Part) (taken left : Option (List ℕ)) (end : FeedEnd) → IsTold end taken taken [] → IsShown end parts parts → (end ≡ ends.Ended → ⊥) → Unfed parts taken left end
-none_at parts taken left end told shown unended = (
+none_at : (parts : List Part) (taken left : Option (List ℕ)) (end : FeedEnd) → IsTold end taken taken [] → IsShown end parts parts → (end ≡ ends.Ended → ⊥) → ((entries bytes : ℕ) → end ≡ ends.Full entries bytes → ⊥) → Unfed parts taken left end
+none_at parts taken left end told shown unended unfull = (
   record {
     read = [];
     consumed = Consumes-nil left;
@@ -39,6 +39,7 @@ none_at parts taken left end told shown unended = (
       last = record { before = []; clear = All-nil IsClear; why = whys.Memory; count = 0; few = omega arith; split = refl; kind = λ l. absurd (omega (arith, l)) };
       told = told;
       shown = shown;
+      full = λ entries bytes e. absurd (unfull entries bytes e);
       unlost = λ _ s i. refl;
       lost = λ s i. inl refl;
     };
@@ -49,6 +50,6 @@ none_at parts taken left end told shown unended = (
 
 pub none_fed : (parts : List Part) (taken left : Option (List ℕ)) (end : FeedEnd) → (end ≡ ends.Accepted) ⊎ (end ≡ ends.Memory) → Unfed parts taken left end
 none_fed parts taken left end (inl e) =
-    subst (Unfed parts taken left) (sym e) (none_at parts taken left ends.Accepted (record { count = 0; within = omega arith; appended = Appends-nil taken }) tt (λ x. cc x))
+    subst (Unfed parts taken left) (sym e) (none_at parts taken left ends.Accepted (record { count = 0; within = omega arith; appended = Appends-nil taken }) tt (λ x. cc x) (λ entries bytes x. cc x))
 none_fed parts taken left end (inr e) =
-    subst (Unfed parts taken left) (sym e) (none_at parts taken left ends.Memory (record { count = 0; within = omega arith; appended = Appends-nil taken }) tt (λ x. cc x))
+    subst (Unfed parts taken left) (sym e) (none_at parts taken left ends.Memory (record { count = 0; within = omega arith; appended = Appends-nil taken }) tt (λ x. cc x) (λ entries bytes x. cc x))

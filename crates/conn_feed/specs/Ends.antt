@@ -9,13 +9,12 @@ use Rattle.gate_turn.specs.Views.{HasFailed, Part}
 use Rattle.gate_turn.specs.Rule.{In}
 use Rattle.conn_door.specs.declared.answer.ServeFault.{ServeFault}
 use Rattle.conn_door.specs.Senders.{Finishes}
-use Rattle.gate_senders.specs.Shown.{IsFullBehind}
 use Rattle.conn_accepted.specs.declared.why.Why.{Why}
 use Rattle.conn_accepted.specs.declared.why.Why.TheVariants as whys
 use Rattle.conn_feed.specs.declared.end.FeedEnd.{FeedEnd}
 use Rattle.conn_feed.specs.declared.end.FeedEnd.TheVariants as ends
 use Rattle.conn_feed.specs.Words.{Word, alike, words_text, CameOfEach, IsClear}
-use Rattle.conn_feed.specs.Fed.{part_at, Fed, LosesLines}
+use Rattle.conn_feed.specs.Fed.{part_at, Fed, LosesLines, OneFills}
 
 -- what ends a feeding where the outbox refused a message so
 abbrev pub end_of : SubmitFault → FeedEnd
@@ -72,13 +71,8 @@ pub record OneShows (start now : List Part) (Shows : Part → Part → Type 0) :
   pub there : In (length start) sender
   pub shows : Shows (part_at start sender) (part_at now sender)
 
--- what a pass has seen has so many entries and takes so many bytes, and the next entry of a payload is past a limit
-pub record IsFull (entries bytes : ℕ) (p q : Part) : Type 0 where
-  pub payloads : List (List ℕ)
-  pub count : ℕ
-  pub full : IsFullBehind q payloads count entries bytes
-
--- why the outbox ended a feeding is shown by a pass: it has seen the mark, a call of the disk failed meanwhile or since the opening, or it is full
+-- why the outbox ended a feeding is shown by a pass: it has seen the mark, or a call of the disk failed meanwhile or since the opening; what is full is
+-- shown beside the lines
 abbrev pub IsShown : FeedEnd → (start now : List Part) → Type 0
 IsShown ends.Ended start now = ⊤
 IsShown ends.Closed start now = OneShows start now (λ p q. q.seen.finished ≡ true)
@@ -86,7 +80,7 @@ IsShown ends.Stopped start now = ⊤
 IsShown ends.Input start now = ⊤
 IsShown ends.Accepted start now = ⊤
 IsShown ends.Journal start now = OneShows start now (λ p q. HasFailed p.faults q.faults ⊎ HasFailed q.opening.faults q.faults)
-IsShown (ends.Full entries bytes) start now = OneShows start now (IsFull entries bytes)
+IsShown (ends.Full entries bytes) start now = ⊤
 IsShown ends.Memory start now = ⊤
 
 -- what the feeding moves: what the passes of the senders know, and what ACCEPTED has taken
@@ -95,7 +89,8 @@ pub record Point : Type 0 where
   pub taken : Option (List ℕ)
 
 -- Of some lines the first ones were answered, where there are so many senders: this came of each, exactly the entries that were accepted were
--- made, and exactly this was told. A pass lost nothing, or, where a journal failed, the last lines that were answered
+-- made, and exactly this was told. A pass lost nothing, or, where a journal failed, the last lines that were answered; and at a limit the first line
+-- that was refused gives the payload that is past it
 pub record Answered (senders : ℕ) (start now : Point) (lines : List (List ℕ)) (end : FeedEnd) : Type 0 where
   pub first : List (List ℕ)
   pub behind : List (List ℕ)
@@ -106,6 +101,7 @@ pub record Answered (senders : ℕ) (start now : Point) (lines : List (List ℕ)
   pub last : AreLast end words
   pub told : IsTold end start.taken now.taken (words_text senders 1 words)
   pub shown : IsShown end start.parts now.parts
+  pub full : (entries bytes : ℕ) → end ≡ ends.Full entries bytes → OneFills senders entries bytes now.parts (drop (length last.before) first)
   pub unlost : end ≢ ends.Journal → (s : ℕ) → In senders s → (part_at now.parts s).lost ≡ (part_at start.parts s).lost
   pub lost : (s : ℕ) → In senders s → ((part_at now.parts s).lost ≡ (part_at start.parts s).lost)
       ⊎ LosesLines senders (part_at now.parts s) (drop (length last.before) first)

@@ -1,11 +1,12 @@
 -- What the passes of the senders know once lines were fed (this project's profile).
-use Rattle.std.specs.Prelude.{⊤, ◌≡◌, ◌≢◌, true, ℕ, zero, suc, ◌+◌, ◌-◌, ◌≤◌, All, List, ◌++◌, length, map, slice_get, slice_index_or, Some}
+use Rattle.std.specs.Prelude.{⊤, ◌≡◌, ◌≢◌, true, ℕ, zero, suc, ◌+◌, ◌-◌, ◌≤◌, All, List, ◌∷◌, ◌++◌, length, map, slice_get, slice_index_or, Some}
 use Rattle.session_model.specs.Journal.{Entry, payloads, entries_of}
 use Rattle.jr_dated.specs.declared.journal.Journal.{Ghosts}
 use Rattle.gate_turn.specs.Views.{Part, new_part, nothing}
 use Rattle.gate_turn.specs.Rule.{In}
 use Rattle.gate_turn.specs.Places.{known}
 use Rattle.gate_senders.specs.declared.gate.Gate.{Gate}
+use Rattle.gate_senders.specs.Kept.{next_entry, IsFullAt}
 use Rattle.gate_senders.specs.Shown.{LosesAll, entries_after}
 use Rattle.gate_plans.specs.Sent.{GoesOn}
 use Rattle.gate_plans.specs.Seats.{Seated}
@@ -69,3 +70,18 @@ pub record LosesLines (senders : ℕ) (q : Part) (lines : List (List ℕ)) : Typ
   pub few : length payloads ≤ 64
   pub loses : LosesAll q payloads
   pub unmarked : q.seen.finished ≢ true
+
+-- The payload that the first of these lines gives was refused of a pass, where no mark stood: what it has seen has so many entries and takes so many
+-- bytes, and its next entry, of that payload, is past a limit
+pub record FillsLines (senders entries bytes : ℕ) (q : Part) (lines : List (List ℕ)) : Type 0 where
+  pub payload : List ℕ
+  pub behind : List (List ℕ)
+  pub given : AreGiven senders lines (gifts_to q.number (payload ∷ behind))
+  pub full : IsFullAt q.opening.limits q.seen (next_entry q.seen q.number payload) entries bytes
+  pub unmarked : q.seen.finished ≢ true
+
+-- so it is of the pass of one of the senders
+pub record OneFills (senders entries bytes : ℕ) (now : List Part) (lines : List (List ℕ)) : Type 0 where
+  pub sender : ℕ
+  pub there : In senders sender
+  pub fills : FillsLines senders entries bytes (part_at now sender) lines

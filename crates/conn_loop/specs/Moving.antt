@@ -1,7 +1,7 @@
 -- What a turn receives and sends over its link (this project's profile).
-use Rattle.std.specs.Prelude.{◌≡◌, ℕ, ◌+◌, ◌<◌, ◌||◌, Bool, false, List, [], ◌++◌, length, Option, Some, None, IfSome, Result, Ok, Err, true}
+use Rattle.std.specs.Prelude.{◌≡◌, ℕ, ◌+◌, ◌/◌, ◌<◌, ◌==◌, ◌||◌, min, if◌then◌else◌, Bool, false, List, [], ◌++◌, length, Option, Some, None, is_some, IfSome, Result, Ok, Err, true}
 use mathlib.Core.List.{IsPrefix}
-use Rattle.sofh_frame.specs.Framing.{IsBytes}
+use Rattle.sofh_frame.specs.Framing.{IsBytes, first_of}
 use Rattle.gw_links.specs.declared.link.Got.{Got}
 use Rattle.gw_links.specs.Links.{LinkTold, Carried, Moved}
 use Rattle.fixp_replies.specs.declared.act.Ending.TheVariants as endings
@@ -10,9 +10,26 @@ use Rattle.conn_turns.specs.declared.answer.TurnEnd.{TurnEnd}
 use Rattle.conn_turns.specs.declared.answer.TurnFault.{TurnFault}
 use Rattle.conn_turns.specs.declared.answer.TurnFault.TheVariants as faults
 use Rattle.conn_turns.specs.Lines.{Line}
+use Rattle.conn_turns.specs.Frames.{is_whole, is_bad}
 use Rattle.conn_turns.specs.Turns.{is_end, sending_calls}
 use Rattle.conn_turns.specs.Exact.{Received, most_held}
 use Rattle.conn_loop.specs.Conn.{answer_of}
+
+-- the shorter of both ends' intervals, in milliseconds; this end's, until the peer has told its own, which is not 0
+abbrev pub interval_of : State → ℕ
+interval_of m =
+    if m.facts.connection.peer_interval == 0
+    then m.config.keepalive
+    else min m.config.keepalive m.facts.connection.peer_interval
+
+-- how long the receive of a turn may wait where nothing is there, in milliseconds: not at all where the turn before took frames, whose
+-- answers the outbox may have, nor where a whole frame is held, or bytes that no frame begins with, or a range is served; and else the
+-- lesser of 100 and a tenth of the shorter interval
+abbrev pub patience_of : (took : Bool) → Line → ℕ
+patience_of took l =
+    if took || is_whole (first_of l.held) || is_bad (first_of l.held) || is_some l.machine.facts.connection.serving
+    then 0
+    else min 100 (interval_of l.machine / 10)
 
 -- bytes that were received stand behind what was held, and it is known whether the link has given its end
 pub record ReceivedOnce (eager : Bool) (told told' : Option LinkTold) (carried carried' : Option Carried) (old new : Line) (got : Option Got) : Type 0 where

@@ -16,7 +16,7 @@ impl Conn {
     ghost use Rattle.conn_loop.specs.Conn.{line_of};
 
     /// Whether a whole frame stands at the front of what is held.
-    fn holds_frame(&self) -> bool
+    pub(crate) fn holds_frame(&self) -> bool
         ensures { result ≡ is_whole (first_of (line_of self.now).held) }
     {
         match self.framer.peek() {
@@ -26,7 +26,7 @@ impl Conn {
     }
 
     /// Whether bytes stand there that no frame begins with.
-    fn holds_bad(&self) -> bool
+    pub(crate) fn holds_bad(&self) -> bool
         ensures { result ≡ is_bad (first_of (line_of self.now).held) }
     {
         match self.framer.peek() {

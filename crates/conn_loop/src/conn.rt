@@ -19,6 +19,8 @@ pub struct Conn {
     pub(crate) place: u64,
     /// Whether the link has given its end.
     pub(crate) over: bool,
+    /// Whether the last turn that received took frames. A business answers them behind that turn, in the outbox.
+    pub(crate) took: bool,
     /// What a turn gathers of its frames, until the inbox has it; each turn begins with nothing gathered.
     pub(crate) gathered: Gathered,
 }
@@ -39,6 +41,7 @@ impl Conn {
             framer: Framer::new(alloc)?,
             place: 0,
             over: false,
+            took: false,
             gathered: Gathered::new(alloc)?,
         })
     }
@@ -61,6 +64,7 @@ impl Conn {
         self.drop_held();
         self.place = 0;
         self.over = false;
+        self.took = false;
         self.end.begin(now);
     }
 

@@ -113,6 +113,7 @@ impl Conn {
             Ok(taken) => taken,
             Err(fault) => return Err(fault),
         };
+        self.took = taken > 0;
         self.close_frames(taken, now);
         self.serve_outbox(gate, pass, now, rt)
     }

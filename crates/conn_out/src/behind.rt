@@ -1,6 +1,6 @@
 //! The messages of an inbox behind a number, told line by line.
 
-ghost use Rattle.std.specs.Prelude.{◌≡◌, ◌≤◌, ◌++◌, ℕ, false, List, [], drop, IfOk, IfErr, OnOk, OnErr, IsErrOf, IsTrue, IsFalse, All, ◌<◌};
+ghost use Rattle.std.specs.Prelude.{◌≡◌, ◌≤◌, ◌++◌, ℕ, false, List, [], drop, IfOk, IfErr, OnOk, OnErr, Err, IsErrOf, IsTrue, IsFalse, All, ◌<◌};
 ghost use Rattle.std.specs.Io.KnownBytes.{Appends};
 ghost use Rattle.gw_outside.specs.Faults.{HasRisen, TakesFront};
 ghost use Rattle.session_model.specs.Inbox.{Numbered};
@@ -48,6 +48,8 @@ pub(crate) fn place_behind<J: Journal>(journal: &mut J, last: u64) -> Result<u64
     ensures counted { J.faults journal.old ≤ J.faults journal.new }
     ensures journal { IsErrOf result faults.Journal → HasRisen (J.faults journal.old) (J.faults journal.new) }
     ensures output { IsErrOf result faults.Output → ⊥ }
+    ensures short { IsErrOf result faults.Short → ⊥ }
+    ensures changed { (at : ℕ) → result ≡ Err (faults.Changed at) → J.is_told journal.old → ⊥ }
 {
     let mut at = journal.len();
     while at > 0 {
@@ -77,6 +79,8 @@ fn tell_message<K: Sink>(
     ensures counted { K.faults out.old ≤ K.faults out.new }
     ensures output { IsErrOf result faults.Output → HasRisen (K.faults out.old) (K.faults out.new) }
     ensures journal { IsErrOf result faults.Journal → ⊥ }
+    ensures short { IsErrOf result faults.Short → ⊥ }
+    ensures changed { (at : ℕ) → result ≡ Err (faults.Changed at) → ⊥ }
 {
     let Ok(()) = push_deliver_line(lines, number, payload) else {
         return Err(OutFault::Memory);
@@ -96,6 +100,8 @@ fn tell_record<K: Sink>(out: &mut K, lines: &mut Vec<u8>, record: &Record) -> Re
     ensures counted { K.faults out.old ≤ K.faults out.new }
     ensures output { IsErrOf result faults.Output → HasRisen (K.faults out.old) (K.faults out.new) }
     ensures journal { IsErrOf result faults.Journal → ⊥ }
+    ensures short { IsErrOf result faults.Short → ⊥ }
+    ensures changed { (at : ℕ) → result ≡ Err (faults.Changed at) → ⊥ }
 {
     match record {
         Record::Apply { number, payload } => tell_message(out, lines, *number, payload.as_slice()),
@@ -153,6 +159,8 @@ pub(crate) fn tell_from<J: Journal, K: Sink>(
     ensures counted { (K.faults out.old ≤ K.faults out.new) × (J.faults journal.old ≤ J.faults journal.new) }
     ensures output { IsErrOf result faults.Output → HasRisen (K.faults out.old) (K.faults out.new) }
     ensures journal { IsErrOf result faults.Journal → HasRisen (J.faults journal.old) (J.faults journal.new) }
+    ensures short { IsErrOf result faults.Short → ⊥ }
+    ensures changed { (at : ℕ) → result ≡ Err (faults.Changed at) → J.is_told journal.old → ⊥ }
 {
     let mut lines = room(alloc)?;
     let count = journal.len();

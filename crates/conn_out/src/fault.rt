@@ -1,6 +1,6 @@
 //! Why OUT was not gone on with.
 
-ghost use Rattle.std.specs.Prelude.{◌≡◌, ◌⊎◌};
+ghost use Rattle.std.specs.Prelude.{◌≡◌, ◌⊎◌, ℕ};
 ghost use Rattle.conn_tail.specs.declared.fault.TailFault.TheVariants as tail;
 ghost use Rattle.jr_dated.specs.declared.faults.FetchFault.TheVariants as fetch;
 ghost use Rattle.conn_out.specs.declared.fault.OutFault.TheVariants as out;
@@ -28,6 +28,7 @@ pub(crate) fn no_tail(fault: TailFault) -> OutFault
     ensures output { (result ≡ out.Output) → fault ≡ tail.Device }
     ensures short { (result ≡ out.Short) → fault ≡ tail.Short }
     ensures journal { result ≡ out.Journal → ⊥ }
+    ensures changed { (at : ℕ) → result ≡ out.Changed at → ⊥ }
 {
     match fault {
         TailFault::Device => OutFault::Output,
@@ -40,6 +41,8 @@ pub(crate) fn no_tail(fault: TailFault) -> OutFault
 pub(crate) fn no_record(fault: FetchFault) -> OutFault
     ensures journal { result ≡ out.Journal → (fault ≡ fetch.Fault) ⊎ (fault ≡ fetch.Broken) }
     ensures output { result ≡ out.Output → ⊥ }
+    ensures short { result ≡ out.Short → ⊥ }
+    ensures changed { (at : ℕ) → result ≡ out.Changed at → fault ≡ fetch.Changed at }
 {
     match fault {
         FetchFault::Memory => OutFault::Memory,

@@ -1,6 +1,6 @@
 //! OUT is gone on with.
 
-ghost use Rattle.std.specs.Prelude.{◌≡◌, ◌≤◌, ℕ, false, List, take, Some, IfOk, IfSome, IfNone, IsSomeAnd, OnOk, OnErr, IsErrOf};
+ghost use Rattle.std.specs.Prelude.{◌≡◌, ◌≤◌, ℕ, false, List, take, Some, None, Err, IfOk, IfSome, IfNone, IsSomeAnd, OnOk, OnErr, IsErrOf};
 ghost use Rattle.std.specs.Option.{ForSome, option_map};
 ghost use Rattle.conn_tail.specs.Tails.{HasTail};
 ghost use Rattle.gw_outside.specs.Faults.{HasRisen};
@@ -35,6 +35,8 @@ fn cut_out<A: Appended>(alloc: Global, out: &mut A) -> Result<Option<Tail>, OutF
     ensures counted { A.faults out.old ≤ A.faults out.new }
     ensures output { IsErrOf result faults.Output → HasRisen (A.faults out.old) (A.faults out.new) }
     ensures journal { IsErrOf result faults.Journal → ⊥ }
+    ensures short { IsErrOf result faults.Short → A.taken out.old ≡ None }
+    ensures changed { (at : ℕ) → result ≡ Err (faults.Changed at) → ⊥ }
 {
     match cut_tail(alloc, out) {
         Ok(tail) => Ok(tail),
@@ -46,7 +48,8 @@ fn cut_out<A: Appended>(alloc: Global, out: &mut A) -> Result<Option<Tail>, OutF
 /// Answers that one's number, 0 where it told of none; None where OUT keeps nothing, and is left as it is. The journal is only read.
 ///
 /// # Errors
-/// `Output` and `Short` where OUT failed, `Journal` and `Changed` where the journal did, and `Memory`. OUT, where it told of the first messages, tells
+/// `Output` where OUT failed, and `Short` where it ended before its length, which one that tells its content never does; `Journal` where the journal
+/// failed, and `Changed` where it gave another record than was written, which one that tells its content never does; and `Memory`. OUT, where it told of the first messages, tells
 /// of as many or more of the first then, so that it can be gone on with again.
 pub fn go_on<J: Journal, A: Appended>(
     alloc: Global,
@@ -71,6 +74,8 @@ pub fn go_on<J: Journal, A: Appended>(
     ensures counted { (A.faults out.old ≤ A.faults out.new) × (J.faults journal.old ≤ J.faults journal.new) }
     ensures output { IsErrOf result faults.Output → HasRisen (A.faults out.old) (A.faults out.new) }
     ensures journal { IsErrOf result faults.Journal → HasRisen (J.faults journal.old) (J.faults journal.new) }
+    ensures short { IsErrOf result faults.Short → A.taken out.old ≡ None }
+    ensures changed { (at : ℕ) → result ≡ Err (faults.Changed at) → J.is_told journal.old → ⊥ }
 {
     let Some(tail) = cut_out(alloc, out)? else {
         return Ok(None);

@@ -34,8 +34,8 @@ use Rattle.fed_laws.specs.Laws.{FedPasses}
 use Rattle.fed_laws.specs.At.{FedAt, fed_beside}
 use Rattle.fed_laws.proofs.Parts.{PartOpened}
 use Rattle.fed_laws.proofs.Fed as feeding
-use Rattle.fed_laws.proofs.Served.{few_from, opened_from, many, plans_many, served_by}
-use Rattle.fed_laws.proofs.Told.{fed_with}
+use Rattle.fed_laws.proofs.Served.{few_from, opened_from, many, plans_many, marking, served_by}
+use Rattle.fed_laws.proofs.Told.{fed_with, marks_done}
 
 module _ {J I L : Type 0} {G : Ghosts J} {K : Ghosts I} (links : LinkGhosts L) (gate : Gate J G) (before behind : ℕ) (a : Account) (seated counted after : List (Sender J G)) (old new : Passes (Kept J G)) (pass : Pass (Kept J G)) (first now : Part)
     (w : FedPasses gate a seated counted after old new pass first now) (start last : Point) (left left' : Option (List ℕ)) (fed : Fed) (start_is : start.parts ≡ parts_of counted) (last_is : parts_of after ≡ last.parts) (b : FedBy start last left left' fed.end fed.refused)
@@ -84,4 +84,6 @@ module _ {J I L : Type 0} {G : Ghosts J} {K : Ghosts I} (links : LinkGhosts L) (
         connections_are = l.1;
         refused_is = l.2;
         told = λ z closed. fed_with gate a z seated counted after old new pass first now w start last left left' fed.end fed.refused start_is last_is b closed;
+        marks = λ z closed. marks_done gate a z seated counted after old new pass first now w start last left left' fed.end fed.refused start_is last_is b closed;
+        marking = marking gate a seated counted after w.fresh w.count start last start_is last_is w.few w.long left left' fed.end fed.refused b;
       }

@@ -1,7 +1,11 @@
 -- What the passes of all senders know behind a feeding, of the plans that it submitted.
-use Rattle.std.proofs.Common.{◌≡◌, ◌≢◌, ◌⊎◌, inl, inr, ⊎_elim, ℕ, zero, suc, ◌+◌, ◌-◌, ◌<◌, ◌≤◌, ◌^◌, true, false, List, [], ◌∷◌, ◌++◌, length, drop, slice_index_or, refl, sym, ap, subst, ◌∙◌, arith, append-nil}
+use Rattle.std.proofs.Common.{◌≡◌, ◌≢◌, ◌⊎◌, inl, inr, ⊎_elim, ℕ, zero, suc, ◌+◌, ◌-◌, ◌<◌, ◌≤◌, ◌^◌, ◌==◌, Bool, true, false, cond, List, [], ◌∷◌, ◌++◌, length, drop, slice_get, slice_index_or, refl, sym, ap, subst, ◌∙◌, arith, append-nil}
 use Rattle.std.specs.Prelude.{All, Option, None, Some}
-use Rattle.session_model.specs.Journal.{Entry, History, finish, payloads, entries_of}
+use Rattle.std.specs.List.{AllByRecursion}
+use Rattle.std.proofs.lemmas.Bool.{eqb-true}
+use Rattle.std.proofs.lemmas.List.Elements.{All-head, All-tail}
+use Rattle.session_model.specs.Journal.{Entry, History, BeginsHistory, finish, payloads, entries_of}
+use Rattle.session_model.proofs.Lists.{all_append, all_weaker, prefix_get}
 use Rattle.jr_dated.specs.declared.journal.Journal.{Ghosts}
 use Rattle.gate_turn.specs.Views.{Account, Part}
 use Rattle.gate_turn.specs.Rule.{In}
@@ -10,23 +14,24 @@ use Rattle.gate_senders.specs.declared.gate.Gate.{Gate}
 use Rattle.gate_plans.specs.declared.sender.Sender.{Sender}
 use Rattle.plan_text.specs.Plans.{Gift, payloads_of_sender}
 use Rattle.conn_accepted.specs.declared.why.Why.{Why}
-use Rattle.conn_accepted.specs.declared.why.Why.TheVariants.{Failed}
 use Rattle.conn_door.specs.declared.answer.ServeFault.{ServeFault}
 use Rattle.conn_door.specs.Senders.{LosesMark}
 use Rattle.conn_feed.specs.declared.end.FeedEnd.{FeedEnd}
 use Rattle.conn_feed.specs.declared.end.FeedEnd.TheVariants as ends
-use Rattle.conn_feed.specs.Words.{Word, alike, entries_in, CameOfEach}
-use Rattle.conn_feed.specs.Fed.{part_at, parts_of, Made, LosesLines, gifts_to}
+use Rattle.conn_feed.specs.Words.{Word, accepted, refused as declined, alike, entries_in, CameOfEach}
+use Rattle.conn_feed.specs.Fed.{part_at, parts_of, Made, StandsIn, LosesLines, FillsLines, gifts_to}
 use Rattle.conn_feed.specs.Ends.{Point, Answered, MayBeLast, FinishedBy}
 use Rattle.conn_feed.proofs.Coming.{entries_append}
 use Rattle.conn_feed.proofs.Moving.{at_seat}
 use Rattle.conn_fed.specs.Fed.{IsMarked}
 use Rattle.life_laws.specs.Plans.{plan_in}
-use Rattle.gate_business.specs.Made.{IsAllMade, LosesMessages}
+use Rattle.gate_business.specs.Made.{IsAllMade, LosesMessages, IsAmong, SeesOwn}
+use Rattle.life_laws.specs.PlanLives.{MetFull}
+use Rattle.life_laws.proofs.Seen.{own_among}
 use Rattle.life_laws.proofs.Senders.{PartMade, part_still, EachMade, NoneEnded, PartLoses, SendersMade}
 use Rattle.fed_laws.specs.Given.{GiveThese, fed_plan, fed_plans}
 use Rattle.fed_laws.proofs.Gifts.{gifts_of, give_these, came_behind, parted, none_given, alike_given, gifts_own, plan_at, plans_long}
-use Rattle.fed_laws.proofs.Parts.{PartOpened, part_made, all_made, unended_on, loses_next}
+use Rattle.fed_laws.proofs.Parts.{PartOpened, part_made, all_made, unended_on, next_at, loses_next}
 
 entries_alike : (why : Why) (count : ℕ) → entries_in (alike why count) ≡ []
 entries_alike why zero = refl
@@ -111,22 +116,62 @@ module _ (a : Account) (start now : Point) (lines : List (List ℕ)) (end : Feed
   pub unlost_at : end ≢ ends.Journal → (k : ℕ) → k < n → (part_at now.parts (suc k)).lost ≡ []
   unlost_at other k lt = f.unlost other (suc k) (inside k lt) ∙ (opened (suc k) (inside k lt)).lost
 
-  failed_last : end ≡ ends.Journal → 0 < f.last.count → f.last.why ≡ Failed
-  failed_last e some = subst (λ (x : FeedEnd). MayBeLast x f.last.why) e (f.last.kind some)
-
   loses_at : end ≡ ends.Journal → (k : ℕ) → k < n → LosesLines n (part_at now.parts (suc k)) (drop (length before) f.first)
       → LosesMessages (plan_in plans (suc k) []) (part_at now.parts (suc k)) × (a.history.finished ≢ true)
   loses_at e k lt l =
       let q : Part = part_at now.parts (suc k) in
       let m : PartMade a (suc k) (plan_in plans (suc k) []) q = made_at k lt in
       let are : left ≡ gifts_to q.number l.payloads =
-      alike_given n q.number f.last.why f.last.count (drop (length before) f.first) l.payloads (came_behind n before tail f.first came) small (failed_last e) l.given in
+      alike_given n q.number f.last.why f.last.count (drop (length before) f.first) l.payloads (came_behind n before tail f.first came) small l.given in
       let rest_is : rest (suc k) ≡ l.payloads =
       ap (λ (s : ℕ). payloads_of_sender s left) (sym m.number) ∙ ap (λ (gs : List Gift). payloads_of_sender q.number gs) are ∙ gifts_own q.number l.payloads in (
         loses_next a (suc k) (plan_in plans (suc k) []) (part_at start.parts (suc k)) q (es (suc k)) (rest (suc k)) (opened (suc k) (inside k lt)) (f.fed.each (suc k) (inside k lt)) (plan_is k lt)
             l.payloads rest_is l.few l.loses,
         λ was. l.unmarked (sym (ap (λ (h : History). h.finished) (m.behind.alone was)) ∙ was),
       )
+
+  -- a pass has seen all entries of its own
+  among : (ws : List Word) (s : ℕ) → All (StandsIn now.parts) ws → AllByRecursion (IsAmong (part_at now.parts s).seen.made) (entries_of (entries_in ws) s)
+  among [] s all = tt
+  among (declined why ∷ ws) s all = among ws s (All-tail (StandsIn now.parts) (declined why) ws all)
+  among (accepted m e ∷ ws) s all = by_test (e.sender == s) refl (among ws s (All-tail (StandsIn now.parts) (accepted m e) ws all))
+    where
+      by_test : (b : Bool) → (e.sender == s) ≡ b → AllByRecursion (IsAmong (part_at now.parts s).seen.made) (entries_of (entries_in ws) s)
+          → AllByRecursion (IsAmong (part_at now.parts s).seen.made) (cond b (e ∷ entries_of (entries_in ws) s) (entries_of (entries_in ws) s))
+      by_test true is rest = (
+        (m - 1, subst (λ (x : ℕ). slice_get (part_at now.parts x).seen.made (m - 1) ≡ Some e) (eqb-true e.sender s is) (All-head (StandsIn now.parts) (accepted m e) ws all).1),
+        rest,
+      )
+      by_test false is rest = rest
+
+  sees_own : (k : ℕ) → k < n → SeesOwn (part_at now.parts (suc k))
+  sees_own k lt =
+      let q : Part = part_at now.parts (suc k) in
+      let had : List Entry = entries_of a.history.made (suc k) in
+      subst (λ (xs : List Entry). AllByRecursion (IsAmong q.seen.made) xs)
+      (sym ((f.fed.each (suc k) (inside k lt)).mine ∙ ap (λ (hs : List Entry). hs ++ es (suc k)) (opened (suc k) (inside k lt)).mine))
+      (all_append (IsAmong q.seen.made) had (es (suc k))
+      (all_weaker (IsAmong a.history.made) (IsAmong q.seen.made) (λ e x. (x.0, prefix_get a.history.made q.seen.made x.0 e (made_at k lt).behind.made x.1)) had (own_among a.history.made (suc k)))
+      (among f.words (suc k) f.fed.stand))
+
+  -- at a limit the next message of a plan was refused
+  pub fills_at : (entries bytes k : ℕ) → k < n → FillsLines n entries bytes (part_at now.parts (suc k)) (drop (length before) f.first) → MetFull plans entries bytes (part_at now.parts (suc k))
+  fills_at entries bytes k lt l =
+      let q : Part = part_at now.parts (suc k) in
+      let m : PartMade a (suc k) (plan_in plans (suc k) []) q = made_at k lt in
+      let are : left ≡ gifts_to q.number (l.payload ∷ l.behind) =
+      alike_given n q.number f.last.why f.last.count (drop (length before) f.first) (l.payload ∷ l.behind) (came_behind n before tail f.first came) small l.given in
+      let rest_is : rest (suc k) ≡ l.payload ∷ l.behind =
+      ap (λ (s : ℕ). payloads_of_sender s left) (sym m.number) ∙ ap (λ (gs : List Gift). payloads_of_sender q.number gs) are ∙ gifts_own q.number (l.payload ∷ l.behind) in
+      record {
+        payload = l.payload;
+        next = subst (λ (s : ℕ). slice_get (plan_in plans s []) (length q.mine) ≡ Some l.payload) (sym m.number)
+            (next_at a (suc k) (plan_in plans (suc k) []) (part_at start.parts (suc k)) q (es (suc k)) (rest (suc k)) (opened (suc k) (inside k lt)) (f.fed.each (suc k) (inside k lt)) (plan_is k lt)
+            l.payload l.behind rest_is);
+        seen_all = sees_own k lt;
+        behind = subst (λ (b : Account). BeginsHistory b.history q.seen) (sym m.opening) m.behind;
+        full = l.full;
+      }
 
   pub lost_at : (k : ℕ) → k < n → ((part_at now.parts (suc k)).lost ≡ []) ⊎ (LosesMessages (plan_in plans (suc k) []) (part_at now.parts (suc k)) × (a.history.finished ≢ true))
   lost_at k lt = by_end end refl

@@ -29,6 +29,9 @@ none_more : (n : ℕ) (line : List ℕ) (lines : List (List ℕ)) (gs : List Gif
 none_more n line lines [] none g = (none, g)
 none_more n line lines (x ∷ gs) none g = inl (none, g)
 
+too_long : (n : ℕ) → 32779 ≤ n → n ≤ 32778 → ⊥
+too_long n least most = omega (arith, least, most)
+
 pub give_these : (n : ℕ) (lines : List (List ℕ)) (ws : List Word) (c : CameOfEach n lines ws) → n < 2 ^ 16 → GiveThese n lines (gifts_of n lines ws c)
 give_these n [] [] c few = tt
 give_these n [] (w ∷ ws) c few = absurd c
@@ -38,9 +41,6 @@ give_these n (line ∷ lines) (refused (Wrong wrong) ∷ ws) c few =
     none_more n line lines (gifts_of n lines ws c.1) (λ g gives. wrong_gives_nothing n line wrong g few c.0 gives) (give_these n lines ws c.1 few)
 give_these n (line ∷ lines) (refused TooLong ∷ ws) c few =
     none_more n line lines (gifts_of n lines ws c.1) (λ g gives. too_long (length line) c.0 (givers_are_short n line g few gives)) (give_these n lines ws c.1 few)
-  where
-    too_long : (n : ℕ) → 32779 ≤ n → n ≤ 32778 → ⊥
-    too_long n least most = omega (arith, least, most)
 give_these n (line ∷ lines) (refused Full ∷ ws) c few = inr (c.0.1, give_these n lines ws c.1 few)
 give_these n (line ∷ lines) (refused Closed ∷ ws) c few = inr (c.0.1, give_these n lines ws c.1 few)
 give_these n (line ∷ lines) (refused Failed ∷ ws) c few = inr (c.0.1, give_these n lines ws c.1 few)
@@ -81,31 +81,35 @@ pub none_given : (n : ℕ) (lines : List (List ℕ)) (c : CameOfEach n lines [])
 none_given n [] c = refl
 none_given n (line ∷ lines) c = absurd c
 
--- the lines give payloads to one sender
-failed_given : (n s count : ℕ) (lines ps : List (List ℕ)) (c : CameOfEach n lines (alike Failed count)) → n < 2 ^ 16 → AreGiven n lines (gifts_to s ps) → gifts_of n lines (alike Failed count) c ≡ gifts_to s ps
-failed_given n s zero [] [] c few given = refl
-failed_given n s zero [] (p ∷ ps) c few given = absurd given
-failed_given n s zero (line ∷ lines) ps c few given = absurd c
-failed_given n s (suc count) [] ps c few given = absurd c
-failed_given n s (suc count) (line ∷ lines) [] c few given = absurd given
-failed_given n s (suc count) (line ∷ lines) (p ∷ ps) c few given =
-    let one : c.0.0 ≡ record { sender = s; payload = p } = gives_once n line c.0.0 (record { sender = s; payload = p }) few c.0.1 given.0 in
-    ap (λ (g : Gift). g ∷ gifts_of n lines (alike Failed count) c.1) one
-    ∙ ap (λ (gs : List Gift). record { sender = s; payload = p } ∷ gs) (failed_given n s count lines ps c.1 few given.1)
-
 none_failed : (n s : ℕ) (lines ps : List (List ℕ)) (c : CameOfEach n lines []) → AreGiven n lines (gifts_to s ps) → gifts_of n lines [] c ≡ gifts_to s ps
 none_failed n s [] [] c given = refl
 none_failed n s [] (p ∷ ps) c given = absurd given
 none_failed n s (line ∷ lines) ps c given = absurd c
 
-pub alike_given : (n s : ℕ) (why : Why) (count : ℕ) (lines ps : List (List ℕ)) (c : CameOfEach n lines (alike why count)) → n < 2 ^ 16 → (0 < count → why ≡ Failed) → AreGiven n lines (gifts_to s ps)
+-- lines that give payloads to one sender give these, whatever was said of them
+pub alike_given : (n s : ℕ) (why : Why) (count : ℕ) (lines ps : List (List ℕ)) (c : CameOfEach n lines (alike why count)) → n < 2 ^ 16 → AreGiven n lines (gifts_to s ps)
     → gifts_of n lines (alike why count) c ≡ gifts_to s ps
-alike_given n s why zero lines ps c few is given = none_failed n s lines ps c given
-alike_given n s why (suc count) lines ps c few is given =
-    by_why why (is (omega arith)) c
-  where
-    by_why : (w : Why) → w ≡ Failed → (d : CameOfEach n lines (alike w (suc count))) → gifts_of n lines (alike w (suc count)) d ≡ gifts_to s ps
-    by_why w e = subst (λ (v : Why). (d : CameOfEach n lines (alike v (suc count))) → gifts_of n lines (alike v (suc count)) d ≡ gifts_to s ps) (sym e) (λ d. failed_given n s (suc count) lines ps d few given)
+alike_given n s why zero lines ps c few given = none_failed n s lines ps c given
+alike_given n s why (suc count) [] ps c few given = absurd c
+alike_given n s why (suc count) (line ∷ lines) [] c few given = absurd given
+alike_given n s (Wrong wrong) (suc count) (line ∷ lines) (p ∷ ps) c few given = absurd (wrong_gives_nothing n line wrong (record { sender = s; payload = p }) few c.0 given.0)
+alike_given n s TooLong (suc count) (line ∷ lines) (p ∷ ps) c few given = absurd (too_long (length line) c.0 (givers_are_short n line (record { sender = s; payload = p }) few given.0))
+alike_given n s Full (suc count) (line ∷ lines) (p ∷ ps) c few given =
+    let one : c.0.0 ≡ record { sender = s; payload = p } = gives_once n line c.0.0 (record { sender = s; payload = p }) few c.0.1 given.0 in
+    ap (λ (g : Gift). g ∷ gifts_of n lines (alike Full count) c.1) one
+    ∙ ap (λ (gs : List Gift). record { sender = s; payload = p } ∷ gs) (alike_given n s Full count lines ps c.1 few given.1)
+alike_given n s Closed (suc count) (line ∷ lines) (p ∷ ps) c few given =
+    let one : c.0.0 ≡ record { sender = s; payload = p } = gives_once n line c.0.0 (record { sender = s; payload = p }) few c.0.1 given.0 in
+    ap (λ (g : Gift). g ∷ gifts_of n lines (alike Closed count) c.1) one
+    ∙ ap (λ (gs : List Gift). record { sender = s; payload = p } ∷ gs) (alike_given n s Closed count lines ps c.1 few given.1)
+alike_given n s Failed (suc count) (line ∷ lines) (p ∷ ps) c few given =
+    let one : c.0.0 ≡ record { sender = s; payload = p } = gives_once n line c.0.0 (record { sender = s; payload = p }) few c.0.1 given.0 in
+    ap (λ (g : Gift). g ∷ gifts_of n lines (alike Failed count) c.1) one
+    ∙ ap (λ (gs : List Gift). record { sender = s; payload = p } ∷ gs) (alike_given n s Failed count lines ps c.1 few given.1)
+alike_given n s Memory (suc count) (line ∷ lines) (p ∷ ps) c few given =
+    let one : c.0.0 ≡ record { sender = s; payload = p } = gives_once n line c.0.0 (record { sender = s; payload = p }) few c.0.1 given.0 in
+    ap (λ (g : Gift). g ∷ gifts_of n lines (alike Memory count) c.1) one
+    ∙ ap (λ (gs : List Gift). record { sender = s; payload = p } ∷ gs) (alike_given n s Memory count lines ps c.1 few given.1)
 
 same_number : (s : ℕ) → (s == s) ≡ true
 same_number s = grind (arith, nat_tests)

@@ -1,5 +1,5 @@
 -- What one pass knows behind a feeding, of a plan that goes on with what the lines gave it.
-use Rattle.std.proofs.Common.{◌≡◌, ◌≢◌, ℕ, suc, ◌+◌, ◌≤◌, false, List, [], ◌∷◌, ◌++◌, length, take, drop, refl, sym, ap, subst, ◌∙◌, arith, append-nil, length-append}
+use Rattle.std.proofs.Common.{◌≡◌, ◌≢◌, ℕ, zero, suc, ◌+◌, ◌≤◌, false, List, [], ◌∷◌, ◌++◌, length, take, drop, slice_get, Some, refl, sym, ap, subst, ◌∙◌, arith, append-nil, length-append}
 use Rattle.session_model.specs.Journal.{Entry, History, BeginsHistory, payloads, entries_of}
 use Rattle.jr_kept.specs.Entries.{entries_made}
 use Rattle.gate_turn.specs.Views.{Account, Part}
@@ -35,6 +35,13 @@ payloads_long (e ∷ es) = ap suc (payloads_long es)
 assoc : (xs ys zs : List (List ℕ)) → (xs ++ ys) ++ zs ≡ xs ++ (ys ++ zs)
 assoc [] ys zs = refl
 assoc (x ∷ xs) ys zs = ap (λ (qs : List (List ℕ)). x ∷ qs) (assoc xs ys zs)
+
+-- the first element behind so many
+first_of : (n : ℕ) (xs : List (List ℕ)) (x : List ℕ) (ys : List (List ℕ)) → drop n xs ≡ x ∷ ys → slice_get xs n ≡ Some x
+first_of zero [] x ys e = absurd (cc e)
+first_of zero (z ∷ zs) x ys e = let same : z ≡ x = cc e in ap Some same
+first_of (suc n) [] x ys e = absurd (cc e)
+first_of (suc n) (z ∷ zs) x ys e = first_of n zs x ys e
 
 module _ (a : Account) (n : ℕ) (plan : List (List ℕ)) (p q : Part) (es : List Entry) (rest : List (List ℕ)) (o : PartOpened a n p) (m : Made p q es)
     (plan_is : plan ≡ payloads (entries_of a.history.made n) ++ (payloads es ++ rest)) where
@@ -85,6 +92,9 @@ module _ (a : Account) (n : ℕ) (plan : List (List ℕ)) (p q : Part) (es : Lis
   next_is =
       ap (λ (ps : List (List ℕ)). drop (length q.mine) ps) (plan_is ∙ sym (assoc (payloads had) (payloads es) rest)) ∙ ap (λ (k : ℕ). drop k ((payloads had ++ payloads es) ++ rest)) long_is
       ∙ drop_past (payloads had ++ payloads es) rest
+
+  pub next_at : (payload : List ℕ) (behind : List (List ℕ)) → rest ≡ payload ∷ behind → slice_get plan (length q.mine) ≡ Some payload
+  next_at payload behind are = first_of (length q.mine) plan payload behind (next_is ∙ are)
 
   pub loses_next : (ps : List (List ℕ)) → rest ≡ ps → length ps ≤ 64 → LosesAll q ps → LosesMessages plan q
   loses_next ps are few l =

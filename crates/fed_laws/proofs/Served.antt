@@ -1,7 +1,6 @@
 -- A life that was fed is one whose senders submitted the plans that the lines gave them.
-use Rattle.std.proofs.Common.{◌≡◌, ◌⊎◌, inl, inr, ⊎_elim, ℕ, zero, suc, ◌+◌, ◌-◌, ◌<◌, ◌≤◌, false, List, [], length, slice_index_or, refl, sym, ap, subst, ◌∙◌, arith}
+use Rattle.std.proofs.Common.{◌≡◌, ◌⊎◌, inl, inr, ⊎_elim, ℕ, zero, suc, ◌+◌, ◌-◌, ◌<◌, ◌≤◌, true, false, List, [], length, drop, slice_index_or, refl, sym, ap, subst, ◌∙◌, arith}
 use Rattle.std.specs.Prelude.{option_to_list, Option, Some, None, Result, Ok, Err, IfErr, IfSome}
-use Rattle.std.proofs.lemmas.Bool.{false≢true}
 use Rattle.std.proofs.lemmas.Option.{none-some}
 use Rattle.session_model.specs.Journal.{History, BeginsHistory}
 use Rattle.fixp_machine.specs.Machine.{State}
@@ -18,6 +17,7 @@ use Rattle.gate_turn.specs.Places.{known}
 use Rattle.gate_turn.specs.Listed.{pass_at, known_at}
 use Rattle.gate_turn.specs.declared.pass.Pass.{Pass}
 use Rattle.gate_turn.specs.declared.passes.Passes.{Passes}
+use Rattle.gate_turn.proofs.Failing.{failed_before}
 use Rattle.gate_senders.specs.declared.gate.Gate.{Gate}
 use Rattle.gate_senders.specs.declared.kept.Kept.{Kept}
 use Rattle.gate_plans.specs.Runs.{CountedEach}
@@ -27,15 +27,15 @@ use Rattle.conn_loop.specs.Conn.{Looks}
 use Rattle.conn_door.specs.declared.answer.ServeFault.{ServeFault}
 use Rattle.conn_door.specs.declared.answer.ServeFault.TheVariants as faults
 use Rattle.conn_door.specs.declared.answer.LifeEnd.{LifeEnd}
-use Rattle.conn_door.specs.declared.answer.LifeEnd.TheVariants as lives
-use Rattle.conn_door.specs.Answers.{answer_of, IsOfSender, IsUnrefused}
+use Rattle.conn_door.specs.Answers.{answer_of, yields, IsOfSender, IsUnrefused}
+use Rattle.conn_door.proofs.Marking.{unanswered}
 use Rattle.conn_serve.specs.Causes.{BlamesJournal, IsBlamed}
 use Rattle.conn_serve.specs.Connections.{wanted_of_all}
 use Rattle.conn_serve.specs.Moments.{life_at, faults_at, beside}
 use Rattle.conn_serve.specs.Served.{ServedOver}
 use Rattle.conn_feed.specs.declared.end.FeedEnd.{FeedEnd}
 use Rattle.conn_feed.specs.declared.end.FeedEnd.TheVariants as ends
-use Rattle.conn_feed.specs.Fed.{part_at, parts_of, AtSeats}
+use Rattle.conn_feed.specs.Fed.{part_at, parts_of, AtSeats, FillsLines}
 use Rattle.conn_feed.specs.Ends.{Point, IsShown, OneShows, FinishedBy}
 use Rattle.conn_feed.proofs.Moving.{at_seat, parts_long}
 use Rattle.conn_fed.specs.Fed.{FedBy, IsMarked}
@@ -46,36 +46,59 @@ use Rattle.life_laws.proofs.Back.{at_place}
 use Rattle.life_laws.proofs.Passes.{answer_blames, blamed_at}
 use Rattle.fed_laws.specs.Answers.{fed_refusal}
 use Rattle.fed_laws.specs.Given.{GiveThese, fed_plans}
+use Rattle.fed_laws.specs.Told.{is_done}
 use Rattle.fed_laws.specs.Laws.{IsNew, FedPasses, IsByPlans, FeedingIsByPlans}
 use Rattle.fed_laws.proofs.Parts.{PartOpened}
 use Rattle.fed_laws.proofs.Fed as fed
 use Rattle.fed_laws.proofs.Gifts.{plans_long}
 
--- an answer with a want of memory is a refusal
-never_unrefused : (connections : Result LifeEnd ServeFault) → IsUnrefused (answer_of connections (Some faults.Memory)) → ⊥
-never_unrefused (Ok lives.Finished) u = absurd (false≢true u)
-never_unrefused (Ok lives.Stopped) u = absurd (false≢true u)
-never_unrefused (Err faults.Output) u = absurd (false≢true u)
-never_unrefused (Err faults.Journal) u = absurd (false≢true u)
-never_unrefused (Err (faults.Changed at)) u = absurd (false≢true u)
-never_unrefused (Err faults.Dial) u = absurd (false≢true u)
-never_unrefused (Err (faults.Unfinished phase)) u = absurd (false≢true u)
-never_unrefused (Err (faults.Rejected template code)) u = absurd (false≢true u)
-never_unrefused (Err (faults.Full entries bytes)) u = absurd (false≢true u)
-never_unrefused (Err faults.Turns) u = absurd (false≢true u)
-never_unrefused (Err faults.Memory) u = absurd (false≢true u)
+-- a refusal of a sender is one to which the connections yield, and yields to none
+firm : (x : ServeFault) → IsOfSender x → yields x ≡ false
+firm faults.Output h = absurd h
+firm faults.Journal h = refl
+firm (faults.Changed at) h = absurd h
+firm faults.Dial h = absurd h
+firm (faults.Unfinished phase) h = absurd h
+firm (faults.Rejected template code) h = absurd h
+firm (faults.Full entries bytes) h = refl
+firm faults.Turns h = absurd h
+firm faults.Memory h = refl
 
--- it is none, or that
-memory_at_most : (end : FeedEnd) (refused : Option ServeFault) → (fed_refusal end refused ≡ None) ⊎ (fed_refusal end refused ≡ Some faults.Memory)
-memory_at_most ends.Ended None = inl refl
-memory_at_most ends.Ended (Some fault) = inr refl
-memory_at_most ends.Closed refused = inl refl
-memory_at_most ends.Stopped refused = inr refl
-memory_at_most ends.Input refused = inr refl
-memory_at_most ends.Accepted refused = inr refl
-memory_at_most ends.Journal refused = inr refl
-memory_at_most (ends.Full entries bytes) refused = inr refl
-memory_at_most ends.Memory refused = inr refl
+-- what a refusal of a feeding is
+of_sender : (end : FeedEnd) (mark : Option ServeFault) → ((x : ServeFault) → mark ≡ Some x → IsOfSender x) → (x : ServeFault) → fed_refusal end mark ≡ Some x → IsOfSender x
+of_sender ends.Ended mark of_mark x e = of_mark x e
+of_sender ends.Closed mark of_mark x e = cc e
+of_sender ends.Stopped mark of_mark x e = let same : faults.Memory ≡ x = cc e in subst IsOfSender same tt
+of_sender ends.Input mark of_mark x e = let same : faults.Memory ≡ x = cc e in subst IsOfSender same tt
+of_sender ends.Accepted mark of_mark x e = let same : faults.Memory ≡ x = cc e in subst IsOfSender same tt
+of_sender ends.Journal mark of_mark x e = let same : faults.Journal ≡ x = cc e in subst IsOfSender same tt
+of_sender (ends.Full entries bytes) mark of_mark x e = let same : faults.Full entries bytes ≡ x = cc e in subst IsOfSender same tt
+of_sender ends.Memory mark of_mark x e = let same : faults.Memory ≡ x = cc e in subst IsOfSender same tt
+
+-- a journal is to blame where the feeding ended so, or the mark was refused so
+by_journal : (end : FeedEnd) (mark : Option ServeFault) → fed_refusal end mark ≡ Some faults.Journal → (end ≡ ends.Journal) ⊎ (mark ≡ Some faults.Journal)
+by_journal ends.Ended mark e = inr e
+by_journal ends.Closed mark e = cc e
+by_journal ends.Stopped mark e = cc e
+by_journal ends.Input mark e = cc e
+by_journal ends.Accepted mark e = cc e
+by_journal ends.Journal mark e = inl refl
+by_journal (ends.Full entries bytes) mark e = cc e
+by_journal ends.Memory mark e = cc e
+
+-- and so is a limit
+by_limit : (end : FeedEnd) (mark : Option ServeFault) (entries bytes : ℕ) → fed_refusal end mark ≡ Some (faults.Full entries bytes) → (end ≡ ends.Full entries bytes) ⊎ (mark ≡ Some (faults.Full entries bytes))
+by_limit ends.Ended mark entries bytes e = inr e
+by_limit ends.Closed mark entries bytes e = cc e
+by_limit ends.Stopped mark entries bytes e = cc e
+by_limit ends.Input mark entries bytes e = cc e
+by_limit ends.Accepted mark entries bytes e = cc e
+by_limit ends.Journal mark entries bytes e = cc e
+by_limit (ends.Full x y) mark entries bytes e =
+    let first : x ≡ entries = cc e in
+    let second : y ≡ bytes = cc e in
+    inl (ap (λ (k : ℕ). ends.Full k y) first ∙ ap (λ (k : ℕ). ends.Full entries k) second)
+by_limit ends.Memory mark entries bytes e = cc e
 
 -- which feedings are none of the refusals
 unrefused_ends : (end : FeedEnd) (refused : Option ServeFault) → fed_refusal end refused ≡ None → (end ≡ ends.Closed) ⊎ ((end ≡ ends.Ended) × (refused ≡ None))
@@ -89,10 +112,9 @@ unrefused_ends ends.Journal refused e = cc e
 unrefused_ends (ends.Full entries bytes) refused e = cc e
 unrefused_ends ends.Memory refused e = cc e
 
-of_sender : (r : Option ServeFault) → (r ≡ None) ⊎ (r ≡ Some faults.Memory) → IfSome r IsOfSender
-of_sender None h = tt
-of_sender (Some fault) (inl e) = cc e
-of_sender (Some fault) (inr e) = let same : faults.Memory ≡ fault = cc e in subst IsOfSender same tt
+where_some : (r : Option ServeFault) → ((x : ServeFault) → r ≡ Some x → IsOfSender x) → IfSome r IsOfSender
+where_some None h = tt
+where_some (Some x) h = h x refl
 
 module _ {J : Type 0} {G : Ghosts J} (gate : Gate J G) (a : Account) (seated counted after : List (Sender J G)) (fresh : (i : ℕ) (d : Sender J G) → i < length seated → IsNew a (suc i) (known (slice_index_or seated i d).pass)) (count : CountedEach gate seated counted)
     (start last : Point) (start_is : start.parts ≡ parts_of counted) (last_is : parts_of after ≡ last.parts) (few : length counted ≤ 16) (long : length after ≡ length counted)
@@ -165,15 +187,79 @@ module _ {J : Type 0} {G : Ghosts J} (gate : Gate J G) (a : Account) (seated cou
   closed_shown : end ≡ ends.Closed → OneShows from.parts b.fed.parts (λ p q. SeesMark q)
   closed_shown e = subst (λ (x : FeedEnd). IsShown x from.parts b.fed.parts) e b.from.feeding.answered.shown
 
-  -- the passes are the last ones where INPUT did not come to its end
-  unmarked_same : end ≡ ends.Closed → last.parts ≡ b.fed.parts
-  unmarked_same e = ⊎_elim (λ h. absurd (cc (sym e ∙ h.0))) (λ h. h.0) b.marked
+  -- the passes are the last ones where no mark was asked for
+  unmarked_same : (end ≡ ends.Ended → ⊥) → last.parts ≡ b.fed.parts
+  unmarked_same unended = ⊎_elim (λ h. absurd (unended h.0)) (λ h. h.0) b.marked
+
+  -- the mark is refused for a journal or for want of memory
+  mark_few : (x : ServeFault) → mark ≡ Some x → (x ≡ faults.Journal) ⊎ (x ≡ faults.Memory)
+  mark_few x e = ⊎_elim (λ h. h.2.first.few x e) (λ h. absurd (none-some x (sym h.1 ∙ e))) b.marked
+
+  mark_of_sender : (x : ServeFault) → mark ≡ Some x → IsOfSender x
+  mark_of_sender x e = ⊎_elim (λ k. subst IsOfSender (sym k) tt) (λ k. subst IsOfSender (sym k) tt) (mark_few x e)
+
+  -- and only where those who send said that they are done
+  pub marking : IfSome mark (λ x. (is_done end ≡ true) × IsOfSender x)
+  marking = by_mark mark refl
+    where
+      by_mark : (r : Option ServeFault) → mark ≡ r → IfSome r (λ x. (is_done end ≡ true) × IsOfSender x)
+      by_mark None e = tt
+      by_mark (Some x) e = (⊎_elim (λ h. ap is_done h.0) (λ h. absurd (none-some x (sym h.1 ∙ e))) b.marked, mark_of_sender x e)
+
+  -- a failure that a pass shows since it was counted, or since the opening
+  fed_opening : (s : ℕ) → In (length from.parts) s → (part_at b.fed.parts s).opening ≡ a
+  fed_opening s h = (b.from.feeding.answered.fed.each s h).goes_on.opening ∙ (opened_from s h).opening
+
+  since : (s : ℕ) → In (length from.parts) s → HasFailed (part_at from.parts s).faults (part_at b.fed.parts s).faults ⊎ HasFailed (part_at b.fed.parts s).opening.faults (part_at b.fed.parts s).faults
+      → SeesFailure (part_at b.fed.parts s)
+  since s h (inl f) = subst (λ (x : Account). HasFailed x.faults (part_at b.fed.parts s).faults) (sym (fed_opening s h))
+      (failed_before a.faults (part_at from.parts s).faults (part_at b.fed.parts s).faults (opened_from s h).faults f)
+  since s h (inr f) = f
+
+  -- the pass of a sender, as it was fed and where no mark was asked for
+  fed_part : (P : Part → Type 0) → (end ≡ ends.Ended → ⊥) → (s : ℕ) → In (length from.parts) s → P (part_at b.fed.parts s) → (i : ℕ) × (d : Sender J G) × (i < length after) × P (known (slice_index_or after i d).pass)
+  fed_part P unended s h p = some_part P s (subst (λ (k : ℕ). In k s) many h) (subst (λ (ps : List Part). P (part_at ps s)) (sym (unmarked_same unended)) p)
+
+  -- a journal failed as lines were fed
+  failed_here : end ≡ ends.Journal → (i : ℕ) × (d : Sender J G) × (i < length after) × SeesFailure (known (slice_index_or after i d).pass)
+  failed_here e =
+      let o = subst (λ (x : FeedEnd). IsShown x from.parts b.fed.parts) e b.from.feeding.answered.shown in
+      fed_part SeesFailure (λ x. cc (sym e ∙ x)) o.sender o.there (since o.sender o.there o.shows)
+
+  -- or as the mark was added
+  failed_marking : mark ≡ Some faults.Journal → (i : ℕ) × (d : Sender J G) × (i < length after) × SeesFailure (known (slice_index_or after i d).pass)
+  failed_marking e = ⊎_elim
+      (λ h.
+      let some : 0 < length counted = omega (arith, h.1, fed_long) in
+      let inside : In (length from.parts) 1 = record { from_one = omega arith; up_to = omega (arith, some, many) } in
+      some_part SeesFailure 1 (record { from_one = omega arith; up_to = omega (arith, some) }) (by_finish inside h.2))
+      (λ h. absurd (none-some faults.Journal (sym h.1 ∙ e)))
+      b.marked
+    where
+      by_finish : In (length from.parts) 1 → FinishedBy b.fed.parts last.parts mark → SeesFailure (part_at last.parts 1)
+      by_finish inside f = ⊎_elim
+          (λ x. subst (λ (y : Account). HasFailed y.faults (part_at last.parts 1).faults) (sym (f.first.turn.opening ∙ fed_opening 1 inside))
+          (failed_before a.faults (part_at b.fed.parts 1).faults (part_at last.parts 1).faults
+          (let least = (opened_from 1 inside).faults in omega (arith, least, (b.from.feeding.answered.fed.each 1 inside).goes_on.faults)) x))
+          (λ x. x)
+          (f.first.journal e)
+
+  -- the next message of a plan was refused at a limit
+  full_here : (entries bytes : ℕ) → end ≡ ends.Full entries bytes → (i : ℕ) × (d : Sender J G) × (i < length after) × MetFull plans entries bytes (known (slice_index_or after i d).pass)
+  full_here entries bytes e =
+      let o = b.from.feeding.answered.full entries bytes e in
+      fed_part (MetFull plans entries bytes) (λ x. cc (sym e ∙ x)) o.sender o.there (met o.sender o.there o.fills)
+    where
+      met : (s : ℕ) → In (length from.parts) s → FillsLines (length from.parts) entries bytes (part_at b.fed.parts s) (drop (length b.from.feeding.answered.last.before) b.from.feeding.answered.first)
+          → MetFull plans entries bytes (part_at b.fed.parts s)
+      met zero h l = absurd (omega (arith, h.from_one))
+      met (suc k) h l = fed.fills_at a from b.fed lines end few_from opened_from b.from.feeding.answered entries bytes k (omega (arith, h.up_to)) l
 
   sees_mark : fed_refusal end mark ≡ None → 0 < length counted → (i : ℕ) × (d : Sender J G) × (i < length after) × SeesMark (known (slice_index_or after i d).pass)
   sees_mark none some = ⊎_elim
       (λ e.
       let o = closed_shown e in
-      some_part SeesMark o.sender (subst (λ (k : ℕ). In k o.sender) many o.there) (subst (λ (ps : List Part). SeesMark (part_at ps o.sender)) (sym (unmarked_same e)) o.shows))
+      some_part SeesMark o.sender (subst (λ (k : ℕ). In k o.sender) many o.there) (subst (λ (ps : List Part). SeesMark (part_at ps o.sender)) (sym (unmarked_same (λ x. cc (sym e ∙ x)))) o.shows))
       (λ h. ⊎_elim
       (λ m. some_part SeesMark 1 (record { from_one = omega arith; up_to = omega (arith, some) }) (m.2.first.marked h.1))
       (λ m. let zero_long : length b.fed.parts ≡ 0 = m.2 h.0 in absurd (omega (arith, zero_long, fed_long, some)))
@@ -195,13 +281,6 @@ module _ {J : Type 0} {G : Ghosts J} (gate : Gate J G) (a : Account) (seated cou
     life = subst (λ (p : Part). ServedOver G.tells over.links over.before over.behind (life_at dialed out a.history box) (life_at later now_out p.seen since) m connections) (sym last_at)
         (subst (λ (h : History). ServedOver G.tells over.links over.before over.behind (life_at dialed out h box) (life_at later now_out now.seen since) m connections) (ap (λ (p : Part). p.seen) was.1) served)
 
-    -- an answer that is neither want of memory nor done is that of the connections
-    of_connections : (x : ServeFault) → (x ≡ faults.Memory → ⊥) → answer_of connections refused ≡ Err x → connections ≡ Err x
-    of_connections x other e = ⊎_elim
-        (λ c. c)
-        (λ r. absurd (⊎_elim (λ none. none-some x (sym none ∙ r)) (λ memory. other (let same : faults.Memory ≡ x = cc (sym memory ∙ r) in sym same)) (memory_at_most end mark)))
-        (answer_blames connections refused x other e)
-
     blamed_for : (x : ServeFault) → connections ≡ Err x → IsBlamed G.tells (faults_at out_faults dial_faults first box) (faults_at now_out_faults now_dial_faults now since) x
     blamed_for x c = blamed_at (IsBlamed G.tells (faults_at out_faults dial_faults first box) (faults_at now_out_faults now_dial_faults now since)) connections x blamed c
 
@@ -210,23 +289,38 @@ module _ {J : Type 0} {G : Ghosts J} (gate : Gate J G) (a : Account) (seated cou
     by_blame (inr (inl broken)) = inl (inr broken)
     by_blame (inr (inr failed)) = inr (back.last_failed gate a plans after old new pass first now seats theirs there was looks now_is only made failed)
 
+    sender_so : (P : Part → Type 0) → ((i : ℕ) × (d : Sender J G) × (i < length after) × P (known (slice_index_or after i d).pass)) → SomePass (length plans + 1) P (known_at new)
+    sender_so P k = back.some_sender gate a plans after old new pass first now seats theirs there was looks now_is only made P k.0 k.1 k.2 k.3
+
+    journal_at : answer_of connections refused ≡ Err faults.Journal → BlamesInbox box since ⊎ SomePass (length plans + 1) SeesFailure (known_at new)
+    journal_at e = ⊎_elim
+        (λ c. by_blame ((blamed_for faults.Journal c).journal refl))
+        (λ r. inr (sender_so SeesFailure (⊎_elim failed_here failed_marking (by_journal end mark r))))
+        (answer_blames connections refused faults.Journal (λ x. cc x) e)
+
     full_at : (entries bytes : ℕ) → answer_of connections refused ≡ Err (faults.Full entries bytes) → FillsInbox since (wanted_of_all (option_to_list life.life.given_up)) entries bytes
         ⊎ SomePass (length plans + 1) (MetFull plans entries bytes) (known_at new)
-    full_at entries bytes e =
-        let c = of_connections (faults.Full entries bytes) (λ x. cc x) e in
+    full_at entries bytes e = ⊎_elim
+        (λ c.
         let f = (blamed_for (faults.Full entries bytes) c).full entries bytes refl in
-        inl (record { entries_are = f.0; bytes_are = f.1; past = life.life.past entries bytes c })
+        inl (record { entries_are = f.0; bytes_are = f.1; past = life.life.past entries bytes c }))
+        (λ r. inr (sender_so (MetFull plans entries bytes) (⊎_elim (full_here entries bytes) (λ m. absurd (⊎_elim (λ x. cc x) (λ x. cc x) (mark_few (faults.Full entries bytes) m))) (by_limit end mark entries bytes r))))
+        (answer_blames connections refused (faults.Full entries bytes) (λ x. cc x) e)
 
     changed_at : (at : ℕ) → answer_of connections refused ≡ Err (faults.Changed at) → (at < length (known_at new (length plans + 1)).seen.made) × (G.tells → ⊥)
-    changed_at at e =
-        let f = (blamed_for (faults.Changed at) (of_connections (faults.Changed at) (λ x. cc x) e)).changed at refl in
-        (subst (λ (p : Part). at < length p.seen.made) (sym last_at) f.0, f.1)
+    changed_at at e = ⊎_elim
+        (λ c.
+        let f = (blamed_for (faults.Changed at) c).changed at refl in
+        (subst (λ (p : Part). at < length p.seen.made) (sym last_at) f.0, f.1))
+        (λ r. absurd (of_sender end mark mark_of_sender (faults.Changed at) r))
+        (answer_blames connections refused (faults.Changed at) (λ x. cc x) e)
 
     marked_pass : IsUnrefused (answer_of connections refused) → 0 < length plans → SomePass (length plans + 1) SeesMark (known_at new)
-    marked_pass u some = ⊎_elim
-        (λ none. let k = sees_mark none (omega (arith, some, plans_many)) in back.some_sender gate a plans after old new pass first now seats theirs there was looks now_is only made SeesMark k.0 k.1 k.2 k.3)
-        (λ memory. absurd (never_unrefused connections (subst (λ (r : Option ServeFault). IsUnrefused (answer_of connections r)) memory u)))
-        (memory_at_most end mark)
+    marked_pass u some = by_refusal refused refl
+      where
+        by_refusal : (r : Option ServeFault) → refused ≡ r → SomePass (length plans + 1) SeesMark (known_at new)
+        by_refusal None none = sender_so SeesMark (sees_mark none (omega (arith, some, plans_many)))
+        by_refusal (Some x) is = absurd (unanswered connections x (firm x (of_sender end mark mark_of_sender x is)) (subst (λ (r : Option ServeFault). IsUnrefused (answer_of connections r)) is u))
 
     pub served_fed : ServedAt (clocked G.tells over.links over.before over.behind) a plans (known_at new) (beside dialed out box) (beside later now_out since) m (answer_of connections refused)
     served_fed = record {
@@ -236,9 +330,9 @@ module _ {J : Type 0} {G : Ghosts J} (gate : Gate J G) (a : Account) (seated cou
       life = life;
       limits = limits;
       answer = refl;
-      refusal = of_sender refused (memory_at_most end mark);
+      refusal = where_some refused (λ x is. of_sender end mark mark_of_sender x is);
       marked = marked_pass;
-      journal = λ e. by_blame ((blamed_for faults.Journal (of_connections faults.Journal (λ x. cc x) e)).journal refl);
+      journal = journal_at;
       changed = changed_at;
       full = full_at;
     }

@@ -1,14 +1,18 @@
 -- What a feeding told, and what the closing history has of it.
-use Rattle.std.proofs.Common.{◌≡◌, ◌≢◌, ◌⊎◌, inl, inr, ⊎_elim, ℕ, zero, suc, ◌+◌, ◌-◌, ◌<◌, ◌≤◌, ◌++◌, List, [], ◌∷◌, length, map, take, slice_get, slice_index_or, refl, sym, ap, subst, ◌∙◌, arith, add-one, append-nil, length-append}
+use Rattle.std.proofs.Common.{◌≡◌, ◌≢◌, ◌⊎◌, inl, inr, ⊎_elim, Bool, true, false, true≢false, ℕ, zero, suc, ◌+◌, ◌-◌, ◌<◌, ◌≤◌, ◌++◌, List, [], ◌∷◌, length, map, take, slice_get, slice_index_or, refl, sym, ap, subst, ◌∙◌, arith, add-one, append-nil, length-append}
 use Rattle.std.specs.Prelude.{All, Option, Some, None}
+use Rattle.std.specs.List.{AllByRecursion}
 use Rattle.std.specs.Io.KnownBytes.{Appends}
 use Rattle.std.proofs.KnownBytes.{Appends-nil, Appends-trans}
 use Rattle.std.proofs.lemmas.List.Elements.{All-nil, All-cons, All-head, All-tail}
 use Rattle.gw_outside.specs.Faults.{TakesFront}
-use Rattle.session_model.specs.Journal.{Entry, BeginsHistory, entries_of, counts_from}
+use mathlib.Core.Logic.{dite}
+use native.Mathlib.Decide.{ℕ_discrete}
+use Rattle.session_model.specs.Journal.{Entry, History, OutboxRecord, BeginsHistory, entries_of, counts_from}
 use Rattle.session_model.proofs.Lists.{prefix_get}
 use Rattle.text_words.specs.Lines.{lines_in}
 use Rattle.jr_dated.specs.declared.journal.Journal.{Ghosts}
+use Rattle.jr_kept.specs.Entries.{entries_made}
 use Rattle.gate_turn.specs.Views.{Account, Part, new_part, nothing}
 use Rattle.gate_turn.specs.Rule.{In}
 use Rattle.gate_turn.specs.Places.{known}
@@ -33,8 +37,9 @@ use Rattle.life_laws.specs.Plans.{PlansMade}
 use Rattle.life_laws.proofs.Back as back
 use Rattle.life_laws.proofs.Back.{at_place}
 use Rattle.fed_laws.specs.Laws.{FedPasses}
-use Rattle.fed_laws.specs.Told.{StandsAt, counts_in, WasFed, FeedingIsTold}
+use Rattle.fed_laws.specs.Told.{StandsAt, counts_in, WasFed, is_done, IsMessage, MarksDone, FeedingIsTold}
 use Rattle.fed_laws.proofs.Parts.{PartOpened}
+use Rattle.fed_laws.proofs.Fed as feeding
 use Rattle.fed_laws.proofs.Served as served
 
 -- ---- what ACCEPTED took
@@ -230,6 +235,76 @@ module _ {J : Type 0} {G : Ghosts J} (gate : Gate J G) (a z : Account) (seated c
   pub fed_with : (w : WasFed (length counted) a.history.made z.history.made left left' start.taken last.taken end) × (w.first ≡ b.from.feeding.answered.first)
   unfolding was_fed
   fed_with = (was_fed, refl)
+
+  -- ---- the mark
+
+  -- where those who send did not say that they are done, none was asked for
+  unmarked_last : is_done end ≡ false → last.parts ≡ b.fed.parts
+  unmarked_last undone = ⊎_elim (λ h. absurd (true≢false (ap is_done (sym h.0) ∙ undone))) (λ h. h.0) b.marked
+
+  few : length b.from.counted.parts ≤ 16
+  few = served.few_from gate a seated counted after w.fresh w.count start last start_is last_is w.few w.long left left' end mark b
+
+  fed_at : is_done end ≡ false → (i : ℕ) → i < length counted → known_at new (suc i) ≡ part_at b.fed.parts (suc i)
+  fed_at undone i lt = part_is i lt ∙ ap (λ (ps : List Part). part_at ps (suc i)) (unmarked_last undone)
+
+  unended_at : is_done end ≡ false → (n : ℕ) → In (known_at new 1).made n → (known_at new n).ended ≡ false
+  unended_at undone zero h = absurd (omega (arith, h.from_one))
+  unended_at undone (suc i) h = dite (ℕ_discrete i (length counted))
+      (λ (e : i ≡ length counted).
+      let number : suc i ≡ length plans + 1 = omega (arith, e, plans_many) in
+      ap (λ (n : ℕ). (known_at new n).ended) number ∙ passes_made.unmarked)
+      (λ ne.
+      let lt : i < length counted = omega (arith, ne, h.up_to, passes_made.made, plans_many) in
+      ap (λ (p : Part). p.ended) (fed_at undone i lt)
+      ∙ feeding.unended_at a b.from.counted b.fed (lines_in b.from.feeding.read) end few opened b.from.feeding.answered i (omega (arith, lt, many)))
+
+  first_inside : In (known_at new 1).made 1
+  first_inside = record { from_one = omega arith; up_to = omega (arith, passes_made.made) }
+
+  begun : a.history.finished ≡ true → z.history.finished ≡ true
+  begun was =
+      let begins : BeginsHistory a.history z.history = subst (λ (x : Account). BeginsHistory x.history z.history) (closed.opened 1 first_inside) (closed.found 1 first_inside).begins in
+      ap (λ (h : History). h.finished) (sym (begins.alone was)) ∙ was
+
+  stood : is_done end ≡ false → z.history.finished ≡ a.history.finished
+  stood undone = either z.history.finished a.history.finished
+      (λ now. ⊎_elim (λ was. was) (λ m. absurd (true≢false (sym m.2 ∙ unended_at undone m.0 m.1))) (closed.marked now))
+      begun
+    where
+      either : (x y : Bool) → (x ≡ true → y ≡ true) → (y ≡ true → x ≡ true) → x ≡ y
+      either true y f g = sym (f refl)
+      either false true f g = g refl
+      either false false f g = refl
+
+  messages : (es : List Entry) → AllByRecursion IsMessage (entries_made es)
+  messages [] = tt
+  messages (e ∷ es) = (tt, messages es)
+
+  -- what a sender's pass lost is messages
+  lost_messages : is_done end ≡ false → (i : ℕ) → i < length counted → AllByRecursion IsMessage (known_at new (suc i)).lost
+  lost_messages undone i lt =
+      subst (λ (p : Part). AllByRecursion IsMessage p.lost) (sym (fed_at undone i lt))
+      (⊎_elim
+      (λ none. subst (λ (rs : List OutboxRecord). AllByRecursion IsMessage rs) (sym none) tt)
+      (λ l. subst (λ (rs : List OutboxRecord). AllByRecursion IsMessage rs) (sym l.0.is) (messages _))
+      (feeding.lost_at a b.from.counted b.fed (lines_in b.from.feeding.read) end few opened b.from.feeding.answered i (omega (arith, lt, many))))
+
+  lost_at : is_done end ≡ false → (n : ℕ) → In (known_at new 1).made n → AllByRecursion IsMessage (known_at new n).lost
+  lost_at undone zero h = absurd (omega (arith, h.from_one))
+  lost_at undone (suc i) h = ⊎_elim
+      (λ none. subst (λ (rs : List OutboxRecord). AllByRecursion IsMessage rs) (sym none) tt)
+      (λ l. lost_messages undone i (omega (arith, l.sender.up_to, plans_many)))
+      (passes_made.lost (suc i) (record { from_one = omega arith; up_to = omega (arith, h.up_to, passes_made.made) }))
+
+  unlost : is_done end ≡ false → AllByRecursion IsMessage z.refused
+  unlost undone = ⊎_elim
+      (λ none. subst (λ (rs : List OutboxRecord). AllByRecursion IsMessage rs) (sym none) tt)
+      (λ m. subst (λ (rs : List OutboxRecord). AllByRecursion IsMessage rs) m.2 (lost_at undone m.0 m.1))
+      closed.lost
+
+  pub marks_done : MarksDone (is_done end) a.history z.history z.refused
+  marks_done = record { stood = stood; unlost = unlost }
 
 -- the law
 pub feeding_is_told : {J : Type 0} {G : Ghosts J} (gate : Gate J G) → FeedingIsTold gate

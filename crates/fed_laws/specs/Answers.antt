@@ -5,19 +5,14 @@ use Rattle.conn_door.specs.declared.answer.ServeFault.TheVariants as faults
 use Rattle.conn_feed.specs.declared.end.FeedEnd.{FeedEnd}
 use Rattle.conn_feed.specs.declared.end.FeedEnd.TheVariants as ends
 
--- A refused mark, to them
-abbrev pub mark_refusal : Option ServeFault → Option ServeFault
-mark_refusal None = None
-mark_refusal (Some fault) = Some faults.Memory
-
--- Where INPUT came to its end and the mark was not refused, or where the outbox is closed, it is none of the refusals of a sender. Else nothing is to be
--- concluded of the mark, as where a sender wanted memory
+-- The refusal of a sender, or that of the mark, with which a feeding ended, if there was one; that the outbox is closed is none. Where INPUT or ACCEPTED
+-- failed, or the connections were over first, there was none, but nothing is to be concluded of the mark, as where a sender wanted memory
 abbrev pub fed_refusal : FeedEnd → Option ServeFault → Option ServeFault
-fed_refusal ends.Ended refused = mark_refusal refused
-fed_refusal ends.Closed refused = None
-fed_refusal ends.Stopped refused = Some faults.Memory
-fed_refusal ends.Input refused = Some faults.Memory
-fed_refusal ends.Accepted refused = Some faults.Memory
-fed_refusal ends.Journal refused = Some faults.Memory
-fed_refusal (ends.Full entries bytes) refused = Some faults.Memory
-fed_refusal ends.Memory refused = Some faults.Memory
+fed_refusal ends.Ended mark = mark
+fed_refusal ends.Closed mark = None
+fed_refusal ends.Stopped mark = Some faults.Memory
+fed_refusal ends.Input mark = Some faults.Memory
+fed_refusal ends.Accepted mark = Some faults.Memory
+fed_refusal ends.Journal mark = Some faults.Journal
+fed_refusal (ends.Full entries bytes) mark = Some (faults.Full entries bytes)
+fed_refusal ends.Memory mark = Some faults.Memory

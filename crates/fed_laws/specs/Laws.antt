@@ -62,8 +62,8 @@ module _ {J : Type 0} {G : Ghosts J} where
     pub give : GiveThese count lines gifts
     pub served : ServedAt over a (fed_plans count a.history.made gifts) (known_at new) (beside dialed out box) (beside later now_out since) m result
 
--- A life that was fed so, beside connections that ended so, is one whose senders submitted plans; where its lines did not come to their end it answers to
--- the laws on these as one that wanted memory
+-- A life that was fed so, beside connections that ended so, is one whose senders submitted plans, and answers to the laws on these with its refusal, where
+-- it met one (`fed_refusal`)
 abbrev pub FeedingIsByPlans : {J I L : Type 0} {G : Ghosts J} {K : Ghosts I} → LinkGhosts L → Gate J G → Inbox I K → Type 0
 FeedingIsByPlans {J} {I} {L} {G} {K} links gate box =
     (before behind : ℕ) (a : Account) (seated counted after : List (Sender J G)) (old new : Passes (Kept J G)) (pass : Pass (Kept J G)) (first now : Part)

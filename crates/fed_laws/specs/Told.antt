@@ -1,7 +1,8 @@
 -- What the feeding of a life told, and what the closing history has of it (this project's profile).
-use Rattle.std.specs.Prelude.{⊤, ◌≡◌, ℕ, ◌+◌, ◌-◌, ◌≤◌, All, List, [], ◌++◌, length, map, slice_get, Option, Some}
+use Rattle.std.specs.Prelude.{⊤, ◌≡◌, ℕ, ◌+◌, ◌-◌, ◌≤◌, Bool, true, false, All, List, [], ◌++◌, length, map, slice_get, Option, Some}
+use Rattle.std.specs.List.{AllByRecursion}
 use Rattle.std.specs.Io.KnownBytes.{Consumes, IsAtEnd}
-use Rattle.session_model.specs.Journal.{Entry, entries_of, counts_from}
+use Rattle.session_model.specs.Journal.{Entry, History, OutboxRecord, entry, finish, entries_of, counts_from}
 use Rattle.text_words.specs.Lines.{lines_in}
 use Rattle.jr_dated.specs.declared.journal.Journal.{Ghosts}
 use Rattle.gate_turn.specs.Views.{Account, Part}
@@ -47,6 +48,28 @@ pub record WasFed (count : ℕ) (opening closing : List Entry) (left left' taken
   pub stand : All (StandsAt closing) words
   pub told : IsTold end taken taken' (counts_text 1 (counts_in count opening) ++ words_text count 1 words)
   pub whole : end ≡ ends.Ended → (behind ≡ []) × IsAtEnd left'
+
+-- those who send said that they are done: nothing more is to come, and each line that they gave is answered
+abbrev pub is_done : FeedEnd → Bool
+is_done ends.Ended = true
+is_done ends.Closed = false
+is_done ends.Stopped = false
+is_done ends.Input = false
+is_done ends.Accepted = false
+is_done ends.Journal = false
+is_done (ends.Full entries bytes) = false
+is_done ends.Memory = false
+
+-- a record is a message, and not the mark
+abbrev pub IsMessage : OutboxRecord → Type 0
+IsMessage (entry e) = ⊤
+IsMessage finish = ⊥
+
+-- Unless those who send said that they are done, the mark stands behind a life only where it stood before, and is none of the records of which a stop may
+-- leave a beginning
+pub record MarksDone (done : Bool) (opening closing : History) (lost : List OutboxRecord) : Type 0 where
+  pub stood : done ≡ false → closing.finished ≡ opening.finished
+  pub unlost : done ≡ false → AllByRecursion IsMessage lost
 
 -- so it is of a feeding whose passes all came back, once the gate is closed
 abbrev pub FeedingIsTold : {J : Type 0} {G : Ghosts J} → Gate J G → Type 0

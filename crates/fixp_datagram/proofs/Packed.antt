@@ -1,6 +1,6 @@
 -- The bytes of payloads' frames, and of a datagram as it is packed.
 use Rattle.std.proofs.Common.{◌≡◌, ℕ, ◌+◌, ◌<◌, ◌≤◌, ◌^◌, Bool, if◌then◌else◌, List, [], ◌∷◌, ◌++◌, map, length, take, drop, unwrap_or, refl, sym, ap, subst, ◌∙◌, arith, append_assoc, append-nil, length-append, eq-eqb}
-use Rattle.std.specs.Int.{w16, w32, from_be_bytes, to_be_bytes}
+use Rattle.std.specs.Int.{w16, w32, w64, from_be_bytes, to_be_bytes, to_le_bytes}
 use Rattle.std.specs.List.{AllByRecursion}
 use Rattle.std.proofs.Math.Seq.{drop-append_seam, take-append_seam}
 use Rattle.std.proofs.lemmas.Nat.{from_be_bytes-to_be_bytes_2}
@@ -18,7 +18,8 @@ use Rattle.fixp_msgs.specs.Numbering.{payload_of}
 use Rattle.fixp_msgs.specs.Payload.{IsApplication}
 use Rattle.fixp_msgs.proofs.Sizes.{frame_bytes_least, frame_bytes_most}
 use Rattle.fixp_msgs.proofs.Written.{message_spells}
-use Rattle.fixp_datagram.specs.Datagrams.{IsApplicationFrame, IsSequenceFrame, SpellsDatagram}
+use Rattle.fixp_datagram.specs.Datagrams.{IsApplicationFrame, IsSequenceFrame, BeginsWithSequence, SpellsDatagram}
+use Rattle.fixp_datagram.specs.Opened.{sequence_head}
 use Rattle.fixp_datagram.specs.Packing.{frame_of, packed}
 
 length-encoding : (order : Order) → length (to_be_bytes w16 (encoding_of order)) ≡ 2
@@ -101,6 +102,20 @@ sequence_frame first legal =
       session = is_session m legal;
       sequence = message_spells m legal;
     }
+
+-- it is known by its head
+written_frame : (first : ℕ) → frame_bytes (sequence first) ≡ sequence_head ++ to_le_bytes w64 first
+written_frame first = refl
+
+pub begins_written : (bytes number behind : List ℕ) (first : ℕ) → bytes ≡ sequence_head ++ number ++ behind → to_le_bytes w64 first ≡ number → first < 2 ^ 64
+    → BeginsWithSequence bytes first behind
+begins_written bytes number behind first joins is small = record {
+  head = record { order = Little; message = message_bytes (sequence first) };
+  announces = sequence_frame first (record { fields = (small, tt); datum = tt });
+  joins = joins
+      ∙ (sym (append_assoc sequence_head number behind)
+      ∙ ap (λ front. front ++ behind) (ap (λ n. sequence_head ++ n) (sym is) ∙ (sym (written_frame first) ∙ sym (same_bytes (sequence first)))));
+}
 
 -- what is packed spells the datagram
 pub packed_spells : (first : ℕ) (ps : List (List ℕ)) → IsLegal (sequence first) → AllByRecursion IsApplication ps

@@ -1,12 +1,12 @@
 -- Reading a datagram frame by frame.
-use Rattle.std.proofs.Common.{◌≡◌, ◌==◌, ◌⊎◌, inl, inr, true, eqb-true, ℕ, ◌+◌, ◌≤◌, List, [], ◌∷◌, ◌++◌, map, length, take, drop, refl, sym, ap, subst, ◌∙◌, arith, append_assoc, length-append, Bor}
+use Rattle.std.proofs.Common.{◌≡◌, ◌==◌, ◌⊎◌, inl, inr, true, eqb-true, false, ℕ, ◌+◌, ◌≤◌, List, [], ◌∷◌, ◌++◌, map, length, take, drop, refl, sym, ap, subst, ◌∙◌, arith, append_assoc, length-append, Bor}
 use Rattle.std.specs.Int.{w16, w32, to_be_bytes}
 use Rattle.std.specs.List.{AllByRecursion}
 use Rattle.std.proofs.Math.Seq.{drop-append_seam, take-append_seam}
 use Rattle.sbe_prim.specs.declared.Order.{Order}
-use Rattle.sofh_frame.specs.Framing.{Frame, IsFrame, header_of, spelled, encoding_of, First, frame, first_of}
+use Rattle.sofh_frame.specs.Framing.{Frame, IsFrame, header_of, spelled, encoding_of, First, frame, first_of, length_in}
 use Rattle.sofh_frame.specs.Splits.{spelled_all, IsNoFrame, frames_of}
-use Rattle.sofh_frame.proofs.FramingLemmas.{frame-begins}
+use Rattle.sofh_frame.proofs.FramingLemmas.{frame-begins, length_in-header_of}
 use Rattle.sofh_frame.proofs.SplitLemmas.{length-spelled, spelled_all-push, AllByRecursion-push, frames_of-split, frames_of-none}
 use Rattle.sofh_frame.specs.FirstFrame.{seen}
 use Rattle.sofh_frame.specs.declared.header.FirstFrame.{FirstFrame}
@@ -42,27 +42,32 @@ payload_in f =
     let size = to_be_bytes w32 (6 + length f.message) in
     ap (drop 4) (append_assoc size (to_be_bytes w16 (encoding_of f.order)) f.message) ∙ drop-append_seam size (payload_of f)
 
--- the next message of application frames
+-- the next message of application frames, of which there is one: its frame has the size that it states
 pub record IsNext (bytes : List ℕ) (size : ℕ) : Type 0 where
+  pub some : 6 ≤ size
+  pub whole : size ≤ length bytes
   pub payloads : payloads_in bytes ≡ drop 4 (take size bytes) ∷ payloads_in (drop size bytes)
   pub behind : AreApplications (drop size bytes)
   pub application : IsApplication (drop 4 (take size bytes))
 
-pub next_in : (bytes : List ℕ) (order : Order) (message : List ℕ) (size : ℕ) → AreApplications bytes → first_of bytes ≡ frame order message size → IsNext bytes size
-next_in bytes order message size a e = by_frames a.frames a.each a.joins
+pub next_in : (bytes : List ℕ) → AreApplications bytes → (length bytes == 0) ≡ false → IsNext bytes (length_in bytes)
+next_in bytes a there = by_frames a.frames a.each a.joins
   where
-    by_frames : (fs : List Frame) → AllByRecursion IsApplicationFrame fs → bytes ≡ spelled_all fs ++ [] → IsNext bytes size
-    by_frames [] all joins = absurd (cc (sym e ∙ ap first_of joins))
+    by_frames : (fs : List Frame) → AllByRecursion IsApplicationFrame fs → bytes ≡ spelled_all fs ++ [] → IsNext bytes (length_in bytes)
+    by_frames [] all joins = absurd (cc (sym there ∙ ap (λ bs. length bs == 0) joins))
     by_frames (f ∷ fs) all joins =
+        let size = length_in bytes in
         let more = spelled_all fs ++ [] in
         let begins : bytes ≡ spelled f ++ more = joins ∙ append_assoc (spelled f) (spelled_all fs) [] in
-        let found : frame order message size ≡ frame f.order f.message (6 + length f.message) =
-        sym e ∙ (ap first_of begins ∙ frame-begins f more all.0.admissible) in
-        let size_is : size ≡ length (spelled f) = let s : size ≡ 6 + length f.message = cc found in s ∙ sym (length-spelled f) in
+        let states : size ≡ 6 + length f.message =
+        ap length_in (begins ∙ append_assoc (header_of f) f.message more) ∙ length_in-header_of f (f.message ++ more) all.0.admissible.most in
+        let size_is : size ≡ length (spelled f) = states ∙ sym (length-spelled f) in
         let front : take size bytes ≡ spelled f = ap (λ n. take n bytes) size_is ∙ (ap (take (length (spelled f))) begins ∙ take-append_seam (spelled f) more) in
         let back : drop size bytes ≡ more = ap (λ n. drop n bytes) size_is ∙ (ap (drop (length (spelled f))) begins ∙ drop-append_seam (spelled f) more) in
         let payload : drop 4 (take size bytes) ≡ payload_of f = ap (drop 4) front ∙ payload_in f in
         record {
+          some = omega (arith, states);
+          whole = omega (arith, size_is, ap length begins, length-append (spelled f) more);
           payloads = ap (λ gs. map payload_of gs) (payloads_found bytes (f ∷ fs) all joins)
               ∙ (ap (λ gs. payload_of f ∷ map payload_of gs) (sym (payloads_found (drop size bytes) fs all.1 back))
               ∙ ap (λ p. p ∷ payloads_in (drop size bytes)) (sym payload));
@@ -75,9 +80,10 @@ next_in bytes order message size a e = by_frames a.frames a.each a.joins
           };
         }
 
--- where no frame stands at the front there is no payload
-pub none_in : (bytes : List ℕ) → IsNoFrame (first_of bytes) → payloads_in bytes ≡ []
-none_in bytes none = ap (λ gs. map payload_of gs) (frames_of-none bytes none)
+-- where nothing stands there is no payload
+pub none_in : (bytes : List ℕ) → (length bytes == 0) ≡ true → payloads_in bytes ≡ []
+none_in [] nothing = ap (λ gs. map payload_of gs) (frames_of-none [] tt)
+none_in (b ∷ bytes) nothing = absurd (omega (arith, eqb-true (length (b ∷ bytes)) 0 nothing))
 
 -- what was read so far
 abbrev pub IsRead : List ℕ → List ℕ → Type 0

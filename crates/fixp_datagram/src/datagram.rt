@@ -1,14 +1,15 @@
 //! A datagram's bytes, taken apart: its first number, and the payloads of its messages.
 //! Nothing is copied: a payload is lent from the bytes.
 
-ghost use Rattle.std.specs.Prelude.{◌≡◌, ℕ, List, [], ◌∷◌, ◌++◌, ◌<◌, ◌≤◌, length, IfOk, IfErr, IfSome, IfNone, IsOkAnd, IsErrOf};
+ghost use Rattle.std.specs.Prelude.{◌≡◌, ℕ, List, [], ◌∷◌, ◌++◌, ◌<◌, ◌≤◌, ◌^◌, length, IfOk, IfErr, IfSome, IfNone, IsOkAnd, IsErrOf};
+ghost use Rattle.std.specs.Int.{w64, to_le_bytes};
 ghost use Rattle.fixp_msgs.specs.Payload.{IsApplication};
 ghost use Rattle.fixp_datagram.specs.declared.datagram.DgFault.TheVariants as faults;
 ghost use Rattle.fixp_datagram.specs.Datagrams.{Contents, most_bytes, IsApplicationFrame, BeginsWithSequence, BeginsWithApplications, SpellsDatagram};
 ghost use Rattle.fixp_datagram.specs.Faults.{HasCause};
-ghost use Rattle.fixp_datagram.specs.Opened.{BeginsWithApplication};
+ghost use Rattle.fixp_datagram.specs.Opened.{sequence_head, BeginsWithApplication};
 ghost use Rattle.fixp_datagram.specs.Answering.{Answers};
-ghost use Rattle.sofh_frame.specs.Framing.{Frame, spelled};
+ghost use Rattle.sofh_frame.specs.Framing.{Frame, length_in, spelled};
 ghost use Rattle.fixp_msgs.specs.declared.frames.FrameKind.TheVariants.{Session};
 ghost use Rattle.fixp_msgs.specs.Header.{kind_of};
 ghost use Rattle.fixp_msgs.specs.Message.{sequence, message_of};
@@ -23,6 +24,13 @@ pub const MOST_BYTES: usize = 65_000;
 
 /// The bytes of a frame's length, behind which its payload stands.
 pub(crate) const LENGTH_SIZE: usize = 4;
+
+/// The bytes of a Sequence's frame up to its number, as `fixp_msgs` writes it: the frame's length, the encoding type of
+/// little-endian SBE 1.0, and the message's header.
+const SEQUENCE_HEAD: [u8; 14] = [0, 0, 0, 22, 0xEB, 0x50, 8, 0, 7, 0, 0x11, 0xF0, 0, 0];
+
+/// The bytes of its number.
+const NUMBER_SIZE: usize = 8;
 
 /// Why bytes are no datagram.
 #[derive(Clone, Copy, Debug)]
@@ -91,14 +99,24 @@ impl<'a> Datagram<'a> {
         ensures same { IfNone result (self.new ≡ self.old) }
         ensures first { self.new.first ≡ self.old.first }
     {
-        let FirstFrame::Frame { size, .. } = sofh_frame::next(self.rest) else {
+        if self.rest.is_empty() {
             return None;
-        };
-        let (frame, behind) = self.rest.split_at(size);
+        }
+        // The frame was looked at when the datagram was opened.
+        let (frame, behind) = self.rest.split_at(stated_size(self.rest));
         self.rest = behind;
         let (_, payload) = frame.split_at(LENGTH_SIZE);
         Some(payload)
     }
+}
+
+/// The size that the frame at the front states, in bytes.
+#[tactic(auto, unfolding(sofh_frame::specs::Framing::length_in))]
+fn stated_size(bytes: &[u8]) -> usize
+    requires { 4 ≤ length bytes.now }
+    ensures { result ≡ length_in bytes.now }
+{
+    u32::from_be_bytes([bytes[0], bytes[1], bytes[2], bytes[3]]) as usize
 }
 
 /// What `open_datagram` answers, as one fact.
@@ -126,6 +144,47 @@ fn read_datagram<'a>(bytes: &'a [u8]) -> Result<Datagram<'a>, DgFault>
 
 /// The number of the Sequence at the front, and what stands behind its frame.
 fn sequence_at_front(bytes: &[u8]) -> Option<(u64, &[u8])>
+    ensures found { IfSome result (λ p. BeginsWithSequence bytes.now p.0 p.1.now) }
+    ensures none { IfNone result ((first : ℕ) (behind : List ℕ) → BeginsWithSequence bytes.now first behind → ⊥) }
+{
+    match written_sequence(bytes) {
+        Some(found) => Some(found),
+        None => any_sequence(bytes),
+    }
+}
+
+/// The same of a Sequence that is written as `pack` does it, which is told by its bytes at once.
+fn written_sequence(bytes: &[u8]) -> Option<(u64, &[u8])>
+    ensures found { IfSome result (λ p. BeginsWithSequence bytes.now p.0 p.1.now) }
+{
+    let rest = behind_head(bytes)?;
+    if rest.len() < NUMBER_SIZE {
+        return None;
+    }
+    let (number, behind) = rest.split_at(NUMBER_SIZE);
+    Some((number_of(number), behind))
+}
+
+/// What stands behind the head of a Sequence that is written so.
+fn behind_head(bytes: &[u8]) -> Option<&[u8]>
+    ensures found { IfSome result (λ rest. bytes.now ≡ sequence_head ++ rest.now) }
+{
+    bytes.strip_prefix(&SEQUENCE_HEAD)
+}
+
+/// The number in 8 bytes, the low one first.
+fn number_of(bytes: &[u8]) -> u64
+    requires { length bytes.now ≡ 8 }
+    ensures spelled { to_le_bytes w64 result ≡ bytes.now }
+    ensures small { result < 2 ^ 64 }
+{
+    u64::from_le_bytes([
+        bytes[0], bytes[1], bytes[2], bytes[3], bytes[4], bytes[5], bytes[6], bytes[7],
+    ])
+}
+
+/// The number of any Sequence at the front, and what stands behind its frame.
+fn any_sequence(bytes: &[u8]) -> Option<(u64, &[u8])>
     ensures found { IfSome result (λ p. BeginsWithSequence bytes.now p.0 p.1.now) }
     ensures none { IfNone result ((first : ℕ) (behind : List ℕ) → BeginsWithSequence bytes.now first behind → ⊥) }
 {

@@ -562,6 +562,13 @@ impl End {
         self.moment
     }
 
+    /// The interval of the peer, in milliseconds, as it told it in the handshake; 0 before that.
+    pub fn peer_interval(&self) -> u32
+        ensures { result ≡ self.now.facts.connection.peer_interval }
+    {
+        self.facts.connection.peer_interval
+    }
+
     /// The phase of the connection.
     pub fn phase(&self) -> Phase
         ensures { result ≡ phase_of self.now }

@@ -157,7 +157,7 @@ impl Link for MemLink<'_> {
 
     ghost faults = { λ l. 0 };
 
-    fn recv(&mut self, into: &mut [u8]) -> Result<Got, Failed> {
+    fn recv(&mut self, into: &mut [u8], _patience: u64) -> Result<Got, Failed> {
         let count = self.pipe.give(self.side, into);
         if count > 0 {
             return Ok(Got::Bytes(count));

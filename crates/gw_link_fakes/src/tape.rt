@@ -90,7 +90,7 @@ impl Link for MemTape {
 
     ghost faults = { λ t. t.tally.faults };
 
-    fn recv(&mut self, into: &mut [u8]) -> Result<Got, Failed>
+    fn recv(&mut self, into: &mut [u8], _patience: u64) -> Result<Got, Failed>
         requires { 0 < length into.old }
         ensures count { IfOk result (λ got. IsWithin got (length into.new)) }
         ensures moves { Moved (Some (told_of self.old)) (Some (told_of self.new)) (Some (carried_of self.old)) (Some (carried_of self.new)) (gave result into.new) [] }

@@ -11,6 +11,9 @@ use crate::send::send_front;
 use gw_outside::Failed;
 use std::sync::atomic::AtomicBool;
 
+/// How long an echo waits for bytes at once, in milliseconds.
+const PATIENCE: u64 = 10;
+
 /// How an echo ended.
 #[derive(Clone, Copy, Debug)]
 pub enum Echoed {
@@ -31,7 +34,7 @@ fn echo_once<L: Link>(link: &mut L, piece: &mut [u8]) -> Result<Echoed, Failed>
     ensures stays { L.place link.new ≡ L.place link.old }
     ensures cause { HasCause (L.faults link.old) (L.faults link.new) result }
 {
-    let Got::Bytes(count) = link.recv(piece)? else {
+    let Got::Bytes(count) = link.recv(piece, PATIENCE)? else {
         return Ok(Echoed::Idle);
     };
     let (came, _) = piece.split_at(count);

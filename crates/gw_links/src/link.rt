@@ -38,11 +38,12 @@ pub trait Link {
     ghost faults: { Self → ℕ };
 
     /// Gives the next bytes into the front of `into`, and how many. Nothing is claimed of what `into` has behind them, or
-    /// where no bytes came.
+    /// where no bytes came. Where nothing is there it may wait, for `patience` milliseconds at most. No clause speaks of that: how
+    /// long a receive waits is free.
     ///
     /// # Errors
     /// `Failed` where the link failed: nothing was given, and the link is not to be used again.
-    fn recv(&mut self, into: &mut [u8]) -> Result<Got, Failed>
+    fn recv(&mut self, into: &mut [u8], patience: u64) -> Result<Got, Failed>
         requires { 0 < length into.old }
         ensures count { IfOk result (λ got. IsWithin got (length into.new)) }
         ensures moves { Moved (told self.old) (told self.new) (carried self.old) (carried self.new) (gave result into.new) [] }

@@ -1,4 +1,4 @@
-//! A socket as a link. A receive waits for a short while where nothing is there, and a send takes what the socket takes.
+//! A socket as a link. A receive waits as long as it may where nothing is there, and a send takes what the socket takes.
 
 ghost use Rattle.std.specs.Prelude.{◌≡◌, ◌<◌, ◌≤◌, length, IfOk};
 ghost use Rattle.gw_outside.specs.Faults.{HasRisen};
@@ -14,9 +14,6 @@ use std::alloc::Global;
 use std::io::{self, ErrorKind, Read, Write};
 use std::net::{Net, SocketAddr};
 use std::time::Duration;
-
-/// How long a receive waits for bytes or a wake, in milliseconds.
-const WAIT: u64 = 10;
 
 /// How many events a wait tells at most: of the socket, and of the waker.
 const EVENTS: usize = 2;
@@ -117,8 +114,9 @@ impl SocketLink {
         self.peer
     }
 
-    /// Receives, and waits where nothing is there and nothing was sent since the last wait. Bytes end the wait, and so does a wake.
-    fn receive(&mut self, into: &mut [u8]) -> io::Result<Got>
+    /// Receives, and waits for so many milliseconds at most where nothing is there and nothing was sent since the last wait. Bytes end
+    /// the wait, and so does a wake.
+    fn receive(&mut self, into: &mut [u8], patience: u64) -> io::Result<Got>
         ensures count { IfOk result (λ got. IsWithin got (length into.new)) }
         ensures faults { self.new.faults ≡ self.old.faults }
     {
@@ -126,12 +124,15 @@ impl SocketLink {
             Got::Quiet => {}
             got => return Ok(got),
         }
+        if patience == 0 {
+            return Ok(Got::Quiet);
+        }
         if self.has_sent {
             self.has_sent = false;
             return Ok(Got::Quiet);
         }
         self.poll
-            .poll(&mut self.events, Some(Duration::from_millis(WAIT)))?;
+            .poll(&mut self.events, Some(Duration::from_millis(patience)))?;
         read_now(&mut self.stream, into)
     }
 
@@ -161,8 +162,8 @@ impl Link for SocketLink {
 
     ghost faults = { λ l. l.faults };
 
-    fn recv(&mut self, into: &mut [u8]) -> Result<Got, Failed> {
-        match self.receive(into) {
+    fn recv(&mut self, into: &mut [u8], patience: u64) -> Result<Got, Failed> {
+        match self.receive(into, patience) {
             Ok(got) => Ok(got),
             Err(error) => Err(self.failed(error)),
         }

@@ -69,8 +69,8 @@ impl<L: Link, E: Ear> Link for WatchedLink<'_, L, E> {
 
     ghost faults = { λ w. L.faults w.inner };
 
-    fn recv(&mut self, into: &mut [u8]) -> Result<Got, Failed> {
-        let got = self.inner.recv(into);
+    fn recv(&mut self, into: &mut [u8], patience: u64) -> Result<Got, Failed> {
+        let got = self.inner.recv(into, patience);
         if let Ok(Got::Bytes(count)) = got {
             let (came, _) = into.split_at(count);
             self.came.follow(came, self.ear);

@@ -1,12 +1,11 @@
 -- Connections that are linked in time are linked by what went over their links.
-use Rattle.std.proofs.Common.{◌≡◌, ℕ, List, [], ◌∷◌, ◌++◌, sym, ap, ◌∙◌, append-nil}
+use Rattle.std.proofs.Common.{◌≡◌, ℕ, List, [], ◌∷◌, ◌++◌, sym, ap, subst, ◌∙◌, append-nil}
 use Rattle.std.specs.List.{flat_map}
-use Rattle.sofh_frame.specs.Splits.{frames_of}
-use Rattle.sofh_frame.proofs.SplitLemmas.{frames_of-none}
 use Rattle.conn_turns.specs.Turns.{Turn}
-use Rattle.turn_laws.specs.Legs.{TurnedLeg, given_in, sent_in, given_on}
-use Rattle.two_ends.specs.Loops.{ReadsOf, LinkedLinks}
+use Rattle.turn_laws.specs.Legs.{TurnedLeg, given_in, sent_in}
+use Rattle.two_ends.specs.Loops.{ReadsOf, IsStrangeTo}
 use Rattle.two_ends.specs.Loops as links
+use Rattle.two_ends.proofs.Ends.{silent_is_strange}
 use Rattle.honest_turns.specs.Links.{Move, initiator_turns, acceptor_turns, of_initiator, of_acceptor, Passes, OverOneLink}
 use Rattle.honest_turns.specs.Lives.{no_more, initiator_alone, acceptor_alone, paired, TimeIsLinked}
 use Rattle.honest_turns.proofs.Linking.{sum_sent, sum_given}
@@ -47,11 +46,8 @@ initiator_reads i a l =
     let k = sums [] [] l.order l.passes in
     (k.under_home, ap (λ (ts : List Turn). flat_map given_in ts ++ k.under_home) (sym l.turns_i) ∙ (sym k.sum_home ∙ ap (λ (ts : List Turn). flat_map sent_in ts) l.turns_a))
 
-no_frames : (t : TurnedLeg) → given_on t ≡ [] → frames_of (given_on t) ≡ []
-no_frames t none = ap (λ (bs : List ℕ). frames_of bs) none ∙ frames_of-none [] tt
-
 pub time_is_linked : TimeIsLinked
-time_is_linked [] [] no_more = links.LinkedLinks.no_more
-time_is_linked (i ∷ is) as' (initiator_alone none rest) = links.LinkedLinks.left_alone (no_frames i none) (time_is_linked is as' rest)
-time_is_linked is (a ∷ as') (acceptor_alone none rest) = links.LinkedLinks.right_alone (no_frames a none) (time_is_linked is as' rest)
-time_is_linked (i ∷ is) (a ∷ as') (paired l rest) = links.LinkedLinks.paired (initiator_reads i a l) (acceptor_reads i a l) (time_is_linked is as' rest)
+time_is_linked I A [] [] no_more = links.LinkedLinks.no_more
+time_is_linked I A (i ∷ is) as' (initiator_alone none rest) = links.LinkedLinks.left_alone (subst (IsStrangeTo I) (sym none) (silent_is_strange I)) (time_is_linked I A is as' rest)
+time_is_linked I A is (a ∷ as') (acceptor_alone none rest) = links.LinkedLinks.right_alone (subst (IsStrangeTo A) (sym none) (silent_is_strange A)) (time_is_linked I A is as' rest)
+time_is_linked I A (i ∷ is) (a ∷ as') (paired l rest) = links.LinkedLinks.paired (initiator_reads i a l) (acceptor_reads i a l) (time_is_linked I A is as' rest)

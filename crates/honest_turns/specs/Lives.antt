@@ -3,6 +3,7 @@ use Rattle.std.specs.Prelude.{◌≡◌, List, [], ◌∷◌}
 use Rattle.std.specs.List.{AllByRecursion}
 use Rattle.session_model.specs.Journal.{History}
 use Rattle.session_model.specs.Inbox.{InboxRecord}
+use Rattle.fixp_shake.specs.declared.config.EndConfig.{EndConfig}
 use Rattle.fixp_machine.specs.Machine.{State}
 use Rattle.turn_laws.specs.Legs.{TurnedLeg, given_on}
 use Rattle.two_ends.specs.Loops.{LinkedLinks}
@@ -19,9 +20,9 @@ pub data InTime : List TurnedLeg → List TurnedLeg → Type 0 where
   paired : {i a : TurnedLeg} {is as' : List TurnedLeg} → OverOneLink i a → InTime is as' → InTime (i ∷ is) (a ∷ as')
 
 -- so they are linked, as the law on what two ends hold of each other asks: what a link gave one end are the first of the bytes that it took
--- of the other
+-- of the other, and who gave nothing is a stranger
 abbrev pub TimeIsLinked : Type 0
-TimeIsLinked = (is as' : List TurnedLeg) → InTime is as' → LinkedLinks is as'
+TimeIsLinked = (configs_i configs_a : List EndConfig) (is as' : List TurnedLeg) → InTime is as' → LinkedLinks configs_i configs_a is as'
 
 -- an end over its outbox, with its machine and its inbox
 pub record End : Type 0 where

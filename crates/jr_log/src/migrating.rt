@@ -50,6 +50,8 @@ fn prepare<D: Disk>(disk: &mut D, entries: u64, bytes: u64) -> Result<(), Migrat
     ensures full { (e b : ℕ) → result ≡ Err (migrate_fault.Full e b) → (e ≡ entries) × (b ≡ bytes) × (2 ^ 33 < bytes) × ForSome (D.told disk.old) IsFresh }
     ensures own { IfErr result IsOfNew }
     ensures remembers { IsErrOf result migrate_fault.Memory → ⊥ }
+    ensures used { ForSome (D.told disk.old) (λ content. IsUsed content → D.told disk.new ≡ D.told disk.old) }
+    ensures used_images { ForSome (D.told disk.old) (λ content. IsUsed content → (image : List ℕ) → D.may_leave disk.new image → D.may_leave disk.old image) }
     ensures same { OnUnwritten result (D.told disk.new ≡ D.told disk.old) }
     ensures same_images { OnUnwritten result ((image : List ℕ) → D.may_leave disk.new image → D.may_leave disk.old image) }
     ensures cause { IsErrOf result migrate_fault.NewFault → HasRisen (D.faults disk.old) (D.faults disk.new) }
@@ -112,7 +114,8 @@ fn write_whole<D: Disk>(alloc: Global, disk: &mut D, records: &[Record]) -> Resu
 /// # Errors
 /// In this order: `OldFault` where a call of the old disk failed; `NotFormatted` and `Damaged` as its content is none of format 1;
 /// `NewFault` where a call of the new disk failed; `NotFresh` exactly where the new disk has 16 bytes or more and its first is not 0;
-/// `Full` exactly where the journal would take more than 2^33 bytes; these two leave it as it was. `Memory` at any time.
+/// `Full` exactly where the journal would take more than 2^33 bytes; these two leave it as it was. `Memory` at any time. Whatever comes,
+/// a new disk that is in use is left as it was.
 pub fn migrate<A: Disk, B: Disk>(
     alloc: Global,
     old: &mut A,
@@ -129,6 +132,8 @@ pub fn migrate<A: Disk, B: Disk>(
     ensures stale { IsErrOf result migrate_fault.NotFresh → ForSome (B.told new.old) IsUsed }
     ensures full { (entries bytes : ℕ) → result ≡ Err (migrate_fault.Full entries bytes) → ForSome (B.told new.old) IsFresh
         × ForSome (A.told old.old) (IsPast entries bytes) }
+    ensures used { ForSome (B.told new.old) (λ content. IsUsed content → B.told new.new ≡ B.told new.old) }
+    ensures used_images { ForSome (B.told new.old) (λ content. IsUsed content → (image : List ℕ) → B.may_leave new.new image → B.may_leave new.old image) }
     ensures same { OnUnwritten result (B.told new.new ≡ B.told new.old) }
     ensures same_images { OnUnwritten result ((image : List ℕ) → B.may_leave new.new image → B.may_leave new.old image) }
     ensures old_cause { IsErrOf result migrate_fault.OldFault → HasRisen (A.faults old.old) (A.faults old.new) }
@@ -158,6 +163,8 @@ fn move_records<D: Disk>(alloc: Global, found: &Found, disk: &mut D) -> Result<(
     ensures full { (entries bytes : ℕ) → result ≡ Err (migrate_fault.Full entries bytes) → ForSome (D.told disk.old) IsFresh
         × (entries ≡ length found.now.records.items) × (bytes ≡ journal_size found.now.records.items) × (2 ^ 33 < bytes) }
     ensures own { IfErr result IsOfNew }
+    ensures used { ForSome (D.told disk.old) (λ content. IsUsed content → D.told disk.new ≡ D.told disk.old) }
+    ensures used_images { ForSome (D.told disk.old) (λ content. IsUsed content → (image : List ℕ) → D.may_leave disk.new image → D.may_leave disk.old image) }
     ensures same { OnUnwritten result (D.told disk.new ≡ D.told disk.old) }
     ensures same_images { OnUnwritten result ((image : List ℕ) → D.may_leave disk.new image → D.may_leave disk.old image) }
     ensures cause { IsErrOf result migrate_fault.NewFault → HasRisen (D.faults disk.old) (D.faults disk.new) }

@@ -15,8 +15,8 @@ use jr_record::FormatFault;
 /// disk is no journal.
 ///
 /// # Errors
-/// `Already` exactly where the disk begins with the magic of format 2 or of format 1: nothing is written. `Fault` where a
-/// call of the disk failed: its first 17 bytes may hold anything, and the rest is as before.
+/// `Already` exactly where the disk begins with the magic of format 2 or of format 1. `Fault` where a call of the disk failed: its
+/// first 17 bytes may hold anything, and the rest is as before. A disk that begins with a magic is never written.
 pub fn format<D: Disk>(disk: &mut D) -> Result<(), FormatFault>
     ensures ok { OnOk result ((image : List ℕ) → D.may_leave disk.new image → IsJournal image []) }
     ensures fresh { OnOk result (ForSome (D.told disk.old) (λ content. (take 8 content ≢ magic) × (take 8 content ≢ plain_magic))) }
@@ -24,6 +24,8 @@ pub fn format<D: Disk>(disk: &mut D) -> Result<(), FormatFault>
     ensures already_content { IsErrOf result Already → D.told disk.new ≡ D.told disk.old }
     ensures already_images { IsErrOf result Already → LeavesSame (D.may_leave disk.old) (D.may_leave disk.new) }
     ensures cause { IsErrOf result Fault → HasRisen (D.faults disk.old) (D.faults disk.new) }
+    ensures used { ForSome (D.told disk.old) (λ content. (take 8 content ≡ magic) ⊎ (take 8 content ≡ plain_magic) → D.told disk.new ≡ D.told disk.old) }
+    ensures used_images { ForSome (D.told disk.old) (λ content. (take 8 content ≡ magic) ⊎ (take 8 content ≡ plain_magic) → LeavesSame (D.may_leave disk.old) (D.may_leave disk.new)) }
     ensures images { Follows (Torn 0 17) (D.may_leave disk.old) (D.may_leave disk.new) }
     ensures quiet { OnOk result (D.faults disk.new ≡ D.faults disk.old) }
     ensures never_falls { D.faults disk.old ≤ D.faults disk.new }

@@ -71,6 +71,7 @@ impl<D: Disk> SegJournal<D> {
         ensures limits { IfOk result (λ j. limits_of j ≡ limits) }
         ensures not_broken { IfOk result (λ j. broken_of j ≡ false) }
         ensures content { IfOk result (λ j. D.told (disk_of j) ≡ D.told disk) }
+        ensures images { IfOk result (λ j. (image : List ℕ) → D.may_leave (disk_of j) image → D.may_leave disk image) }
         ensures quiet { IfOk result (λ j. D.faults (disk_of j) ≡ D.faults disk) }
         ensures refused { IfErr result (λ e. ForSome (D.told disk) (Refuses Two e.1)) }
         ensures cause { IfErr result (λ e. e.1 ≡ Fault → HasRisen (D.faults disk) (D.faults e.0)) }

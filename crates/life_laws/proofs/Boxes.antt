@@ -108,8 +108,8 @@ module _ {J : Type 0} {G : Ghosts J} {O : Type 0} {H : Ghosts O} {L : Type 0} (o
         (s.full entries bytes e);
   }
 
-  -- so it was from the history that the gate opened on to the one that it closed on, by these connections
+  -- so it was from the history that the gate opened on to the one that it closed on, by these connections, and what was lost is what the outbox refused
   pub lived_by : (l : LivedBoxes over config (submitting plans) (beside dialed out box) (beside later now_out since) outbox closed result)
-      × (l.opening ≡ (opening_of gate).history) × (l.closing ≡ k.history) × (l.connections ≡ s.connections) × (l.refused ≡ s.refused)
+      × (l.opening ≡ (opening_of gate).history) × (l.closing ≡ k.history) × (l.connections ≡ s.connections) × (l.refused ≡ s.refused) × (l.lost ≡ k.refused)
   unfolding lived_boxes
-  lived_by = (lived_boxes, refl, refl, refl, refl)
+  lived_by = (lived_boxes, refl, refl, refl, refl, refl)

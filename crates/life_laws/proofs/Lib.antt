@@ -16,3 +16,5 @@ pub mod Boxes
 pub mod BusinessPlans
 pub mod BusinessPasses
 pub mod BusinessBoxes
+pub mod Meeting
+pub mod Finishing

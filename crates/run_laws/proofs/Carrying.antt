@@ -5,12 +5,11 @@ use Rattle.std.specs.List.{AllZip, flat_map}
 use Rattle.std.proofs.lemmas.List.Elements.{All-head, All-tail}
 use Rattle.std.proofs.lemmas.Grind.{flat_map-append}
 use mathlib.Core.List.{IsPrefix}
-use Rattle.sofh_frame.specs.Splits.{frames_of}
 use Rattle.fixp_shake.specs.declared.config.EndConfig.{EndConfig}
 use Rattle.fixp_shake.specs.declared.config.Role.{Role}
 use Rattle.gw_links.specs.Links.{Carried}
 use Rattle.turn_laws.specs.Legs.{TurnedLeg, given_on, sent_on}
-use Rattle.two_ends.specs.Loops.{LinkedLinks}
+use Rattle.two_ends.specs.Loops.{IsStrangeTo, LinkedLinks}
 use Rattle.two_ends.specs.Loops as links
 use Rattle.jr_dated.specs.declared.journal.Journal.{Ghosts}
 use Rattle.cmd_base.specs.declared.status.Status.{Status}
@@ -31,7 +30,7 @@ use Rattle.cmd_feed.specs.Outsides.{FeedSees, session_of}
 use Rattle.cmd_feed.specs.Steps.{Steps as FedSteps}
 use Rattle.run_laws.specs.Several.{Run, Flows, brought_by, brought, RunsOver, IsRun, WasRun}
 use Rattle.run_laws.specs.FedLives.{fed_life}
-use Rattle.run_laws.specs.Linked.{GaveOf, GaveNoFrame, LinkedCarried, no_more, left_alone, right_alone, paired, CarriedOn}
+use Rattle.run_laws.specs.Linked.{GaveOf, GaveStrange, LinkedCarried, no_more, left_alone, right_alone, paired, CarriedOn}
 use Rattle.run_laws.proofs.Joined.{all_carried, brought_all, brought_none}
 use Rattle.run_laws.proofs.Ways.{Unlived, config_kept, boxes_kept, input_kept, unbegun_kept}
 use Rattle.run_laws.proofs.Fed.{over_before, by_fed_life}
@@ -124,24 +123,25 @@ module _ {S I K A D N C J : Type 0} (G : Ghosts J) (sees : FeedSees S I K A D N 
       (runs_brought later (sees.session.may_leave r.after.out_disk) (sees.session.may_leave r.after.in_disk) o.3))
 
 -- links whose turns are linked are linked by what they carried
-gave_none : (a : Option Carried) (t : TurnedLeg) → CarriedTold a t → frames_of (given_on t) ≡ [] → GaveNoFrame a
-gave_none None t k none = absurd (cc (k.1))
-gave_none (Some c) t k none = subst (λ (bs : List ℕ). frames_of bs ≡ []) (sym k.0.0) none
+gave_so : (configs : List EndConfig) (a : Option Carried) (t : TurnedLeg) → CarriedTold a t → IsStrangeTo configs (given_on t) → GaveStrange configs a
+gave_so configs None t k given = absurd (cc (k.1))
+gave_so configs (Some c) t k given = subst (IsStrangeTo configs) (sym k.0.0) given
 
 gave_of : (a b : Option Carried) (t u : TurnedLeg) → CarriedTold a t → CarriedTold b u → IsPrefix (given_on t) (sent_on u) → GaveOf a b
 gave_of None b t u x y from = absurd (cc (x.1))
 gave_of (Some c) None t u x y from = absurd (cc (y.1))
 gave_of (Some c) (Some d) t u x y from = subst (λ (bs : List ℕ). IsPrefix bs d.taken) (sym x.0.0) (subst (λ (bs : List ℕ). IsPrefix (given_on t) bs) (sym y.0.1) from)
 
-pub linked_are_carried : (as' bs : List (Option Carried)) (ts us : List TurnedLeg) → AllZip CarriedTold as' ts → AllZip CarriedTold bs us → LinkedLinks ts us → LinkedCarried as' bs
-linked_are_carried [] [] [] [] x y links.LinkedLinks.no_more = no_more
-linked_are_carried (a ∷ as') bs [] us x y l = absurd x
-linked_are_carried as' (b ∷ bs) ts [] x y l = absurd y
-linked_are_carried [] bs (t ∷ ts) us x y (links.LinkedLinks.left_alone none rest) = absurd x
-linked_are_carried (a ∷ as') bs (t ∷ ts) us x y (links.LinkedLinks.left_alone none rest) = left_alone (gave_none a t x.0 none) (linked_are_carried as' bs ts us x.1 y rest)
-linked_are_carried as' [] ts (u ∷ us) x y (links.LinkedLinks.right_alone none rest) = absurd y
-linked_are_carried as' (b ∷ bs) ts (u ∷ us) x y (links.LinkedLinks.right_alone none rest) = right_alone (gave_none b u y.0 none) (linked_are_carried as' bs ts us x y.1 rest)
-linked_are_carried [] bs (t ∷ ts) (u ∷ us) x y (links.LinkedLinks.paired f g rest) = absurd x
-linked_are_carried (a ∷ as') [] (t ∷ ts) (u ∷ us) x y (links.LinkedLinks.paired f g rest) = absurd y
-linked_are_carried (a ∷ as') (b ∷ bs) (t ∷ ts) (u ∷ us) x y (links.LinkedLinks.paired f g rest) =
-    paired (gave_of a b t u x.0 y.0 f) (gave_of b a u t y.0 x.0 g) (linked_are_carried as' bs ts us x.1 y.1 rest)
+pub linked_are_carried : (A B : List EndConfig) (as' bs : List (Option Carried)) (ts us : List TurnedLeg) → AllZip CarriedTold as' ts → AllZip CarriedTold bs us
+    → LinkedLinks A B ts us → LinkedCarried A B as' bs
+linked_are_carried A B [] [] [] [] x y links.LinkedLinks.no_more = no_more
+linked_are_carried A B (a ∷ as') bs [] us x y l = absurd x
+linked_are_carried A B as' (b ∷ bs) ts [] x y l = absurd y
+linked_are_carried A B [] bs (t ∷ ts) us x y (links.LinkedLinks.left_alone given rest) = absurd x
+linked_are_carried A B (a ∷ as') bs (t ∷ ts) us x y (links.LinkedLinks.left_alone given rest) = left_alone (gave_so A a t x.0 given) (linked_are_carried A B as' bs ts us x.1 y rest)
+linked_are_carried A B as' [] ts (u ∷ us) x y (links.LinkedLinks.right_alone given rest) = absurd y
+linked_are_carried A B as' (b ∷ bs) ts (u ∷ us) x y (links.LinkedLinks.right_alone given rest) = right_alone (gave_so B b u y.0 given) (linked_are_carried A B as' bs ts us x y.1 rest)
+linked_are_carried A B [] bs (t ∷ ts) (u ∷ us) x y (links.LinkedLinks.paired f g rest) = absurd x
+linked_are_carried A B (a ∷ as') [] (t ∷ ts) (u ∷ us) x y (links.LinkedLinks.paired f g rest) = absurd y
+linked_are_carried A B (a ∷ as') (b ∷ bs) (t ∷ ts) (u ∷ us) x y (links.LinkedLinks.paired f g rest) =
+    paired (gave_of a b t u x.0 y.0 f) (gave_of b a u t y.0 x.0 g) (linked_are_carried A B as' bs ts us x.1 y.1 rest)

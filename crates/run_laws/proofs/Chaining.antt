@@ -20,7 +20,8 @@ use Rattle.gw_links.specs.Links.{Carried}
 use Rattle.turn_laws.specs.Legs.{TurnedLeg}
 use Rattle.turn_laws.specs.MachineLives.{life_in}
 use Rattle.turn_laws.specs.LoopLives.{LoopLife, machine_life, legs_in, MayTurn}
-use Rattle.two_ends.specs.Loops.{lives_of}
+use Rattle.two_ends.specs.Loops.{IsStrangeTo, configs_of, lives_of}
+use Rattle.stranger_laws.specs.Opening.{IsStrange}
 use Rattle.jr_dated.specs.declared.journal.Journal.{Ghosts}
 use Rattle.jr_record.specs.declared.record.Record.{Record}
 use Rattle.cmd_session.specs.Journals.{IsJournal, Leaves}
@@ -53,9 +54,9 @@ use Rattle.run_laws.proofs.Merely.{image_left}
 use Rattle.run_laws.proofs.Ways.{Unlived}
 
 -- Lives that begin on such contents, and of which a stop may leave these records and this list. The outbox goes on from life to life, each keeps
--- it by what it has of each sender in the end; each may turn, where the first awaits no number past the greatest and one more; and their links
--- carried this
-pub record Comes (own peer : Flow) (outboxes inboxes : List ℕ → Type 0) (carried : List (Option Carried)) (o : List OutboxRecord) (i : List InboxRecord) : Type 0 where
+-- it by what it has of each sender in the end; each may turn, where the first awaits no number past the greatest and one more; their links
+-- carried this; and strange bytes are so to each of them
+pub record Comes (Strange : List ℕ → Type 0) (own peer : Flow) (outboxes inboxes : List ℕ → Type 0) (carried : List (Option Carried)) (o : List OutboxRecord) (i : List InboxRecord) : Type 0 where
   pub opened : List OutboxRecord
   pub waiting : List InboxRecord
   pub lives : List LoopLife
@@ -67,6 +68,7 @@ pub record Comes (own peer : Flow) (outboxes inboxes : List ℕ → Type 0) (car
   pub keeps : AllByRecursion (KeepsOutbox (plan_of o)) (lives_of lives)
   pub may_turn : next_number waiting ≤ 2 ^ 26 + 1 → AllByRecursion (MayTurn own peer) lives
   pub links : AllZip CarriedOn carried (flat_map legs_in lives)
+  pub strange : (given : List ℕ) → Strange given → IsStrangeTo (configs_of lives) given
 
 module _ {S K D N C : Type 0} (sees : Sees S K D N C) where
   -- what a disk tells as a run begins is one of the contents that there were
@@ -80,15 +82,15 @@ module _ {S K D N C : Type 0} (sees : Sees S K D N C) where
       let same : records ≡ k.records = image_of_none (λ (rs : List Record). rs ≡ k.records) k.records records refl (k.left (Some records) left) in
       subst (λ (rs : List Record). Leaves contents (Some rs)) (sym same) (told_was contents before k.records at k.held)
 
-module _ {S K D N C J : Type 0} (G : Ghosts J) (sees : Sees S K D N C) (own peer : Flow) (o : List OutboxRecord) (i : List InboxRecord) (payloads : AllByRecursion (λ (e : Entry). IsApplication e.payload) (entries o))
+module _ {S K D N C J : Type 0} (G : Ghosts J) (sees : Sees S K D N C) (Strange : List ℕ → Type 0) (own peer : Flow) (o : List OutboxRecord) (i : List InboxRecord) (payloads : AllByRecursion (λ (e : Entry). IsApplication e.payload) (entries o))
     (before after : SessionOutside S K D N C) (carried : List (Option Carried)) (outboxes inboxes : List ℕ → Type 0)
     (out_at : IsAt sees outboxes before.out_disk) (in_at : IsAt sees inboxes before.in_disk) (told : is_some (sees.carried before.dialer) ≡ true)
-    (later : Comes own peer (sees.may_leave after.out_disk) (sees.may_leave after.in_disk) carried o i) where
+    (later : Comes Strange own peer (sees.may_leave after.out_disk) (sees.may_leave after.in_disk) carried o i) where
   abbrev pub came : List (Option Carried)
   came = brought_by (sees.carried before.dialer) (sees.carried after.dialer)
 
   -- no life was lived
-  pub unlived : Unlived sees before after → Comes own peer outboxes inboxes (came ++ carried) o i
+  pub unlived : Unlived sees before after → Comes Strange own peer outboxes inboxes (came ++ carried) o i
   unlived kept = record {
     opened = later.opened;
     waiting = later.waiting;
@@ -102,10 +104,12 @@ module _ {S K D N C J : Type 0} (G : Ghosts J) (sees : Sees S K D N C) (own peer
     may_turn = later.may_turn;
     links = subst (λ (cs : List (Option Carried)). AllZip CarriedOn (cs ++ carried) (flat_map legs_in later.lives))
         (sym (brought_none (sees.carried before.dialer) (sees.carried after.dialer) (ap sees.carried kept.dialer_is))) later.links;
+    strange = later.strange;
   }
 
   module _ (t : G.tells) (config : EndConfig) (senders : Senders) (status : Status) (lived : HasLivedOver G sees config senders before after status)
-      (own_is : config.own_flow ≡ own) (peer_is : config.peer_flow ≡ peer) (session : length config.session ≡ 16) (keepalive : config.keepalive ≤ 60000) (credentials : length config.credentials ≤ 2048) where
+      (own_is : config.own_flow ≡ own) (peer_is : config.peer_flow ≡ peer) (session : length config.session ≡ 16) (keepalive : config.keepalive ≤ 60000) (credentials : length config.credentials ≤ 2048)
+      (strange : (given : List ℕ) → Strange given → IsStrange config given) where
     abbrev v : LivedOver sees config senders before after lived.old lived.new lived.result
     v = lived.over
 
@@ -220,7 +224,11 @@ module _ {S K D N C J : Type 0} (G : Ghosts J) (sees : Sees S K D N C) (own peer
         (subst (λ (ts : List TurnedLeg). AllZip CarriedOn (carried_by cs) ts) (sym (v.life t).legs)
         (all_carried v.opening v.served.life.behind v.seen machine v.served.life.mid v.served.life.ended v.served.life.given_up v.served.life.were v.served.life.gave_up))
 
-    pub lived_on : Comes own peer outboxes inboxes (came ++ carried) o i
+    -- its machine has this configuration
+    strange_to : (given : List ℕ) → Strange given → IsStrange life.state.config given
+    strange_to given k = subst (λ (s : State). IsStrange s.config given) (sym (v.life t).begins.0) (strange given k)
+
+    pub lived_on : Comes Strange own peer outboxes inboxes (came ++ carried) o i
     lived_on = record {
       opened = outbox_of v.opening;
       waiting = v.inbox;
@@ -233,4 +241,5 @@ module _ {S K D N C J : Type 0} (G : Ghosts J) (sees : Sees S K D N C) (own peer
       keeps = (keeps_its_outbox, later.keeps);
       may_turn = λ few. (may_turn_so few, later.may_turn (next_found few));
       links = zip_append came carried (legs_in life) (flat_map legs_in later.lives) links later.links;
+      strange = λ given k. (strange_to given k, later.strange given k);
     }

@@ -106,6 +106,7 @@ module _ {S I K A D N C J : Type 0} (G : Ghosts J) (sees : FeedSees S I K A D N 
     served = l.lived.over.served;
     answer = l.lived.over.answer;
     refusal = l.lived.over.refusal;
+    finished = l.lived.over.finished;
     begins = l.lived.over.begins;
     grows = l.lived.over.grows;
     lost = l.lived.over.lost;
@@ -137,7 +138,7 @@ module _ {S I K A D N C J : Type 0} (G : Ghosts J) (sees : FeedSees S I K A D N 
       (lived : (l : FedLife G sees role before after status) → P (Some l)) where
     module _ (c : Configuration) (spelled : IsConfigured role (sees.session.left before.config) c) where
       by_begun : (on : RunsOverBoxes G sees c.trade.senders (end_of role c.link) before after status) (begun : K)
-          (l : LivedNone sees (record before { in_disk = on.opened }) after status
+          (l : LivedNone sees (record before { in_disk = on.opened; out = begun }) after status
           ⊎ HasLivedFedOver G sees (end_of role c.link) c.trade.senders (record before { in_disk = on.opened; out = begun }) after status)
           → P (life_begun G sees role before after status c spelled on begun l)
       by_begun on begun (inl none) = unlived (left_kept c.trade.senders (end_of role c.link) on none.left none.dialer_is)

@@ -5,23 +5,23 @@ use Rattle.std.proofs.lemmas.Bool.{false≢true}
 use Rattle.std.specs.List.{AllZip}
 use Rattle.std.proofs.lemmas.List.{map-append}
 use mathlib.Core.List.{IsPrefix}
-use Rattle.sofh_frame.specs.Splits.{frames_of}
 use Rattle.session_model.specs.Journal.{History}
 use Rattle.session_model.proofs.Lists.{drop_length}
+use Rattle.fixp_shake.specs.declared.config.EndConfig.{EndConfig}
 use Rattle.fixp_machine.specs.Machine.{State}
 use Rattle.gw_links.specs.Links.{Carried}
 use Rattle.gw_links.specs.Dialers.{DialerTold}
 use Rattle.turn_laws.specs.Legs.{TurnedLeg, given_on, sent_on}
-use Rattle.two_ends.specs.Loops.{LinkedLinks}
+use Rattle.two_ends.specs.Loops.{IsStrangeTo, LinkedLinks}
 use Rattle.two_ends.specs.Loops
 use Rattle.conn_serve.specs.Connections.{Connection, turned, all_of, AllEnded}
 use Rattle.conn_serve.specs.Served.{AllCame, carried_by, WasGivenUp}
 use Rattle.run_laws.specs.Several.{brought_by}
-use Rattle.run_laws.specs.Linked.{GaveOf, GaveNoFrame, no_more, left_alone, right_alone, paired, CarriedOn, CarriedAreLinked}
+use Rattle.run_laws.specs.Linked.{GaveOf, GaveStrange, no_more, left_alone, right_alone, paired, CarriedOn, CarriedAreLinked}
 
-gave_no_frame : (a : Option Carried) (t : TurnedLeg) → CarriedOn a t → GaveNoFrame a → frames_of (given_on t) ≡ []
-gave_no_frame None t k none = absurd none
-gave_no_frame (Some c) t k none = subst (λ (bs : List ℕ). frames_of bs ≡ []) k.0 none
+gave : (configs : List EndConfig) (a : Option Carried) (t : TurnedLeg) → CarriedOn a t → GaveStrange configs a → IsStrangeTo configs (given_on t)
+gave configs None t k given = absurd given
+gave configs (Some c) t k given = subst (IsStrangeTo configs) k.0 given
 
 gave_of : (a b : Option Carried) (t u : TurnedLeg) → CarriedOn a t → CarriedOn b u → GaveOf a b → IsPrefix (given_on t) (sent_on u)
 gave_of None b t u x y from = absurd from
@@ -29,17 +29,17 @@ gave_of (Some c) None t u x y from = absurd from
 gave_of (Some c) (Some d) t u x y from = subst (λ (bs : List ℕ). IsPrefix bs (sent_on u)) x.0 (subst (λ (bs : List ℕ). IsPrefix c.given bs) y.1 from)
 
 pub carried_are_linked : CarriedAreLinked
-carried_are_linked [] [] [] [] x y no_more = Loops.LinkedLinks.no_more
-carried_are_linked [] [] (t ∷ ts) us x y no_more = absurd x
-carried_are_linked [] [] ts (u ∷ us) x y no_more = absurd y
-carried_are_linked (a ∷ as') bs [] us x y (left_alone none rest) = absurd x
-carried_are_linked (a ∷ as') bs (t ∷ ts) us x y (left_alone none rest) = Loops.LinkedLinks.left_alone (gave_no_frame a t x.0 none) (carried_are_linked as' bs ts us x.1 y rest)
-carried_are_linked as' (b ∷ bs) ts [] x y (right_alone none rest) = absurd y
-carried_are_linked as' (b ∷ bs) ts (u ∷ us) x y (right_alone none rest) = Loops.LinkedLinks.right_alone (gave_no_frame b u y.0 none) (carried_are_linked as' bs ts us x y.1 rest)
-carried_are_linked (a ∷ as') (b ∷ bs) [] us x y (paired f g rest) = absurd x
-carried_are_linked (a ∷ as') (b ∷ bs) (t ∷ ts) [] x y (paired f g rest) = absurd y
-carried_are_linked (a ∷ as') (b ∷ bs) (t ∷ ts) (u ∷ us) x y (paired f g rest) =
-    Loops.LinkedLinks.paired (gave_of a b t u x.0 y.0 f) (gave_of b a u t y.0 x.0 g) (carried_are_linked as' bs ts us x.1 y.1 rest)
+carried_are_linked A B [] [] [] [] x y no_more = Loops.LinkedLinks.no_more
+carried_are_linked A B [] [] (t ∷ ts) us x y no_more = absurd x
+carried_are_linked A B [] [] ts (u ∷ us) x y no_more = absurd y
+carried_are_linked A B (a ∷ as') bs [] us x y (left_alone given rest) = absurd x
+carried_are_linked A B (a ∷ as') bs (t ∷ ts) us x y (left_alone given rest) = Loops.LinkedLinks.left_alone (gave A a t x.0 given) (carried_are_linked A B as' bs ts us x.1 y rest)
+carried_are_linked A B as' (b ∷ bs) ts [] x y (right_alone given rest) = absurd y
+carried_are_linked A B as' (b ∷ bs) ts (u ∷ us) x y (right_alone given rest) = Loops.LinkedLinks.right_alone (gave B b u y.0 given) (carried_are_linked A B as' bs ts us x y.1 rest)
+carried_are_linked A B (a ∷ as') (b ∷ bs) [] us x y (paired f g rest) = absurd x
+carried_are_linked A B (a ∷ as') (b ∷ bs) (t ∷ ts) [] x y (paired f g rest) = absurd y
+carried_are_linked A B (a ∷ as') (b ∷ bs) (t ∷ ts) (u ∷ us) x y (paired f g rest) =
+    Loops.LinkedLinks.paired (gave_of a b t u x.0 y.0 f) (gave_of b a u t y.0 x.0 g) (carried_are_linked A B as' bs ts us x.1 y.1 rest)
 
 -- ---- what the links of a life carried
 

@@ -184,6 +184,7 @@ module _ {J : Type 0} {G : Ghosts J} (box : Inbox J G) (held : HoldsBox box [] [
     (order : InOrder h.made) (unmarked : h.finished ≡ false) (few : length h.made < 2 ^ 40)
     (j : IsJournal (journal_of h) (records_of_history h)) (before after : MemoryOutside) (out_is : before.out_disk ≡ settled h) (in_was : before.in_disk ≡ settled nothing) (in_is : after.in_disk ≡ settled nothing)
     (connections : Result LifeEnd ServeFault) (refused : Option ServeFault) (of_sender : IfSome refused IsOfSender) (result : Result (Unit {0}) ServeFault) (answer : result ≡ answer_of connections refused)
+    (unfinished : connections ≡ Ok ends.Finished → ⊥)
     (served : ServedOver G.tells memory.links (memory.last before.clock) (memory.last after.clock) (life_at (memory.carried before.dialer) (memory.taken before.out) h box) (life_at (memory.carried after.dialer) (memory.taken after.out) h box) (fresh config (opened_state h box) (2 ^ 26)) connections)
     (adds : adds_of (all_of served.life.ended served.life.given_up) ≡ []) (none : refused_of_all (option_to_list served.life.given_up) ≡ [])
     (out_left : ∥ LeavesImages (memory.may_leave after.out_disk) (records_of_history h) (map record_of lost) ∥₁)
@@ -239,6 +240,7 @@ module _ {J : Type 0} {G : Ghosts J} (box : Inbox J G) (held : HoldsBox box [] [
     served = served;
     answer = answer;
     refusal = of_sender;
+    finished = λ e. absurd (unfinished e);
     begins = begins_self h;
     grows = begins_self h;
     lost = lost;
@@ -317,7 +319,7 @@ module _ {J : Type 0} {G : Ghosts J} (box : Inbox J G) (held : HoldsBox box [] [
 
   abbrev first_lived : LivedOver memory (end_of role configured.link) (submitting first_plans) first.before first.after box box (Err faults.Journal)
   first_lived = quiet box held (end_of role configured.link) first_plans nothing (entry submitted ∷ []) loses_first (λ s. refl) refl (omega arith) journal_nothing first.before first.after refl refl refl
-      (Ok ends.Stopped) (Some faults.Journal) tt (Err faults.Journal) refl (record { life = none_served; links = tt; clock = omega arith }) refl refl ∣ torn_leaves ∣₁ (λ never. absurd (never (omega arith))) (λ unrefused some. absurd (true≢false (sym unrefused)))
+      (Ok ends.Stopped) (Some faults.Journal) tt (Err faults.Journal) refl (λ e. cc e) (record { life = none_served; links = tt; clock = omega arith }) refl refl ∣ torn_leaves ∣₁ (λ never. absurd (never (omega arith))) (λ unrefused some. absurd (true≢false (sym unrefused)))
       (λ e. inl (omega arith)) journal_not_changed journal_not_full
 
 -- no plan goes on from anything
@@ -368,7 +370,7 @@ module _ {J : Type 0} {G : Ghosts J} (box : Inbox J G) (held : HoldsBox box [] [
     second = cut_run text h carried
 
     abbrev second_lived : LivedOver memory (end_of role configured.link) (submitting []) second.before second.after box box (Err (faults.Unfinished Ended))
-    second_lived = quiet box held (end_of role configured.link) [] h [] (inl refl) order unmarked few j second.before second.after refl refl refl (Err (faults.Unfinished Ended)) None tt (Err (faults.Unfinished Ended)) refl
+    second_lived = quiet box held (end_of role configured.link) [] h [] (inl refl) order unmarked few j second.before second.after refl refl refl (Err (faults.Unfinished Ended)) None tt (Err (faults.Unfinished Ended)) refl (λ e. cc e)
         (record { life = cut_served ended phase timely faithful; links = (over, tt); clock = by_clock }) refl refl ∣ settled_leaves h j ∣₁ (λ never. refl) (λ unrefused some. absurd (omega (arith, some))) (λ e. absurd (cut_no_journal e)) cut_not_changed cut_not_full
 
 -- what is recorded as a life opens on an inbox without records
@@ -794,6 +796,7 @@ module _ {J : Type 0} {G : Ghosts J} (box : Inbox J G) (held : HoldsBox box [] [
     served = alike.served;
     answer = refl;
     refusal = tt;
+    finished = λ e. absurd (cc e);
     begins = begins_self nothing;
     grows = begins_self nothing;
     lost = [];

@@ -21,7 +21,7 @@ use Rattle.cmd_config.specs.declared.configuration.Link.{Link}
 use Rattle.cmd_session.specs.Inputs.{end_of}
 use Rattle.cmd_feed.specs.Outsides.{FeedSees}
 use Rattle.run_laws.specs.Several.{Flows, IsEmptyJournal, brought, HasRun}
-use Rattle.run_laws.specs.Linked.{LinkedCarried}
+use Rattle.run_laws.specs.Linked.{LinkedCarried, configs_by}
 use Rattle.run_laws.proofs.Telling.{same_outbox, same_inbox}
 use Rattle.run_laws.proofs.Ordered.{history_of-records}
 use Rattle.run_laws.proofs.Holding.{runs_hold}
@@ -126,11 +126,11 @@ module _ {S I K A D N C J : Type 0} (G : Ghosts J) (told : G.tells) (sees : Feed
   all_close = (way_i.closes both.initiator, way_a.closes both.acceptor)
 
   -- the links are linked by what they carried, so each inbox holds of the other outbox what its flow promises
-  carried : LinkedCarried (flat_map (brought sees.session) i.runs) (flat_map (brought sees.session) a.runs)
-  carried = linked_are_carried (flat_map (brought sees.session) i.runs) (flat_map (brought sees.session) a.runs) (legs_of (lives G sees Initiator li i)) (legs_of (lives G sees Acceptor la a))
+  carried : LinkedCarried (configs_by sees.session Initiator i.runs) (configs_by sees.session Acceptor a.runs) (flat_map (brought sees.session) i.runs) (flat_map (brought sees.session) a.runs)
+  carried = linked_are_carried (configs_by sees.session Initiator i.runs) (configs_by sees.session Acceptor a.runs) (flat_map (brought sees.session) i.runs) (flat_map (brought sees.session) a.runs) (legs_of (lives G sees Initiator li i)) (legs_of (lives G sees Acceptor la a))
       (runs_brought G sees Initiator (flows_in li) i.ran.outbox i.ran.inbox i.runs IsEmptyJournal IsEmptyJournal i.ran.over)
       (runs_brought G sees Acceptor (flows_in la) a.ran.outbox a.ran.inbox a.runs IsEmptyJournal IsEmptyJournal a.ran.over)
-      (time_is_linked (legs_of (lives G sees Initiator li i)) (legs_of (lives G sees Acceptor la a)) l.in_time)
+      (time_is_linked (configs_by sees.session Initiator i.runs) (configs_by sees.session Acceptor a.runs) (legs_of (lives G sees Initiator li i)) (legs_of (lives G sees Acceptor la a)) l.in_time)
 
 pub runs_end_in_time : {S I K A D N C J : Type 0} (G : Ghosts J) (sees : FeedSees S I K A D N C) → RunsEndInTime G sees
 runs_end_in_time G sees told li la i a l = all_close G told sees li la i a l

@@ -13,7 +13,7 @@ use Rattle.jr_boxes.specs.Outboxes.{records_of_history}
 use Rattle.jr_boxes.specs.Inboxes.{records_of_inbox}
 use Rattle.cmd_feed.specs.Outsides.{FeedSees}
 use Rattle.run_laws.specs.Several.{Run, Flows, IsEmptyJournal, brought, RunsOver, IsRun, HasRun}
-use Rattle.run_laws.specs.Linked.{LinkedCarried}
+use Rattle.run_laws.specs.Linked.{LinkedCarried, configs_by}
 
 module _ {S I K A D N C J : Type 0} where
   -- Two ends ran, each any number of times, and the links that came back to both are linked. Then the inbox of each holds of the outbox of the
@@ -23,7 +23,8 @@ module _ {S I K A D N C J : Type 0} where
   abbrev pub RunsHold : Ghosts J → FeedSees S I K A D N C → Type 0
   RunsHold G sees = G.tells → (flows : Flows) (runs_i runs_a : List (Run S K D N C)) (h_i h_a : History) (i_i i_a : List InboxRecord)
       → HasRun G sees Initiator flows runs_i h_i i_i → HasRun G sees Acceptor flows runs_a h_a i_a
-      → LinkedCarried (flat_map (brought sees.session) runs_i) (flat_map (brought sees.session) runs_a)
+      → LinkedCarried (configs_by sees.session Initiator runs_i) (configs_by sees.session Acceptor runs_a)
+      (flat_map (brought sees.session) runs_i) (flat_map (brought sees.session) runs_a)
       → Holds flows.client h_i.made i_a × Holds flows.server h_a.made i_i
 
 -- a content has a list of records, which is not damaged, and its format

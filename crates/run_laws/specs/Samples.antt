@@ -26,7 +26,7 @@ use Rattle.cmd_session.specs.Outsides.{Sees}
 use Rattle.cmd_session.specs.declared.outside.SessionOutside.{SessionOutside}
 use Rattle.cmd_feed.specs.Outsides.{FeedSees}
 use Rattle.run_laws.specs.Several.{Run, Flows, brought, HasRun}
-use Rattle.run_laws.specs.Linked.{LinkedCarried}
+use Rattle.run_laws.specs.Linked.{LinkedCarried, configs_by}
 
 -- what both texts spell
 abbrev pub configured : Configuration
@@ -168,4 +168,5 @@ module _ {J : Type 0} {G : Ghosts J} where
   RunsSample empty = HoldsBox empty [] []
       → HasRun G fed_memory Initiator both_recoverable (runs_of_initiator config_text) with_one []
       × HasRun G fed_memory Acceptor both_recoverable (runs_of_acceptor config_text) nothing []
-      × LinkedCarried (flat_map (brought memory) (runs_of_initiator config_text)) (flat_map (brought memory) (runs_of_acceptor config_text))
+      × LinkedCarried (configs_by memory Initiator (runs_of_initiator config_text)) (configs_by memory Acceptor (runs_of_acceptor config_text))
+      (flat_map (brought memory) (runs_of_initiator config_text)) (flat_map (brought memory) (runs_of_acceptor config_text))

@@ -17,11 +17,12 @@ use Rattle.fixp_msgs.specs.declared.flow.Flow.{Flow}
 use Rattle.connection_laws.specs.Living.{AllMayRun, Opens}
 use Rattle.connection_laws.proofs.Living.{opening_on}
 use Rattle.turn_laws.specs.Legs.{TurnedLeg, IsTimely}
+use Rattle.fixp_shake.specs.declared.config.EndConfig.{EndConfig}
 use Rattle.turn_laws.specs.Lives.{legs_of}
 use Rattle.turn_laws.proofs.Running.{all_run}
 use Rattle.turn_laws.specs.MachineLives.{life_in}
 use Rattle.turn_laws.specs.LoopLives.{LoopLife, RefusedLeg, machine_life, legs_in, MayTurn}
-use Rattle.two_ends.specs.Loops.{lives_of, LinkedLinks, no_more, paired}
+use Rattle.two_ends.specs.Loops.{lives_of, LinkedLinks, configs_of, no_more, paired}
 use Rattle.two_ends.proofs.Ends.{loops_hold}
 use Rattle.two_ends.specs.Driving.{Beginning}
 use Rattle.two_ends.specs.Pairing.{ReadEachOther}
@@ -29,11 +30,11 @@ use Rattle.two_ends.specs.Stories.{life_of, served_by, LivedOn, Story, untold, l
 use Rattle.two_ends.specs.DrivingLaws.{StoriesHold}
 
 -- connections that are paired in order are linked
-linked : (as' bs : List TurnedLeg) → AllZip ReadEachOther as' bs → LinkedLinks as' bs
-linked [] [] all = no_more
-linked [] (b ∷ bs) all = absurd all
-linked (a ∷ as') [] all = absurd all
-linked (a ∷ as') (b ∷ bs) all = paired all.0.0 all.0.1 (linked as' bs all.1)
+linked : (A B : List EndConfig) (as' bs : List TurnedLeg) → AllZip ReadEachOther as' bs → LinkedLinks A B as' bs
+linked A B [] [] all = no_more
+linked A B [] (b ∷ bs) all = absurd all
+linked A B (a ∷ as') [] all = absurd all
+linked A B (a ∷ as') (b ∷ bs) all = paired all.0.0 all.0.1 (linked A B as' bs all.1)
 
 -- what each sender has sent in the end, which is its plan
 abbrev sent_plan : List OutboxRecord → ℕ → List (List ℕ) → List (List ℕ)
@@ -175,5 +176,6 @@ stories_hold client server outbox_a outbox_b legs_a legs_b inbox_a inbox_b a b z
       chained_b = u.chained;
       outboxes_a = t.keeps_all outbox_a (self (history_of outbox_a));
       outboxes_b = u.keeps_all outbox_b (self (history_of outbox_b));
-      linked = subst (λ (ts : List TurnedLeg). LinkedLinks ts (flat_map legs_in u.lives)) (sym t.legs_are) (subst (λ (ts : List TurnedLeg). LinkedLinks legs_a ts) (sym u.legs_are) (linked legs_a legs_b zip));
+      linked = subst (λ (ts : List TurnedLeg). LinkedLinks (configs_of t.lives) (configs_of u.lives) ts (flat_map legs_in u.lives)) (sym t.legs_are)
+          (subst (λ (ts : List TurnedLeg). LinkedLinks (configs_of t.lives) (configs_of u.lives) legs_a ts) (sym u.legs_are) (linked (configs_of t.lives) (configs_of u.lives) legs_a legs_b zip));
     })

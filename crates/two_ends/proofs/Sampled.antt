@@ -1,5 +1,5 @@
 -- The sample of two ends, computed.
-use Rattle.std.proofs.Common.{◌≡◌, ℕ, ◌<◌, nat_lt, Bool, true, List, [], ◌∷◌, map, refl, sym, subst, arith, true≢false}
+use Rattle.std.proofs.Common.{◌≡◌, ℕ, ◌<◌, nat_lt, Bool, true, false, List, [], ◌∷◌, map, refl, sym, subst, arith, true≢false}
 use Rattle.std.specs.List.{AllByRecursion, AllZip, list_all}
 use Rattle.std.specs.Cmp.{first_so, second_so}
 use mathlib.Core.List.{IsPrefix}
@@ -20,13 +20,16 @@ use Rattle.fixp_replies.specs.Incoming.{session}
 use Rattle.fixp_machine.specs.Machine.{Call}
 use Rattle.connection_laws.specs.Writing.{Piece, said, bytes_written}
 use Rattle.connection_laws.specs.Courses.{Course}
+use Rattle.connection_laws.specs.Connections.{WasTaken}
+use Rattle.connection_laws.specs.Living.{course_of, state_behind, inbox_behind}
 use Rattle.connection_laws.specs.Samples.{sample_config}
 use Rattle.two_ends.specs.Reading.{incoming_of, ReadsAs}
 use Rattle.turn_laws.specs.Came.{came, AreFirstOf}
 use Rattle.two_ends.specs.Hearing.{CameFrom}
-use Rattle.two_ends.specs.Meeting.{TookWhole, no_more, paired}
+use Rattle.stranger_laws.specs.Samples as port
+use Rattle.two_ends.specs.Meeting.{TookWhole, no_more, right_alone, paired}
 use Rattle.turn_laws.specs.MachineLives.{life_in}
-use Rattle.two_ends.specs.Samples.{acceptor, opening, answer, leg_a, leg_b, life_on_leg, course_on, HandshakeSample}
+use Rattle.two_ends.specs.Samples.{acceptor, opening, answer, leg_a, leg_b, life_on_leg, course_on, HandshakeSample, client, leg_of_client, leg_of_venue, life_at_port, PortSample}
 use Rattle.two_ends.proofs.Cutting.{all_is_read}
 
 -- bytes, by a test of each
@@ -135,3 +138,68 @@ handshake_sample = (
   refl,
   refl,
 )
+
+-- ---- three strangers before the peer
+
+known_is_legal : IsLegal port.opening
+known_is_legal = record { fields = (refl, (omega arith, (omega arith, (omega arith, (tt, tt))))); datum = omega arith }
+
+-- a connection of which the link took nothing, and that is not drained
+took_nothing : (c : Course) → WasTaken c [] false
+took_nothing c = record { first = (c.output, refl); all = λ e. absurd (true≢false (sym e)) }
+
+pub port_sample : PortSample
+port_sample = record {
+  lives_a = (
+    record {
+      own_flow = refl;
+      peer_flow = refl;
+      opens = record { awaits = refl; enough = omega arith; before = λ _. omega arith };
+      legs = (
+        record {
+          calls = (record { may_call = tt; comes = omega arith }, (record { may_call = (refl, refl); comes = record { begun = refl; going = refl; done = refl } }, tt));
+          taken = record { first = prefix_self (said port.opening ∷ []); all = λ _. refl };
+        },
+        tt,
+      );
+      last = tt;
+    },
+    tt,
+  );
+  lives_b = (
+    record {
+      own_flow = refl;
+      peer_flow = refl;
+      opens = record { awaits = refl; enough = omega arith; before = λ _. omega arith };
+      legs = (
+        record { calls = (record { may_call = tt; comes = tt }, tt); taken = took_nothing _ },
+        (
+          record { calls = (record { may_call = tt; comes = tt }, tt); taken = took_nothing _ },
+          (
+            record { calls = (record { may_call = (refl, refl); comes = record { begun = refl; going = refl; done = refl } }, (record { may_call = tt; comes = tt }, tt)); taken = took_nothing _ },
+            (
+              record {
+                calls = (record { may_call = (refl, refl); comes = record { begun = refl; going = refl; done = refl } }, (record { may_call = tt; comes = omega arith }, tt));
+                taken = record { first = prefix_self (said answer ∷ []); all = λ _. refl };
+              },
+              tt,
+            ),
+          ),
+        ),
+      );
+      last = tt;
+    },
+    tt,
+  );
+  chained_a = ([], [], record { opens_outbox = refl; opens_inbox = refl; outbox_image = nothing_left; inbox_image = nothing_left }, (refl, refl));
+  chained_b = ([], [], record { opens_outbox = refl; opens_inbox = refl; outbox_image = nothing_left; inbox_image = nothing_left }, (refl, refl));
+  outboxes_a = (sends_nothing (life_in (life_on_leg client leg_of_client)).served, tt);
+  outboxes_b = (sends_nothing (life_in life_at_port).served, tt);
+  linked = right_alone tt (right_alone tt (right_alone (refl, tt) (paired
+      (record { sent = bytes_written leg_of_venue.whole; written = prefix_self (bytes_written leg_of_venue.whole); came = came_whole answer leg_of_client.calls answer_is_legal refl refl; legal = (answer_is_legal, tt); whole = took_whole last_course leg_of_venue.whole refl })
+      (record { sent = bytes_written leg_of_client.whole; written = prefix_self (bytes_written leg_of_client.whole); came = came_whole port.opening leg_of_venue.calls known_is_legal refl refl; legal = (known_is_legal, tt); whole = took_whole (course_on client leg_of_client) leg_of_client.whole refl })
+      no_more)));
+}
+  where
+    last_course : Course
+    last_course = course_of (state_behind port.begins [] port.strangers) (inbox_behind port.begins [] port.strangers) leg_of_venue

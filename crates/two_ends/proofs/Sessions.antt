@@ -7,7 +7,7 @@ use Rattle.sofh_frame.specs.Splits.{frames_of}
 use Rattle.session_model.specs.Journal.{Entry, entries}
 use Rattle.session_model.specs.Inbox.{InboxRecord}
 use Rattle.session_model.specs.Events.{Event}
-use Rattle.session_model.specs.Lives.{Served, served_on, Life, KeepsConnections, KeepsOutbox, KeepsContract, TakenFrom, rest_lost, taken, rejected, Linked}
+use Rattle.session_model.specs.Lives.{Served, served_on, Life, KeepsConnections, KeepsOutbox, KeepsContract, TakenFrom, Linked}
 use Rattle.session_model.specs.Lives
 use Rattle.session_model.proofs.Lists.{prefix_trans, all_append}
 use Rattle.session_model.specs.Growth as model
@@ -24,7 +24,9 @@ use Rattle.connection_laws.specs.Living.{Leg, course_of, MayRun, AllMayRun, stat
 use Rattle.connection_laws.specs.Connections.{connection_of}
 use Rattle.connection_laws.proofs.Living.{ran, behind, life_serves, life_refused_tail}
 use Rattle.two_ends.specs.Reading.{AreRead}
-use Rattle.turn_laws.specs.Came.{came, AreFirstOf}
+use Rattle.turn_laws.specs.Came.{came}
+use Rattle.stranger_laws.specs.Opening.{opens, NoneIs}
+use Rattle.stranger_laws.proofs.Deaf.{stranger_is_deaf}
 use Rattle.two_ends.specs.Hearing.{TakesFrom}
 use Rattle.turn_laws.specs.MachineLives.{Refusal, IsRefusedAt, refused_of, Refused, MachineLife, served_with, life_in}
 use Rattle.two_ends.specs.Meeting.{Run, course_in, calls_behind, heard_in, accepted_in, connection_in, MayBegin, ReadsFrom, no_more, left_alone, right_alone, paired, LinksHold, runs_on, last_run, runs_of, MayRefuse, MayLive, end_in, SessionOfEnds, Holds, EndsHold}
@@ -45,19 +47,13 @@ accepted_is c calls (Some q) = ap (λ (e : Course). e.accepted) (after_append c 
 takes_in : (written : List Event) (r : Run) → TakesFrom written (course_after (beginning r.state r.inbox r.leg.moment) (heard_in r)) → TakenFrom written (connection_in r).accepted
 takes_in written r t = subst (λ (es : List Event). TakenFrom written es) (accepted_is (beginning r.state r.inbox r.leg.moment) r.leg.calls r.refused) t.accepted
 
--- nothing is taken of nothing
-takes_nothing : (w a : List Event) → w ≡ [] → TakenFrom w a → a ≡ []
-takes_nothing w a e rest_lost = refl
-takes_nothing w a e (taken k) = absurd (cc e)
-takes_nothing w a e (rejected k) = absurd (cc e)
-
--- a connection to which no frame came accepted nothing
-alone : (r : Run) → MayBegin r → came (heard_in r) ≡ [] → (connection_in r).accepted ≡ []
+-- a connection to which no frame came that opens the session accepted nothing
+alone : (r : Run) → MayBegin r → NoneIs (opens r.state.config) (came (heard_in r)) → (connection_in r).accepted ≡ []
 alone r may none =
-    takes_nothing [] (connection_in r).accepted refl
-    (takes_in [] r
-    (heard_from r.outbox r.state r.inbox r.leg.moment (heard_in r) [] [] [] may.awaits may.enough (all_come r.outbox (beginning r.state r.inbox r.leg.moment) r.leg.calls r.refused may.calls may.refused)
-    (subst (λ is. AreFirstOf is []) (sym none) tt) tt ([], refl)))
+    let c : Course = beginning r.state r.inbox r.leg.moment in
+    sym (accepted_is c r.leg.calls r.refused)
+    ∙ (stranger_is_deaf r.outbox r.state r.inbox r.leg.moment (heard_in r)
+    (record { awaits = may.awaits; enough = may.enough; each = all_come r.outbox c r.leg.calls r.refused may.calls may.refused }) none).accepted
 
 -- an end takes of what it read from another
 reads : (reader writer : Run) → MayBegin reader → MayBegin writer → ReadsFrom reader writer → TakenFrom (connection_in writer).written (connection_in reader).accepted

@@ -21,6 +21,7 @@ use Rattle.connection_laws.specs.Connections.{connection_of}
 use Rattle.connection_laws.specs.Living.{Leg, course_of, MayRun, AllMayRun, state_behind, inbox_behind, Opens}
 use Rattle.turn_laws.specs.Came.{came}
 use Rattle.turn_laws.specs.MachineLives.{Refusal, IsRefusedAt, Refused, MachineLife, life_in}
+use Rattle.stranger_laws.specs.Opening.{opens, NoneIs}
 use Rattle.two_ends.specs.Hearing.{CameFrom}
 
 -- One connection of the machine: over an outbox with these entries it begins in this state, over this inbox. Where a call of the
@@ -76,11 +77,11 @@ pub record ReadsFrom (reader writer : Run) : Type 0 where
   pub whole : TookWhole (course_in writer) sent writer.leg.whole
 
 -- Connections linked by bytes: paired in the same order at both ends, each in at most one pair. In a pair each end reads from
--- the other; to a connection in no pair no frame came
+-- the other; to a connection in no pair no frame came that opens the session
 pub data LinkedByBytes : List Run → List Run → Type 0 where
   no_more : LinkedByBytes [] []
-  left_alone : {a : Run} {as' bs : List Run} → came (heard_in a) ≡ [] → LinkedByBytes as' bs → LinkedByBytes (a ∷ as') bs
-  right_alone : {b : Run} {as' bs : List Run} → came (heard_in b) ≡ [] → LinkedByBytes as' bs → LinkedByBytes as' (b ∷ bs)
+  left_alone : {a : Run} {as' bs : List Run} → NoneIs (opens a.state.config) (came (heard_in a)) → LinkedByBytes as' bs → LinkedByBytes (a ∷ as') bs
+  right_alone : {b : Run} {as' bs : List Run} → NoneIs (opens b.state.config) (came (heard_in b)) → LinkedByBytes as' bs → LinkedByBytes as' (b ∷ bs)
   paired : {a b : Run} {as' bs : List Run} → ReadsFrom a b → ReadsFrom b a → LinkedByBytes as' bs → LinkedByBytes (a ∷ as') (b ∷ bs)
 
 abbrev pub LinksHold : Type 0

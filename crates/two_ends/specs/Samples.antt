@@ -1,5 +1,5 @@
 -- Two ends that shake hands over one link: the premises of the laws can be met.
-use Rattle.std.specs.Prelude.{◌≡◌, true, [], ◌∷◌, length, Some, None}
+use Rattle.std.specs.Prelude.{◌≡◌, true, [], ◌∷◌, ◌++◌, length, Some, None}
 use Rattle.session_model.specs.Events.{announce, handshake}
 use Rattle.session_model.specs.Guarantee.{OneEnd}
 use Rattle.session_model.specs.Samples.{silence}
@@ -18,6 +18,7 @@ use Rattle.connection_laws.specs.Courses.{Course}
 use Rattle.connection_laws.specs.Living.{Leg, course_of}
 use Rattle.connection_laws.specs.Samples.{id, sample_config}
 use Rattle.turn_laws.specs.MachineLives.{MachineLife}
+use Rattle.stranger_laws.specs.Samples as port
 use Rattle.two_ends.specs.Meeting.{TwoEnds}
 
 -- the acceptor of that session, with the flows of the initiator turned round
@@ -72,3 +73,22 @@ HandshakeSample =
     TwoEnds (end_on_leg sample_config leg_a) (end_on_leg acceptor leg_b)
     × ((course_on sample_config leg_a).accepted ≡ announce handshake (Some 1) ∷ [])
     × ((course_on acceptor leg_b).accepted ≡ announce handshake (Some 1) ∷ [])
+
+-- the same two ends with credentials: three strangers came to the acceptor before its peer
+abbrev pub client : EndConfig
+client = record sample_config { credentials = port.venue.credentials }
+
+abbrev pub leg_of_client : Leg
+leg_of_client = record { moment = 0; calls = taken (length (frame_bytes port.opening)) ∷ frame (session answer) 0 1 ∷ []; whole = said port.opening ∷ []; drained = true }
+
+abbrev pub leg_of_venue : Leg
+leg_of_venue = record { moment = 30000; calls = frame (session port.opening) 0 30001 ∷ taken (length (frame_bytes answer)) ∷ []; whole = said answer ∷ []; drained = true }
+
+abbrev pub life_at_port : MachineLife
+life_at_port = record (life_on_leg port.venue leg_of_venue) { legs = port.strangers ++ leg_of_venue ∷ [] }
+
+abbrev pub end_at_port : OneEnd Flow MachineLife
+end_at_port = record (end_on_leg port.venue leg_of_venue) { lives = life_at_port ∷ [] }
+
+abbrev pub PortSample : Type 0
+PortSample = TwoEnds (end_on_leg client leg_of_client) end_at_port

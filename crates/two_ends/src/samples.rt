@@ -1,6 +1,6 @@
 //! The premises of the laws, met by two ends.
 
-ghost use Rattle.two_ends.specs.Samples.{HandshakeSample};
+ghost use Rattle.two_ends.specs.Samples.{HandshakeSample, PortSample};
 ghost use Rattle.two_ends.specs.LoopSamples.{TurnsSample};
 
 /// Two ends that shake hands over one link meet all premises, and each accepts the other's announcement.
@@ -11,4 +11,10 @@ pub fn handshake_sample()
 /// Two ends that shake hands over one link, turn by turn, meet all premises, and each accepts the other's announcement.
 pub fn turns_sample()
     ensures law { TurnsSample }
+{}
+
+/// Two ends meet all premises where three strangers came to the acceptor before its peer: one who said nothing, one who gave half a frame, and one
+/// whose credentials lacked their last byte.
+pub fn port_sample()
+    ensures law { PortSample }
 {}

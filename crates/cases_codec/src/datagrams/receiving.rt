@@ -1,6 +1,6 @@
-//! Datagrams that come to a receiver: `row FLOW MESSAGES PER K..` has these of the datagrams of so many messages come, by their places;
-//! `starts FLOW NEXT MOST N+COUNT..` has datagrams come that begin with N and have so many messages. What the calls answer is shown, what
-//! is asked for behind each datagram, and at the end the number that is waited for.
+//! Datagrams that come to a receiver: `starts FLOW NEXT MOST N+COUNT..` has datagrams come that begin with N and have so many messages.
+//! What the calls answer is shown, what is asked for behind each datagram, and at the end the number that is waited for. `orders FLOW K`
+//! sums up the same of every list of six deliveries of four datagrams that begins with the K-th.
 
 ghost use Rattle.std.specs.Prelude.{IsSome};
 
@@ -14,11 +14,23 @@ use std::alloc::{AllocError, Global};
 /// The bytes of a frame here: of a Sequence, and of a message.
 const FRAME: u64 = 22;
 
-/// The most messages of a case, and of a datagram.
+/// The most messages of a datagram.
 const MOST_MESSAGES: u64 = 300;
 
+/// The datagrams of `orders`.
+const DATAGRAMS: u64 = 4;
+
+/// The messages of each of them.
+const PER: u64 = 2;
+
+/// The deliveries of a list.
+const DELIVERIES: u64 = 6;
+
+/// All lists of so many deliveries that begin with the same datagram.
+const LISTS: u64 = 1024;
+
 /// A receiver of the flow that a word names; None where it is carried in no datagrams, or the greatest number is too great.
-pub fn receiver_of(flow: &str, next: u64, most: u64) -> Option<DgReceiver> {
+fn receiver_of(flow: &str, next: u64, most: u64) -> Option<DgReceiver> {
     if most == u64::MAX {
         return None;
     }
@@ -96,67 +108,28 @@ fn add_delivery(
     add_ask(receiver, told)
 }
 
-/// Adds what becomes of the datagram of a place, from 1 on, that has so many of the payloads, the last what is left.
-fn add_place(
-    alloc: Global,
-    payloads: &Payloads,
-    per: u64,
-    place: u64,
-    receiver: &mut DgReceiver,
-    told: &mut String,
-) -> Result<(), AllocError> {
-    let per = per.min(MOST_MESSAGES);
-    let from = place
-        .saturating_sub(1)
-        .saturating_mul(per)
-        .min(MOST_MESSAGES);
-    let room = (1 + per) * FRAME;
-    match pack_from(alloc, from + 1, payloads, from as usize, room as usize)? {
-        Some(packed) => add_delivery(receiver, packed.bytes.as_slice(), told),
-        None => write!(told, " none"),
-    }
-}
-
 /// Adds the number that is waited for.
 fn add_next(receiver: &DgReceiver, told: &mut String) -> Result<(), AllocError> {
     let next = receiver.next();
     write!(told, " next {next}")
 }
 
-/// Adds what becomes of datagrams of so many messages.
-pub fn add_row(alloc: Global, words: &str, told: &mut String) -> Result<(), AllocError> {
-    let (flow, words) = halves(words);
-    let (messages, words) = halves(words);
-    let (per, places) = halves(words);
-    let payloads = payloads(alloc, 1, number(messages))?;
-    let Some(mut receiver) = receiver_of(flow, 1, number(messages)) else {
-        return write!(told, ", no receiver");
-    };
-    write!(told, ":")?;
-    for place in places.split(" ") {
-        let place = number(place);
-        add_place(alloc, &payloads, number(per), place, &mut receiver, told)?;
-        write!(told, ",")?;
-    }
-    add_next(&receiver, told)
-}
-
 /// Adds what becomes of a datagram that begins with a number and has so many messages.
-fn add_start(
+fn add_datagram(
     alloc: Global,
     receiver: &mut DgReceiver,
-    word: &str,
+    first: u64,
+    count: u64,
     told: &mut String,
 ) -> Result<(), AllocError> {
-    let (first, count) = parted(word, "+");
-    let first = number(first);
-    let count = number(count).min(MOST_MESSAGES);
+    let count = count.min(MOST_MESSAGES);
     let payloads = payloads(alloc, first, count)?;
     let room = (1 + count) * FRAME;
     match pack_from(alloc, first, &payloads, 0, room as usize)? {
-        Some(packed) => add_delivery(receiver, packed.bytes.as_slice(), told),
-        None => write!(told, " none"),
+        Some(packed) => add_delivery(receiver, packed.bytes.as_slice(), told)?,
+        None => write!(told, " none")?,
     }
+    write!(told, ",")
 }
 
 /// Adds what becomes of datagrams that begin with these numbers.
@@ -169,8 +142,43 @@ pub fn add_starts(alloc: Global, words: &str, told: &mut String) -> Result<(), A
     };
     write!(told, ":")?;
     for start in starts.split(" ") {
-        add_start(alloc, &mut receiver, start, told)?;
-        write!(told, ",")?;
+        let (first, count) = parted(start, "+");
+        add_datagram(alloc, &mut receiver, number(first), number(count), told)?;
     }
     add_next(&receiver, told)
+}
+
+/// Adds what becomes of a list of deliveries, which is a number in digits of four, the last of them first.
+fn add_list(alloc: Global, flow: &str, list: u64, told: &mut String) -> Result<(), AllocError> {
+    let Some(mut receiver) = receiver_of(flow, 1, DATAGRAMS * PER) else {
+        return Ok(());
+    };
+    let mut left = list;
+    for _ in 0..DELIVERIES {
+        let first = left % DATAGRAMS * PER + 1;
+        add_datagram(alloc, &mut receiver, first, PER, told)?;
+        left /= DATAGRAMS;
+    }
+    add_next(&receiver, told)
+}
+
+/// A sum of a text, in which each byte counts by its place.
+fn sum_of(text: &str) -> u64 {
+    let mut sum = 0u64;
+    for byte in text.as_bytes() {
+        sum = sum.wrapping_mul(31).wrapping_add(u64::from(*byte));
+    }
+    sum
+}
+
+/// Adds a sum of what becomes of all lists that begin with a datagram.
+pub fn add_orders(alloc: Global, words: &str, told: &mut String) -> Result<(), AllocError> {
+    let (flow, datagram) = halves(words);
+    let begin = number(datagram).wrapping_sub(1) % DATAGRAMS;
+    let mut all = String::new(alloc);
+    for later in 0..LISTS {
+        add_list(alloc, flow, begin + later * DATAGRAMS, &mut all)?;
+    }
+    let sum = sum_of(all.as_str());
+    write!(told, ", sum {sum}")
 }

@@ -10,7 +10,7 @@ use std::alloc::{AllocError, Global};
 /// What a receive into a piece of four bytes gave.
 fn received<L: Link>(alloc: Global, link: &mut L) -> Result<String, AllocError> {
     let mut piece = [0; 4];
-    match link.recv(&mut piece) {
+    match link.recv(&mut piece, 0) {
         Ok(Got::Bytes(count)) => {
             format!(in alloc; " {}", digits(alloc, piece.split_at(count).0)?)
         }

@@ -15,6 +15,9 @@ use std::time::Clock;
 /// How often a receive is tried until something comes.
 const TRIES: u64 = 500;
 
+/// How long a receive may wait, in milliseconds.
+pub const PATIENCE: u64 = 10;
+
 /// How many bytes are sent at once, where a socket is filled.
 const PIECE: usize = 4096;
 
@@ -50,7 +53,7 @@ fn receive<L: Link>(link: &mut L, into: &mut [u8]) -> Result<Got, Failed>
     ensures { IfOk result (λ got. IsWithin got (length into.new)) }
 {
     for _ in 0..TRIES {
-        match link.recv(into) {
+        match link.recv(into, PATIENCE) {
             Ok(Got::Quiet) => {}
             got => return got,
         }
@@ -81,7 +84,7 @@ pub fn exchange<R: Net<Listener = TcpListener, Stream = TcpStream> + Clock + All
     let back = far.send(&[4, 5]);
     let answered = shown(alloc, &mut near)?;
     let nothing = near.send(&[]);
-    let quiet = far.recv(&mut [0; 8]);
+    let quiet = far.recv(&mut [0; 8], PATIENCE);
     drop(near);
     let end = shown(alloc, &mut far)?;
     let again = shown(alloc, &mut far)?;
@@ -159,7 +162,7 @@ pub fn moment<R: Clock>(rt: &R) -> u64 {
     }
 }
 
-/// A receive waits where nothing is there, and not where bytes were sent since it waited.
+/// A receive waits where nothing is there and it may, and not where bytes were sent since it waited.
 pub fn waits<R: Net<Listener = TcpListener, Stream = TcpStream> + Clock + AllocGlobal>(
     rt: &R,
 ) -> Result<String, AllocError> {
@@ -169,15 +172,22 @@ pub fn waits<R: Net<Listener = TcpListener, Stream = TcpStream> + Clock + AllocG
     };
     let start = moment(rt);
     for _ in 0..10 {
-        let _ = near.recv(&mut [0; 8]);
+        let _ = near.recv(&mut [0; 8], PATIENCE);
     }
     let middle = moment(rt);
     for _ in 0..200 {
         let _ = near.send(&[1]);
-        let _ = near.recv(&mut [0; 8]);
+        let _ = near.recv(&mut [0; 8], PATIENCE);
     }
     let end = moment(rt);
+    for _ in 0..200 {
+        let _ = near.recv(&mut [0; 8], 0);
+    }
+    let last = moment(rt);
     let has_waited = middle.saturating_sub(start) >= 90;
     let is_quick = end.saturating_sub(middle) < 1_500;
-    format!(in alloc; "waits: with nothing sent {has_waited}, behind a send at once {is_quick}")
+    let is_at_once = last.saturating_sub(end) < 1_500;
+    format!(in alloc;
+        "waits: with nothing sent {has_waited}, behind a send at once {is_quick}, without patience at once {is_at_once}"
+    )
 }

@@ -2,7 +2,7 @@
 
 ghost use Rattle.std.specs.Prelude.{◌≡◌, false};
 
-use crate::sockets::links::moment;
+use crate::sockets::links::{PATIENCE, moment};
 use gw_links::{Dialer, Link, Next, Wake};
 use gw_sockets::{AcceptDialer, ConnectDialer};
 use std::alloc::AllocError;
@@ -14,7 +14,7 @@ use std::time::Clock;
 const WAITS: u64 = 100;
 
 /// How long they may take, in milliseconds: without a wake each takes ten.
-const PATIENCE: u64 = 500;
+const LONGEST: u64 = 500;
 
 /// What was seen of the waits of a link.
 #[derive(Clone, Copy, Debug)]
@@ -31,13 +31,13 @@ fn seen<L: Link, W: Wake, R: Clock>(rt: &R, link: &mut L, waker: &W) -> Woken {
     for _ in 0..WAITS {
         waker.wake();
         waker.wake();
-        let _ = link.recv(&mut [0; 8]);
+        let _ = link.recv(&mut [0; 8], PATIENCE);
     }
     let middle = moment(rt);
-    let _ = link.recv(&mut [0; 8]);
+    let _ = link.recv(&mut [0; 8], PATIENCE);
     let end = moment(rt);
     Woken {
-        each: middle.saturating_sub(start) < PATIENCE,
+        each: middle.saturating_sub(start) < LONGEST,
         once: end.saturating_sub(middle) >= 9,
     }
 }

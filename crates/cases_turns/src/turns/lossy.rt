@@ -154,8 +154,8 @@ impl Link for Lossy<'_> {
 
     ghost faults = { λ l. 0 };
 
-    fn recv(&mut self, into: &mut [u8]) -> Result<Got, Failed> {
-        match self.link.recv(into) {
+    fn recv(&mut self, into: &mut [u8], patience: u64) -> Result<Got, Failed> {
+        match self.link.recv(into, patience) {
             Ok(got) => Ok(got),
             // The end of a pipe does not fail.
             Err(_) => Ok(Got::Quiet),

@@ -34,12 +34,12 @@ impl Link for Narrow<'_> {
 
     ghost faults = { λ l. 0 };
 
-    fn recv(&mut self, into: &mut [u8]) -> Result<Got, Failed> {
+    fn recv(&mut self, into: &mut [u8], patience: u64) -> Result<Got, Failed> {
         let count = into.len().min(self.gives);
         if count == 0 {
             return Ok(Got::Quiet);
         }
-        match self.link.recv(&mut into[..count]) {
+        match self.link.recv(&mut into[..count], patience) {
             Ok(got) => Ok(got),
             // The end of a pipe does not fail.
             Err(_) => Ok(Got::Quiet),

@@ -68,7 +68,7 @@ fn send_frames(
 /// Adds what comes to the peer.
 fn push_heard(alloc: Global, line: &mut String, pipe: &mut Pipe) -> Result<(), AllocError> {
     let mut bytes = [0; ROOM];
-    let count = match pipe.left().recv(&mut bytes) {
+    let count = match pipe.left().recv(&mut bytes, 0) {
         Ok(Got::Bytes(count)) => count,
         _ => 0,
     };

@@ -1,4 +1,5 @@
 use Rattle.std.proofs.Common.{inl, inr, ⊎_elim, ℕ, ◌≤◌, refl, sym, ap, ◌∙◌, subst, arith}
+use Rattle.std.specs.Io.KnownBytes.{Keeps}
 use Rattle.gw_outside.specs.Faults.{HasRisen}
 use Rattle.jr_segments.specs.declared.journal.SegJournal.{SegJournal}
 use Rattle.jr_segments.specs.Journal.{disk_of}
@@ -11,6 +12,7 @@ use Rattle.cmd_session.specs.Outsides.{sees}
 use Rattle.cmd_session.proofs.Kept.{held_kept, outbox_kept, inbox_kept}
 use Rattle.cmd_session.proofs.Later.{left_as_told, later_holds}
 use Rattle.cmd_session.proofs.Over.{risen_over}
+use Rattle.cmd_session.proofs.Served.{keeps_none}
 use Rattle.cmd_feed.specs.Outsides.{feed_sees, around}
 use Rattle.cmd_feed.proofs.Over.{fed_over_disks}
 use Rattle.cmd_feed.proofs.command.feed_behind_out.Goals as goal
@@ -21,6 +23,7 @@ returns-in-Err-clause-ended g c = λ first config disks a.
     inl (record {
       refused = refused.refused (g.D.Disk.told disks.inbox) a.inbox_is a.is_told;
       journal = λ e. risen_over _ _ _ _ a.in_least refl (refused.journal e);
+      output = refused.output;
       out = refused.projects (g.D.Disk.told disks.inbox) a.inbox_is a.is_told;
       links = record { dialer = refl; clock = refl };
       streams = record { input = refl; accepted = refl };
@@ -37,6 +40,7 @@ returns-in-Err-begin-clause-ended g c = λ first config disks a.
       out = c.in-Ok.ensures.went (g.D.Disk.told disks.inbox) a.inbox_is a.is_told;
       failed = refl;
       cause = c.in-Err-begin.ensures.cause.risen;
+      accepted_kept = keeps_none _ _ c.in-Err-begin.ensures.nothing;
       input_is = refl;
       links = record { dialer = refl; clock = refl };
       left = record {
@@ -70,6 +74,8 @@ returns-clause-ended g c = λ first config disks a.
             memory = n.0;
             dialer_is = n.3.dialer_is;
             input_is = n.1;
+            out_kept = n.3.out_kept;
+            accepted_kept = subst (λ x. Keeps (g.A.Sink.taken c.args.accepted) (g.A.Sink.taken x)) (sym n.2) (keeps_none _ _ c.in-Ok-begin.ensures.nothing);
             left = record {
               outbox = held_kept g.D.Disk.told g.D.Disk.may_leave (disk_of {G = g.D.Disk}) c.at.new.self disks.outbox _ later.history later.holds later.told (λ image h. h)
                   (out_same ∙ ap (λ (x : Outbox _ _). disk_of (outboxes.journal_of x)) n.3.outbox_is);

@@ -1,6 +1,9 @@
-use Rattle.std.proofs.Common.{◌≡◌, ℕ, List, refl, subst}
+use Rattle.std.proofs.Common.{◌≡◌, inl, inr, ⊎_elim, ℕ, true, List, Err, is_some, refl, sym, ap, subst, arith}
 use Rattle.jr_segments.specs.Journal.{disk_of}
 use Rattle.jr_segments.specs.declared.journal.SegJournal.{SegJournal}
+use Rattle.jr_boxes.specs.declared.faults.Which.TheVariants.{Inbox as InboxOf}
+use Rattle.cmd_base.specs.declared.status.Status.{Status}
+use Rattle.cmd_session.specs.Boxes.{IsNotOpened}
 use Rattle.cmd_feed.specs.Steps.{RefusesOut}
 use Rattle.cmd_feed.proofs.OutOn.{went_on, went_projects, still_projects, read_kept, opens_again, refused_again, kept_again}
 use Rattle.cmd_feed.proofs.going_on.out_on.Goals as goal
@@ -16,7 +19,17 @@ returns-in-Err-clause-kept g c = λ before o t.
     c.into_journal-journal.ensures.value c.in-Err.ensures.unchanged c.close.ensures
 
 pub returns-in-Err-clause-refused : goal.returns-in-Err-clause-refused
-returns-in-Err-clause-refused g c = λ told o t. c.not_gone_on.ensures.refused told
+returns-in-Err-clause-refused g c = λ told o t. c.not_gone_on.ensures.refused told (λ at e content is.
+    c.in-Err.ensures.changed at (ap Err e) (subst (λ (j : SegJournal _ g.D.Disk). is_some (g.D.Disk.told (disk_of j)) ≡ true) (sym c.into_journal-journal.ensures.value) (t content is)))
+
+pub returns-in-Err-clause-output : goal.returns-in-Err-clause-output
+returns-in-Err-clause-output g c = λ e. ⊎_elim (λ h. inl (c.in-Err.ensures.output h)) (λ h. inr (c.in-Err.ensures.short h)) (c.not_gone_on.ensures.output e)
+
+pub returns-in-Err-begin-clause-output : goal.returns-in-Err-begin-clause-output
+returns-in-Err-begin-clause-output g c = λ e. inl (omega (arith, c.in-Ok.ensures.counted.0, c.in-Err-begin.ensures.cause.risen))
+
+pub returns-in-Err-open_inbox-clause-output : goal.returns-in-Err-open_inbox-clause-output
+returns-in-Err-open_inbox-clause-output g c = λ e. absurd (subst (λ (s : Status). IsNotOpened InboxOf c.args.flow _ s) e c.in-Err-open_inbox.ensures.refused)
 
 pub returns-in-Err-begin-clause-projects : goal.returns-in-Err-begin-clause-projects
 returns-in-Err-begin-clause-projects g c = λ told o t.

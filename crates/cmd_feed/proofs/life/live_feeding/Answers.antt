@@ -8,6 +8,7 @@ use Rattle.cmd_feed.proofs.Statuses.{kind_of, input_only, output_only, dial_only
 use Rattle.cmd_base.specs.declared.status.Status.TheVariants.{InputFault}
 use Rattle.cmd_session.specs.Lived.{IsOfLife}
 use Rattle.cmd_session.specs.Outsides.{hears}
+use Rattle.cmd_session.proofs.Served.{keeps_self}
 use Rattle.cmd_feed.proofs.Lived.{lived_fed, fed_moved}
 use Rattle.cmd_feed.proofs.life.live_feeding.Goals as goal
 
@@ -49,7 +50,7 @@ returns-clause-dial g c = λ e.
     c.serve_seated-accepted.ensures.dial (dial_only fed.connections fed.end fed.refused c.serve_seated-accepted.ensures.mark.1 (sym c.status_of_feeding.ensures.value ∙ e))
 
 pub returns-in_default-clause-lived : goal.returns-in_default-clause-lived
-returns-in_default-clause-lived g c = inl (refl, refl, refl, record { cause = inl refl; dialer_is = refl; box_is = refl; outbox_is = refl })
+returns-in_default-clause-lived g c = inl (refl, refl, refl, record { cause = inl refl; dialer_is = refl; out_kept = keeps_self (g.K.Sink.taken c.args.devices.now.out); box_is = refl; outbox_is = refl })
 
 pub returns-in-Err-clause-lived : goal.returns-in-Err-clause-lived
-returns-in-Err-clause-lived g c = inl (refl, refl, refl, record { cause = inl refl; dialer_is = refl; box_is = refl; outbox_is = c.in-Err.ensures.refused })
+returns-in-Err-clause-lived g c = inl (refl, refl, refl, record { cause = inl refl; dialer_is = refl; out_kept = keeps_self (g.K.Sink.taken c.args.devices.now.out); box_is = refl; outbox_is = c.in-Err.ensures.refused })

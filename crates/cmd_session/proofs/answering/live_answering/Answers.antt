@@ -4,6 +4,7 @@ use Rattle.gate_turn.specs.Rule.{In, Sound}
 use Rattle.gate_turn.specs.Listed.{known_at}
 use Rattle.gate_senders.specs.Kept.{account}
 use Rattle.cmd_session.proofs.Counting.{never_fell}
+use Rattle.cmd_session.proofs.Served.{keeps_self}
 use Rattle.cmd_session.proofs.answering.live_answering.Goals as goal
 
 pub returns-clause-outbox_never_falls : goal.returns-clause-outbox_never_falls
@@ -24,4 +25,4 @@ returns-clause-lived g c =
     })
 
 pub returns-in-Err-clause-lived : goal.returns-in-Err-clause-lived
-returns-in-Err-clause-lived g c = inl (record { cause = inl refl; dialer_is = refl; box_is = refl; outbox_is = c.in-Err.ensures.refused })
+returns-in-Err-clause-lived g c = inl (record { cause = inl refl; dialer_is = refl; out_kept = keeps_self (g.K.Sink.taken c.args.devices.now.out); box_is = refl; outbox_is = c.in-Err.ensures.refused })

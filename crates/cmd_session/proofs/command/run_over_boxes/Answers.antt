@@ -1,11 +1,11 @@
 use Rattle.std.proofs.Common.{refl, inl, inr, ⊎_elim, subst, arith}
 use Rattle.gw_outside.specs.Faults.{HasRisen}
 use Rattle.cmd_session.specs.Outsides.{hears}
-use Rattle.cmd_session.proofs.Served.{lived_from}
+use Rattle.cmd_session.proofs.Served.{lived_from, keeps_none, keeps_behind}
 use Rattle.cmd_session.proofs.command.run_over_boxes.Goals as goal
 
 pub returns-in-Err-clause-lived : goal.returns-in-Err-clause-lived
-returns-in-Err-clause-lived g c = inl (record { cause = inr (refl, c.in-Err.ensures.cause.risen); dialer_is = refl; box_is = refl; outbox_is = refl })
+returns-in-Err-clause-lived g c = inl (record { cause = inr (refl, c.in-Err.ensures.cause.risen); dialer_is = refl; out_kept = keeps_none _ _ c.in-Err.ensures.nothing; box_is = refl; outbox_is = refl })
 
 pub returns-clause-lived : goal.returns-clause-lived
 returns-clause-lived g c =
@@ -14,6 +14,7 @@ returns-clause-lived g c =
     (λ b. inl (record {
       cause = ⊎_elim (λ m. inl m) (λ f. inr (f.0, subst (λ n. HasRisen n (g.K.Sink.faults c.live.new.devices.out)) as_before f.1)) b.cause;
       dialer_is = b.dialer_is;
+      out_kept = keeps_behind _ _ _ c.in-Ok.ensures.nothing b.out_kept;
       box_is = b.box_is;
       outbox_is = b.outbox_is;
     }))

@@ -5,6 +5,7 @@ use Rattle.gate_turn.specs.Rule.{In, Sound}
 use Rattle.gate_turn.specs.Listed.{known_at}
 use Rattle.gate_senders.specs.Kept.{account}
 use Rattle.cmd_session.proofs.Counting.{never_fell}
+use Rattle.cmd_session.proofs.Served.{keeps_self}
 use Rattle.cmd_session.proofs.life.live.Goals as goal
 
 pub returns-clause-outbox_never_falls : goal.returns-clause-outbox_never_falls
@@ -25,7 +26,7 @@ returns-clause-lived g c =
     })
 
 pub returns-in_default-clause-lived : goal.returns-in_default-clause-lived
-returns-in_default-clause-lived g c = inl (record { cause = inl refl; dialer_is = refl; box_is = refl; outbox_is = refl })
+returns-in_default-clause-lived g c = inl (record { cause = inl refl; dialer_is = refl; out_kept = keeps_self (g.K.Sink.taken c.args.devices.now.out); box_is = refl; outbox_is = refl })
 
 pub returns-in-Err-clause-lived : goal.returns-in-Err-clause-lived
-returns-in-Err-clause-lived g c = inl (record { cause = inl refl; dialer_is = refl; box_is = refl; outbox_is = c.in-Err.ensures.refused })
+returns-in-Err-clause-lived g c = inl (record { cause = inl refl; dialer_is = refl; out_kept = keeps_self (g.K.Sink.taken c.args.devices.now.out); box_is = refl; outbox_is = c.in-Err.ensures.refused })

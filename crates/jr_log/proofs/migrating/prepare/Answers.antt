@@ -32,3 +32,19 @@ returns-else-bytes-gt-MOST-clause-fresh g c = λ content has. inr (subst (λ (s 
 
 pub returns-in-Ok-clear-clause-fresh : goal.returns-in-Ok-clear-clause-fresh
 returns-in-Ok-clear-clause-fresh g c = λ content has. inl (subst (λ (s : Seen). IsSeen s content) c.in-Short.is (c.in-Ok-look.ensures.seen content (c.sync.ensures.content ∙ has)))
+
+pub returns-in-Ok-clear-clause-used : goal.returns-in-Ok-clear-clause-used
+returns-in-Ok-clear-clause-used g c = λ content has used.
+    absurd (omega (arith, used.long, subst (λ (s : Seen). IsSeen s content) c.in-Short.is (c.in-Ok-look.ensures.seen content (c.sync.ensures.content ∙ has))))
+
+pub returns-in-Ok-clear-clause-used_images : goal.returns-in-Ok-clear-clause-used_images
+returns-in-Ok-clear-clause-used_images g c = λ content has used.
+    absurd (omega (arith, used.long, subst (λ (s : Seen). IsSeen s content) c.in-Short.is (c.in-Ok-look.ensures.seen content (c.sync.ensures.content ∙ has))))
+
+pub returns-in-Err-clause-used : goal.returns-in-Err-clause-used
+returns-in-Err-clause-used g c = λ content has used.
+    absurd (omega (arith, used.long, subst (λ (s : Seen). IsSeen s content) c.in-Short.is (c.in-Ok-look.ensures.seen content (c.sync.ensures.content ∙ has))))
+
+pub returns-in-Err-clause-used_images : goal.returns-in-Err-clause-used_images
+returns-in-Err-clause-used_images g c = λ content has used.
+    absurd (omega (arith, used.long, subst (λ (s : Seen). IsSeen s content) c.in-Short.is (c.in-Ok-look.ensures.seen content (c.sync.ensures.content ∙ has))))

@@ -3,7 +3,7 @@ use Rattle.std.proofs.Common.{sym, subst}
 use Rattle.sofh_frame.specs.Framing.{First}
 use Rattle.sofh_frame.specs.Splits.{IsNoFrame}
 use Rattle.fixp_datagram.proofs.Reading.{no_sequence, other_message, not_frame}
-use Rattle.fixp_datagram.proofs.datagram.sequence_at_front.Goals as goal
+use Rattle.fixp_datagram.proofs.datagram.any_sequence.Goals as goal
 
 pub returns-in_default : goal.returns-in_default
 returns-in_default c =

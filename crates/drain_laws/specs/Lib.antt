@@ -1,0 +1,10 @@
+pub mod Weights
+pub mod Loads
+pub mod Frames
+pub mod Calls
+pub mod Beginning
+pub mod Counts
+pub mod Evens
+pub mod Samples
+pub mod Rows
+pub mod Negotiating

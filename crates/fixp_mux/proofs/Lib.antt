@@ -1,0 +1,4 @@
+mod Apart
+mod Partings
+mod Sampled
+mod Spelling

@@ -1,0 +1,4 @@
+pub mod Opening
+pub mod Replied
+pub mod Strangers
+pub mod Samples
