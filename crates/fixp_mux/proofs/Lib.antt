@@ -1,0 +1,6 @@
+mod Apart
+mod Linked
+mod Partings
+mod Placing
+mod Sampled
+mod Spelling

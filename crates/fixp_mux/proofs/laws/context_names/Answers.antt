@@ -1,0 +1,5 @@
+use Rattle.fixp_mux.proofs.Spelling as lemmas
+use Rattle.fixp_mux.proofs.laws.context_names.Goals as goal
+
+pub returns : goal.returns
+returns c = record { law = lemmas.context_names }

@@ -1,0 +1,10 @@
+pub mod Calls
+pub mod Context
+pub mod Holding
+pub mod Laws
+pub mod Linking
+pub mod Parts
+pub mod Routing
+pub mod Samples
+pub mod Saying
+pub mod State
