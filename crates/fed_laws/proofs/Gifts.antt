@@ -29,7 +29,7 @@ none_more : (n : ℕ) (line : List ℕ) (lines : List (List ℕ)) (gs : List Gif
 none_more n line lines [] none g = (none, g)
 none_more n line lines (x ∷ gs) none g = inl (none, g)
 
-too_long : (n : ℕ) → 32779 ≤ n → n ≤ 32778 → ⊥
+too_long : (n : ℕ) → 65536 ≤ n → n ≤ 32778 → ⊥
 too_long n least most = omega (arith, least, most)
 
 pub give_these : (n : ℕ) (lines : List (List ℕ)) (ws : List Word) (c : CameOfEach n lines ws) → n < 2 ^ 16 → GiveThese n lines (gifts_of n lines ws c)

@@ -3,10 +3,11 @@ use Rattle.std.specs.Prelude.{◌≡◌, ℕ, ◌<◌, ◌≤◌, List, [], ◌�
 use Rattle.gw_lines.specs.declared.found.Found.{Found}
 use Rattle.gw_lines.specs.declared.found.Found.TheVariants.{Whole, TooLong}
 
--- The most bytes that a line has before its line feed: the longest line that gives a payload to a sender has 32,778, which are five
--- digits, a blank and 16,386 bytes in hexadecimal, and a carriage return may stand behind them.
+-- The most bytes that a line has before its line feed. Of INPUT the longest line that gives a payload has 32,778: a sender of five digits, a
+-- blank and 16,386 bytes in hexadecimal. Of OUT the longest has 32,801: a word, a number of twenty digits, and that payload. Of a message's
+-- text it has a path, and a value of up to 16,384 bytes in hexadecimal. A carriage return may stand behind each.
 abbrev pub longest : ℕ
-longest = 32779
+longest = 65536
 
 -- no byte is a line feed (10)
 abbrev pub IsFeedless : List ℕ → Type 0

@@ -8,9 +8,9 @@ use std::alloc::{AllocError, Global};
 use std::marker::Model;
 use std::mem;
 
-/// The most bytes that a line has before its line feed: those of the longest line that gives a payload to a sender, and a carriage
-/// return.
-pub const LONGEST: usize = 32_779;
+/// The most bytes that a line has before its line feed, with its carriage return: a line of INPUT that gives a payload, a line of OUT, and
+/// a line of a message's text have fewer.
+pub const LONGEST: usize = 65_536;
 
 /// The front of a line, unless it is longer than a line may be.
 #[derive(Drop)]
@@ -27,7 +27,7 @@ impl Model for Front {
 
     ghost view = { λ f. if f.is_over then None else Some f.bytes.items };
 
-    ghost invariant = { λ f. (32779 ≤ vec_capacity f.bytes) × (length f.bytes.items ≤ 32779) };
+    ghost invariant = { λ f. (65536 ≤ vec_capacity f.bytes) × (length f.bytes.items ≤ 65536) };
 }
 
 impl Front {

@@ -38,7 +38,7 @@ impl Model for LineReader {
 
     ghost view = { λ r. record { number = r.number; line = r.line.items; front = r.front; waiting = slice_range r.piece.items r.at r.end } };
 
-    ghost invariant = { λ r. (32779 ≤ vec_capacity r.line) × (r.at ≤ r.end) × (r.end ≤ vec_len r.piece) × (vec_len r.piece ≡ 65536) };
+    ghost invariant = { λ r. (65536 ≤ vec_capacity r.line) × (r.at ≤ r.end) × (r.end ≤ vec_len r.piece) × (vec_len r.piece ≡ 65536) };
 }
 
 /// The bytes before the first line feed; none where there is no line feed.
