@@ -1,11 +1,11 @@
-//! The acceptor's session over recorded bytes. Each piece of input is framed and answered frame by frame, up to 16 for one
-//! reservation of memory; what was written for it is pushed before the next piece is read.
+//! The acceptor's session over recorded bytes. Each piece of input is framed, and its frames are handed to the session one by one, up to
+//! 16 for one reservation of memory; what was written for it is pushed before the next piece is read.
 
 ghost use Rattle.std.specs.Prelude.{◌≡◌, ℕ, ◌+◌, ◌<◌, ◌≤◌, ◌⊎◌, List, length, true, Option, IfOk, IfErr, OnOk, OnErr, Ok};
 ghost use Rattle.sofh_frame.specs.Framing.{rest, first_of};
 ghost use Rattle.fixp_shake.specs.declared.config.EndConfig.{EndConfig};
-ghost use Rattle.cmd_answer.specs.Answer.{acceptor_of, first_facts};
-ghost use Rattle.cmd_answer.specs.Progress.{AnswersOne, IsReady, replies_limit};
+ghost use Rattle.cmd_answer.specs.Answer.{acceptor_of};
+ghost use Rattle.cmd_answer.specs.Progress.{replies_limit};
 ghost use Rattle.std.specs.Io.KnownBytes.{Appends, Consumes};
 ghost use Rattle.gw_outside.specs.Faults.{HasRisen, TakesFront};
 ghost use Rattle.cmd_answer.specs.Answer.{status_of, status_at_rest, status_after};
@@ -15,17 +15,14 @@ ghost use Rattle.cmd_base.specs.Contents.{Content};
 ghost use Rattle.cmd_base.specs.Order.{HasGiven};
 ghost use Rattle.cmd_answer.specs.Promise.{Talks, IsIdle, AfterRound, KeepsPromise, IsConversationEnd, round_of};
 
-use crate::lines::push_line;
+use crate::frames::{answer_frame, open_end};
 use cmd_base::{Bad, Status, begin};
 use cmd_config::Settings;
-use fixp_end::{End, EndConfig, EndState, Ending, Flow, Role};
+use fixp_end::{End, EndConfig, Ending};
 use gw_outside::{Failed, Sink, Source, push_all};
-use sofh_frame::{FirstFrame, Framer, Order, ROOM};
+use sofh_frame::{FirstFrame, Framer, ROOM};
 use std::alloc::{AllocError, Global};
 use std::sync::Wait;
-
-/// The greatest number of an application message.
-const GREATEST_NUMBER: u64 = 1 << 24;
 
 /// Room for the lines of one piece of input, in bytes: at most four for each byte of the piece.
 const LINES: usize = 4 * ROOM;
@@ -62,65 +59,6 @@ pub enum Step {
     Ended,
 }
 
-/// The configuration of the acceptor.
-fn acceptor_config(settings: Settings) -> EndConfig
-    ensures { result ≡ acceptor_of settings }
-{
-    let Settings {
-        session,
-        keepalive,
-        credentials,
-        version,
-    } = settings;
-    EndConfig {
-        role: Role::Acceptor,
-        session,
-        own_flow: Flow::None,
-        peer_flow: Flow::Unsequenced,
-        keepalive,
-        credentials,
-        version,
-    }
-}
-
-/// What the journals of a new session record.
-fn new_session() -> EndState
-    ensures { result ≡ first_facts.recorded }
-{
-    EndState {
-        negotiated: false,
-        inbox_next: 1,
-        peer_last: None,
-        sent: 0,
-        finish: None,
-    }
-}
-
-/// Answers one frame, and adds its line.
-fn answer_frame(
-    end: &mut End,
-    lines: &mut Vec<u8>,
-    order: Order,
-    message: &[u8],
-    place: u64,
-) -> Result<(), AllocError>
-    requires least { 8 ≤ length message.now }
-    requires most { length message.now ≤ 16384 }
-    requires ready { IsReady end.old }
-    requires room { 0 < end.old.room }
-    requires output { length end.old.unsent ≤ 1000000 }
-    ensures answered { OnOk result (AnswersOne end.old end.new lines.old.items lines.new.items (record { order = order; message = message.now }) place) }
-    ensures small { OnOk result (length end.new.unsent ≤ length end.old.unsent + replies_limit 1) }
-{
-    end.windowed();
-    let act = end.on_frame(order, message, place, 0);
-    push_line(lines, act, order, message)?;
-    if act.is_record() {
-        end.did(0);
-    }
-    Ok(())
-}
-
 impl Acceptor {
     ghost use Rattle.cmd_answer.specs.Progress.{IsNew, IsOpen, Leaves, Halts, Stands, AnsweredAll, IsEmptied};
 
@@ -129,15 +67,8 @@ impl Acceptor {
         requires { IsInRange settings }
         ensures { IfOk result (IsNew (acceptor_of settings)) }
     {
-        let mut end = End::new(
-            alloc,
-            acceptor_config(settings),
-            new_session(),
-            GREATEST_NUMBER,
-        )?;
-        end.begin(0);
         Ok(Acceptor {
-            end,
+            end: open_end(alloc, settings)?,
             framer: Framer::new(alloc)?,
             lines: Vec::with_capacity(alloc, LINES)?,
             place: 0,

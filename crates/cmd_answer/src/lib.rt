@@ -4,8 +4,10 @@
 
 mod acceptor;
 mod command;
+mod frames;
 mod laws;
 mod lines;
 
 pub use command::answer;
+pub use frames::{answer_frame, open_end};
 pub use laws::one_answer;

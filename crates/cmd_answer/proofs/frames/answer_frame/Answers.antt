@@ -7,7 +7,7 @@ use Rattle.fixp_replies.specs.Replies.{reply_of}
 use Rattle.fixp_machine.specs.Machine.{State, around, reply_applied, held_with}
 use Rattle.cmd_answer.specs.Lines.{line_of}
 use Rattle.cmd_answer.proofs.Steps.{plain_holds}
-use Rattle.cmd_answer.proofs.acceptor.answer_frame.Goals as goal
+use Rattle.cmd_answer.proofs.frames.answer_frame.Goals as goal
 
 pub returns-else-is_record-clause-answered : goal.returns-else-is_record-clause-answered
 returns-else-is_record-clause-answered c =
