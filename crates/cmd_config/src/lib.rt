@@ -9,7 +9,9 @@ mod purpose;
 mod readers;
 mod settings;
 
-pub use configuration::{Configuration, Link, Trade, read_configuration, read_credentials};
+pub use configuration::{
+    Configuration, Link, Trade, read_configuration, read_credentials, read_table,
+};
 pub use fixp_shake::Role;
 pub use laws::{configurations_keep_the_role, unknown_key_is_least};
 pub use limits::{
