@@ -1,0 +1,7 @@
+//! Moments as dates and times of day: nanoseconds since 1970 in UTC, as text. Relies on std alone.
+#![tactic(auto)]
+
+mod calendar;
+mod text;
+
+pub use text::push_moment;
