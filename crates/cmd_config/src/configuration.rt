@@ -288,11 +288,7 @@ fn deny_others(alloc: Global, purpose: Purpose, keys: &Value) -> Result<(), Toml
 ///
 /// # Errors
 /// The first fault in the order in which its keys are visited; a condition on several keys is out of range at the later of them.
-pub fn read_table(
-    alloc: Global,
-    purpose: Purpose,
-    keys: &Value,
-) -> Result<Configuration, TomlFault>
+pub fn read_table(alloc: Global, purpose: Purpose, keys: &Value) -> Result<Configuration, TomlFault>
     ensures value { Reads result (configuration_of purpose (view keys.now)) }
     ensures link { IfOk result (λ c. IsLinkInRange c.link) }
     ensures trade { IfOk result (λ c. IsTradeInRange c.trade) }
