@@ -1,3 +1,4 @@
+pub mod Bits
 pub mod Fitting
 pub mod Made
 pub mod Numerals

@@ -28,7 +28,7 @@ use Rattle.sbe_grammar.specs.Reading.{Entry}
 use Rattle.sbe_text.specs.declared.token.Count.TheVariants as count
 use Rattle.text_words.specs.Lines.{lines_in, unreturned}
 use Rattle.sbe_text.specs.Read.{Read, next, taken, read_line, read_each}
-use Rattle.sbe_text.specs.Written.{is_plain, are_plain, quoted, raw_text, value_text, datum_text, element_line, before_in, lines_of_items, lines_of_data, lines_of_groups, lines_of_entries, message_line, end_line, lines_by, lines_of_message}
+use Rattle.sbe_text.specs.Written.{is_plain, are_plain, quoted, raw_text, value_text, datum_text, element_line, before_in, item_lines, lines_of_data, group_lines, entry_lines, message_line, end_line, message_lines, lines_of_message}
 use Rattle.sbe_text.specs.Tokens.{also, is_digit, are_digits, value_of, datum_of, count_of}
 use Rattle.sbe_text.specs.Reading.{read_element, read_item, read_datum, read_elements, entry_at, repeated, read_group, read_groups, named, layout_on, read_message, message_of_text}
 use Rattle.sbe_text.specs.Held.{are_bytes, is_number, is_item, are_items, is_datum, are_data, are_groups, are_blocks, is_message, is_word, items_have_words, data_have_words, groups_have_words, message_has_words, HaveOwnNames, HasWords}
@@ -131,16 +131,16 @@ element_back : {A : Type 0} (before name value rest : List ℕ) (made : List ℕ
 element_back before name value rest made x h k m e =
     rw (element_lined before name value rest h k m, value_on_joined before name value, e) refl
 
-items_back : (before : List ℕ) (is : List Item) (ps : List ItemPlan) (rest : List ℕ) → is_word before ≡ true → items_have_words ps ≡ true → fit_items is ps ≡ true → are_items is ≡ true → read_each (read_item before) ps (lines_in (lines_of_items before is ps ++ rest)) ≡ Ok (is, lines_in rest)
+items_back : (before : List ℕ) (is : List Item) (ps : List ItemPlan) (rest : List ℕ) → is_word before ≡ true → items_have_words ps ≡ true → fit_items is ps ≡ true → are_items is ≡ true → read_each (read_item before) ps (lines_in (item_lines [] before is ps ++ rest)) ≡ Ok (is, lines_in rest)
 items_back before [] [] rest w n f h = refl
 items_back before [] (p ∷ ps) rest w n f h = absurd (false≢true f)
 items_back before (i ∷ is) [] rest w n f h = absurd (false≢true f)
 items_back before (i ∷ is) (p ∷ ps) rest w n f h =
     let held = both_left (is_item i) (are_items is) h in
-    ap (λ text. read_each (read_item before) (p ∷ ps) (lines_in text)) (append_assoc (element_line before p.name (value_text i)) (lines_of_items before is ps) rest)
-    ∙ next_back (read_item before p (lines_in (element_line before p.name (value_text i) ++ (lines_of_items before is ps ++ rest)))) i (lines_in (lines_of_items before is ps ++ rest)) _ _
-    (element_back before p.name (value_text i) (lines_of_items before is ps ++ rest) (value_of (form_of p)) i w (both_left (is_word p.name) (items_have_words ps) n) (value_word i held) (value_back (form_of p) i (both_left (has_form (form_of p) i) (fit_items is ps) f) held))
-    (next_back (read_each (read_item before) ps (lines_in (lines_of_items before is ps ++ rest))) is (lines_in rest) _ _
+    ap (λ text. read_each (read_item before) (p ∷ ps) (lines_in text)) (append_assoc (element_line before p.name (value_text i)) (item_lines [] before is ps) rest)
+    ∙ next_back (read_item before p (lines_in (element_line before p.name (value_text i) ++ (item_lines [] before is ps ++ rest)))) i (lines_in (item_lines [] before is ps ++ rest)) _ _
+    (element_back before p.name (value_text i) (item_lines [] before is ps ++ rest) (value_of (form_of p)) i w (both_left (is_word p.name) (items_have_words ps) n) (value_word i held) (value_back (form_of p) i (both_left (has_form (form_of p) i) (fit_items is ps) f) held))
+    (next_back (read_each (read_item before) ps (lines_in (item_lines [] before is ps ++ rest))) is (lines_in rest) _ _
     (items_back before is ps rest w (both_right (is_word p.name) (items_have_words ps) n) (both_right (has_form (form_of p) i) (fit_items is ps) f) (both_right (is_item i) (are_items is) h))
     refl)
 
@@ -193,14 +193,14 @@ counts_equal : (vs : List Datum) (ds : List DataPlan) → fit_data vs ds ≡ tru
 counts_equal vs ds h = (Decides-eqb (length vs) (length ds)).0 h
 
 mutual
-  groups_back : (gs : GroupList) (ps : PlanTree) (before rest : List ℕ) → is_word before ≡ true → groups_have_words ps ≡ true → fit_groups gs ps ≡ true → are_groups gs ≡ true → read_groups before ps (lines_in (lines_of_groups before gs ps ++ rest)) ≡ Ok (gs, lines_in rest)
+  groups_back : (gs : GroupList) (ps : PlanTree) (before rest : List ℕ) → is_word before ≡ true → groups_have_words ps ≡ true → fit_groups gs ps ≡ true → are_groups gs ≡ true → read_groups before ps (lines_in (group_lines [] before gs ps ++ rest)) ≡ Ok (gs, lines_in rest)
   groups_back no_groups no_plans before rest w n f h = refl
   groups_back no_groups (plan g inner more) before rest w n f h = absurd (false≢true f)
   groups_back (absent gs) no_plans before rest w n f h = absurd (false≢true f)
   groups_back (absent gs) (plan g inner more) before rest w n f h =
       let words = group_words g inner more n in
-      let left = lines_of_groups before gs more ++ rest in
-      ap (λ text. read_groups before (plan g inner more) (lines_in text)) (append_assoc (element_line before g.name (codes "absent")) (lines_of_groups before gs more) rest)
+      let left = group_lines [] before gs more ++ rest in
+      ap (λ text. read_groups before (plan g inner more) (lines_in text)) (append_assoc (element_line before g.name (codes "absent")) (group_lines [] before gs more) rest)
       ∙ next_back (read_group before g (λ path. read_groups path inner) (lines_in (element_line before g.name (codes "absent") ++ left))) group.Absent (lines_in left) _ _
       (next_back (read_element before g.name count_of (lines_in (element_line before g.name (codes "absent") ++ left))) count.Absent (lines_in left) _ _ (element_back before g.name (codes "absent") left count_of count.Absent w words.name refl refl) refl)
       (next_back (read_groups before more (lines_in left)) gs (lines_in rest) _ _ (groups_back gs more before rest w words.others f h) refl)
@@ -210,9 +210,9 @@ mutual
       let many = both_left (nat_le (count_of_blocks bs) (2 ^ 127 - 1)) (are_blocks bs && are_groups gs) h in
       let held = both_right (nat_le (count_of_blocks bs) (2 ^ 127 - 1)) (are_blocks bs && are_groups gs) h in
       let small : count_of_blocks bs ≤ 2 ^ 127 - 1 = at_most_of (count_of_blocks bs) (2 ^ 127 - 1) many in
-      let left = lines_of_groups before gs more ++ rest in
-      let behind_line = lines_of_entries before 0 bs g inner ++ left in
-      ap (λ text. read_groups before (plan g inner more) (lines_in text)) (three (element_line before g.name (decimal (count_of_blocks bs))) (lines_of_entries before 0 bs g inner) (lines_of_groups before gs more) rest)
+      let left = group_lines [] before gs more ++ rest in
+      let behind_line = entry_lines [] before 0 bs g inner ++ left in
+      ap (λ text. read_groups before (plan g inner more) (lines_in text)) (three (element_line before g.name (decimal (count_of_blocks bs))) (entry_lines [] before 0 bs g inner) (group_lines [] before gs more) rest)
       ∙ next_back (read_group before g (λ path. read_groups path inner) (lines_in (element_line before g.name (decimal (count_of_blocks bs)) ++ behind_line))) (group.Entries bs) (lines_in left) _ _
       (next_back (read_element before g.name count_of (lines_in (element_line before g.name (decimal (count_of_blocks bs)) ++ behind_line))) (count.Entries (count_of_blocks bs)) (lines_in behind_line) _ _
       (element_back before g.name (decimal (count_of_blocks bs)) behind_line count_of (count.Entries (count_of_blocks bs)) w words.name (decimal_word (count_of_blocks bs) (omega arith)) (count_back (count_of_blocks bs) many))
@@ -221,7 +221,7 @@ mutual
       refl))
       (next_back (read_groups before more (lines_in left)) gs (lines_in rest) _ _ (groups_back gs more before rest w words.others (both_right (fit_entries bs g inner) (fit_groups gs more) f) (both_right (are_blocks bs) (are_groups gs) held)) refl)
 
-  entries_back : (bs : BlockList) (g : PlanHead) (inner : PlanTree) (before rest : List ℕ) (at : ℕ) → at + count_of_blocks bs < 10 ^ 64 → is_word before ≡ true → is_word g.name ≡ true → items_have_words g.items ≡ true → groups_have_words inner ≡ true → data_have_words g.vars ≡ true → fit_entries bs g inner ≡ true → are_blocks bs ≡ true → repeated (count_of_blocks bs) at (entry_at before g (λ path. read_groups path inner)) (lines_in (lines_of_entries before at bs g inner ++ rest)) ≡ Ok (bs, lines_in rest)
+  entries_back : (bs : BlockList) (g : PlanHead) (inner : PlanTree) (before rest : List ℕ) (at : ℕ) → at + count_of_blocks bs < 10 ^ 64 → is_word before ≡ true → is_word g.name ≡ true → items_have_words g.items ≡ true → groups_have_words inner ≡ true → data_have_words g.vars ≡ true → fit_entries bs g inner ≡ true → are_blocks bs ≡ true → repeated (count_of_blocks bs) at (entry_at before g (λ path. read_groups path inner)) (lines_in (entry_lines [] before at bs g inner ++ rest)) ≡ Ok (bs, lines_in rest)
   entries_back no_blocks g inner before rest at p w n ni ng nv f h = refl
   entries_back (block items gs vars bs) g inner before rest at p w n ni ng nv f h =
       let path = before_in before g at in
@@ -230,15 +230,15 @@ mutual
       let f2 = both_right (fit_groups gs inner) _ f1 in
       let h1 = both_right (are_items items) _ h in
       let h2 = both_right (are_groups gs) _ h1 in
-      let later = lines_of_entries before (at + 1) bs g inner ++ rest in
+      let later = entry_lines [] before (at + 1) bs g inner ++ rest in
       let others = lines_of_data path vars g.vars ++ later in
-      let inside = lines_of_groups path gs inner ++ others in
+      let inside = group_lines [] path gs inner ++ others in
       let one : count_of_blocks (block items gs vars bs) ≡ suc (count_of_blocks bs) = omega arith in
       let read : ℕ → List (List ℕ) → Read Entry = entry_at before g (λ inner_path. read_groups inner_path inner) in
-      ap (λ n. repeated n at read (lines_in (lines_of_entries before at (block items gs vars bs) g inner ++ rest))) one
-      ∙ ap (λ text. repeated (suc (count_of_blocks bs)) at read (lines_in text)) (four (lines_of_items path items g.items) (lines_of_groups path gs inner) (lines_of_data path vars g.vars) (lines_of_entries before (at + 1) bs g inner) rest)
-      ∙ next_back (read at (lines_in (lines_of_items path items g.items ++ inside))) (record { items = items; groups = gs; vars = vars }) (lines_in later) _ _
-      (next_back (read_each (read_item path) g.items (lines_in (lines_of_items path items g.items ++ inside))) items (lines_in inside) _ _ (items_back path items g.items inside word ni (both_left (fit_items items g.items) _ f) (both_left (are_items items) _ h))
+      ap (λ n. repeated n at read (lines_in (entry_lines [] before at (block items gs vars bs) g inner ++ rest))) one
+      ∙ ap (λ text. repeated (suc (count_of_blocks bs)) at read (lines_in text)) (four (item_lines [] path items g.items) (group_lines [] path gs inner) (lines_of_data path vars g.vars) (entry_lines [] before (at + 1) bs g inner) rest)
+      ∙ next_back (read at (lines_in (item_lines [] path items g.items ++ inside))) (record { items = items; groups = gs; vars = vars }) (lines_in later) _ _
+      (next_back (read_each (read_item path) g.items (lines_in (item_lines [] path items g.items ++ inside))) items (lines_in inside) _ _ (items_back path items g.items inside word ni (both_left (fit_items items g.items) _ f) (both_left (are_items items) _ h))
       (next_back (read_groups path inner (lines_in inside)) gs (lines_in others) _ _ (groups_back gs inner path others word ng (both_left (fit_groups gs inner) _ f1) (both_left (are_groups gs) _ h1))
       (next_back (read_each (read_datum path) g.vars (lines_in others)) vars (lines_in later) _ _ (data_back path vars g.vars later word nv (counts_equal vars g.vars (both_left (fit_data vars g.vars) _ f2)) (both_left (are_data vars) _ h2))
       refl)))
@@ -274,7 +274,7 @@ named_back t (m ∷ ms) l own e =
 five : (a b c d e : List ℕ) → a ++ b ++ c ++ d ++ e ≡ a ++ (b ++ (c ++ (d ++ e)))
 five a b c d e = simp append_assoc
 
-message_back : (schema : Plan) (m : Message) (l : MessagePlan) → HasWords schema → message_of m.template schema.messages ≡ Some l → fits_layout m l ≡ true → is_message m ≡ true → read_message schema.messages (lines_in (lines_by m (Some l))) ≡ Ok (m, [])
+message_back : (schema : Plan) (m : Message) (l : MessagePlan) → HasWords schema → message_of m.template schema.messages ≡ Some l → fits_layout m l ≡ true → is_message m ≡ true → read_message schema.messages (lines_in (message_lines [] m (Some l))) ≡ Ok (m, [])
 message_back schema m l words found f h =
     let template : l.template ≡ m.template = layout_found m.template schema.messages l found in
     let own : message_of l.template schema.messages ≡ Some l = ap (λ t. message_of t schema.messages) template ∙ found in
@@ -285,14 +285,14 @@ message_back schema m l words found f h =
     let f1 = both_right (fit_items m.root.items l.root.items) _ f in
     let h1 = both_right (are_items m.root.items) _ h in
     let others = lines_of_data [] m.root.vars l.root.vars ++ end_line in
-    let inside = lines_of_groups [] m.root.groups l.root.groups ++ others in
-    let body = lines_of_items [] m.root.items l.root.items ++ inside in
+    let inside = group_lines [] [] m.root.groups l.root.groups ++ others in
+    let body = item_lines [] [] m.root.items l.root.items ++ inside in
     let first : lines_in (message_line l.name ++ body) ≡ (codes "message " ++ l.name) ∷ lines_in body = ap lines_in (append_assoc (codes "message " ++ l.name) (10 ∷ []) body) ∙ line_back (codes "message " ++ l.name) body (both_left (is_word l.name) _ w) in
     let line_is : layout_on schema.messages (codes "message " ++ l.name) ≡ Some l =
     ap (λ o. also (also o (named schema.messages)) (λ x. message_of x.template schema.messages)) (behind_joined (codes "message ") l.name)
     ∙ ap (λ o. also o (λ x. message_of x.template schema.messages)) named_is
     ∙ own in
-    ap (λ text. read_message schema.messages (lines_in text)) (five (message_line l.name) (lines_of_items [] m.root.items l.root.items) (lines_of_groups [] m.root.groups l.root.groups) (lines_of_data [] m.root.vars l.root.vars) end_line)
+    ap (λ text. read_message schema.messages (lines_in text)) (five (message_line l.name) (item_lines [] [] m.root.items l.root.items) (group_lines [] [] m.root.groups l.root.groups) (lines_of_data [] m.root.vars l.root.vars) end_line)
     ∙ next_back (read_line (layout_on schema.messages) (lines_in (message_line l.name ++ body))) l (lines_in body) _ _
     (ap (read_line (layout_on schema.messages)) first ∙ ap (λ o. taken (length ((codes "message " ++ l.name) ∷ lines_in body)) o (lines_in body)) line_is)
     (next_back (read_elements [] l.root.items (read_groups [] l.root.groups) l.root.vars (lines_in body)) (record { items = m.root.items; groups = m.root.groups; vars = m.root.vars }) (lines_in end_line) _ _
@@ -305,6 +305,6 @@ message_back schema m l words found f h =
 -- the message of the lines that are printed is the one that was printed
 pub printed_back : (schema : Plan) (m : Message) → Fits schema m → HasWords schema → is_message m ≡ true → message_of_text schema (lines_of_message schema m) ≡ Ok m
 printed_back schema m fit words h =
-    let text : lines_of_message schema m ≡ lines_by m (Some fit.layout) = ap (lines_by m) (sym fit.found) in
+    let text : lines_of_message schema m ≡ message_lines [] m (Some fit.layout) = ap (message_lines [] m) (sym fit.found) in
     let read : read_message schema.messages (lines_in (lines_of_message schema m)) ≡ Ok (m, []) = ap (λ t. read_message schema.messages (lines_in t)) text ∙ message_back schema m fit.layout words (sym fit.found) fit.fits h in
     rw read refl

@@ -3,4 +3,5 @@ pub mod Held
 pub mod Read
 pub mod Reading
 pub mod Tokens
+pub mod Named
 pub mod Written

@@ -1,4 +1,5 @@
--- The lines of a message (this project's profile): its name, its elements in schema order, and the line `end`.
+-- The lines of a message (this project's profile): its name, its elements in schema order, and the line `end`. Where the listings of its schema are
+-- given, numbers of enums and sets stand with their names; without listings no number has one.
 use Rattle.std.specs.Prelude.{ℕ, ◌+◌, ◌==◌, ◌&&◌, nat_le, Bool, true, not, if◌then◌else◌, Option, Some, None, List, [], ◌∷◌, ◌++◌, codes, decimal}
 use Rattle.std.specs.Fmt.{signed_decimal}
 use Rattle.hex.specs.Hex.{encode_lower}
@@ -9,11 +10,13 @@ use Rattle.sbe_value.specs.declared.datum.Datum.TheVariants as datum
 use Rattle.sbe_value.specs.declared.message.Message.{Message}
 use Rattle.sbe_value.specs.Trees.{GroupList, BlockList, no_groups, absent, entries, no_blocks, block, count_of_blocks}
 use Rattle.sbe_layout.specs.declared.items.ItemPlan.{ItemPlan}
+use Rattle.sbe_layout.specs.declared.listings.Listing.{Listing}
 use Rattle.sbe_layout.specs.declared.items.DataPlan.{DataPlan}
 use Rattle.sbe_layout.specs.declared.plan.MessagePlan.{MessagePlan}
 use Rattle.sbe_layout.specs.declared.plan.Plan.{Plan}
 use Rattle.sbe_layout.specs.Trees.{PlanHead, PlanTree, no_plans, plan}
 use Rattle.sbe_layout.specs.Plans.{message_of}
+use Rattle.sbe_text.specs.Named.{names_of}
 
 -- ---- values
 
@@ -50,16 +53,20 @@ datum_text (datum.Present bytes) = raw_text bytes
 abbrev pub element_line : List ℕ → List ℕ → List ℕ → List ℕ
 element_line before name value = before ++ name ++ codes " = " ++ value ++ 10 ∷ []
 
+-- the line of an item: its value, and what that is called
+abbrev pub item_line : List Listing → List ℕ → ItemPlan → Item → List ℕ
+item_line listings before p i = before ++ p.name ++ codes " = " ++ value_text i ++ (names_of listings p.kind i ++ 10 ∷ [])
+
 -- what stands before the names in an entry: the group's path, the entry's place in brackets (91 and 93), a dot (46)
 abbrev pub before_in : List ℕ → PlanHead → ℕ → List ℕ
 before_in before g at = before ++ g.name ++ 91 ∷ decimal at ++ 93 ∷ 46 ∷ []
 
 -- ---- the elements of a block: its items, its groups, its data
 
-abbrev pub lines_of_items : List ℕ → List Item → List ItemPlan → List ℕ
-lines_of_items before is [] = []
-lines_of_items before [] (p ∷ ps) = []
-lines_of_items before (i ∷ is) (p ∷ ps) = element_line before p.name (value_text i) ++ lines_of_items before is ps
+abbrev pub item_lines : List Listing → List ℕ → List Item → List ItemPlan → List ℕ
+item_lines listings before is [] = []
+item_lines listings before [] (p ∷ ps) = []
+item_lines listings before (i ∷ is) (p ∷ ps) = item_line listings before p i ++ item_lines listings before is ps
 
 abbrev pub lines_of_data : List ℕ → List Datum → List DataPlan → List ℕ
 lines_of_data before vs [] = []
@@ -68,19 +75,19 @@ lines_of_data before (v ∷ vs) (d ∷ ds) = element_line before d.name (datum_t
 
 abbrev mutual
   -- each group's line has the number of its entries, and their elements follow it
-  pub lines_of_groups : List ℕ → GroupList → PlanTree → List ℕ
-  lines_of_groups before gs no_plans = []
-  lines_of_groups before no_groups (plan g inner rest) = []
-  lines_of_groups before (absent gs) (plan g inner rest) = element_line before g.name (codes "absent") ++ lines_of_groups before gs rest
-  lines_of_groups before (entries bs gs) (plan g inner rest) =
-      element_line before g.name (decimal (count_of_blocks bs)) ++ lines_of_entries before 0 bs g inner ++ lines_of_groups before gs rest
+  pub group_lines : List Listing → List ℕ → GroupList → PlanTree → List ℕ
+  group_lines listings before gs no_plans = []
+  group_lines listings before no_groups (plan g inner rest) = []
+  group_lines listings before (absent gs) (plan g inner rest) = element_line before g.name (codes "absent") ++ group_lines listings before gs rest
+  group_lines listings before (entries bs gs) (plan g inner rest) =
+      element_line before g.name (decimal (count_of_blocks bs)) ++ entry_lines listings before 0 bs g inner ++ group_lines listings before gs rest
 
   -- the elements of each entry, the first of them at the place `at`
-  pub lines_of_entries : List ℕ → ℕ → BlockList → PlanHead → PlanTree → List ℕ
-  lines_of_entries before at no_blocks g inner = []
-  lines_of_entries before at (block items gs vars bs) g inner =
-      lines_of_items (before_in before g at) items g.items ++ lines_of_groups (before_in before g at) gs inner
-      ++ lines_of_data (before_in before g at) vars g.vars ++ lines_of_entries before (at + 1) bs g inner
+  pub entry_lines : List Listing → List ℕ → ℕ → BlockList → PlanHead → PlanTree → List ℕ
+  entry_lines listings before at no_blocks g inner = []
+  entry_lines listings before at (block items gs vars bs) g inner =
+      item_lines listings (before_in before g at) items g.items ++ group_lines listings (before_in before g at) gs inner
+      ++ lines_of_data (before_in before g at) vars g.vars ++ entry_lines listings before (at + 1) bs g inner
 
 -- ---- messages
 
@@ -91,12 +98,16 @@ abbrev pub end_line : List ℕ
 end_line = codes "end\n"
 
 -- nothing stands before the names in the root block
-abbrev pub lines_by : Message → Option MessagePlan → List ℕ
-lines_by m None = []
-lines_by m (Some layout) =
-    message_line layout.name ++ lines_of_items [] m.root.items layout.root.items ++ lines_of_groups [] m.root.groups layout.root.groups
+abbrev pub message_lines : List Listing → Message → Option MessagePlan → List ℕ
+message_lines listings m None = []
+message_lines listings m (Some layout) =
+    message_line layout.name ++ item_lines listings [] m.root.items layout.root.items ++ group_lines listings [] m.root.groups layout.root.groups
     ++ lines_of_data [] m.root.vars layout.root.vars ++ end_line
 
--- the lines of a message by the plan of its schema
+-- the lines of a message by the plan of its schema, its numbers without names
 abbrev pub lines_of_message : Plan → Message → List ℕ
-lines_of_message schema m = lines_by m (message_of m.template schema.messages)
+lines_of_message schema m = message_lines [] m (message_of m.template schema.messages)
+
+-- and with names
+abbrev pub named_lines_of_message : Plan → Message → List ℕ
+named_lines_of_message schema m = message_lines schema.listings m (message_of m.template schema.messages)

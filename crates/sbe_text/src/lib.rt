@@ -5,6 +5,7 @@
 
 mod error;
 mod laws;
+mod names;
 mod parse;
 mod path;
 mod print;
@@ -16,5 +17,5 @@ pub use error::{Refusal, TextError};
 pub use laws::printed_reads_back;
 pub use parse::{first_message, next_message, parse_message, refused_line};
 pub use path::names_begin;
-pub use print::{print_message, write_lines};
+pub use print::{print_message, write_lines, write_named_lines};
 pub use spare::Spare;

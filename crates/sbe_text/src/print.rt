@@ -1,16 +1,19 @@
 //! The lines of a message. All are written straight into one text. What stands before
 //! the names of an entry, its path and a dot, is made once an entry, in room that all entries of its group share.
+//! Numbers stand with their names where the listings of the schema are given, and without listings alone.
 
 ghost use Rattle.std.specs.Prelude.{◌≡◌, [], ◌∷◌, ◌++◌, codes, decimal, IfOk, OnOk};
 ghost use Rattle.sbe_value.specs.Trees.{count_of_blocks};
 ghost use Rattle.sbe_value.specs.Views.{groups_of};
+ghost use Rattle.sbe_layout.specs.Plans.{message_of};
 ghost use Rattle.sbe_layout.specs.Views.{head_of, plans_of};
 ghost use Rattle.sbe_grammar.specs.Fits.{Fits};
-ghost use Rattle.sbe_text.specs.Written.{value_text, datum_text, element_line, before_in, lines_of_items, lines_of_data, lines_of_groups, lines_of_entries, message_line, lines_of_message};
+ghost use Rattle.sbe_text.specs.Written.{datum_text, element_line, before_in, item_line, item_lines, lines_of_data, group_lines, entry_lines, message_line, message_lines, lines_of_message, named_lines_of_message};
 
+use crate::names::write_names;
 use crate::path::begin_names;
 use crate::values::{write_datum, write_natural, write_value};
-use sbe_layout::{BlockPlan, DataPlan, GroupPlan, ItemPlan, Plan};
+use sbe_layout::{BlockPlan, DataPlan, GroupPlan, ItemPlan, Listing, Plan};
 use sbe_value::{Block, Blocks, Bytes, Datum, Group, Item, Lines, Message};
 use std::alloc::{AllocError, Global};
 
@@ -38,11 +41,38 @@ pub fn write_lines(
     requires fits { Fits plan.now message.now }
     ensures lines { OnOk result (lines.new.items ≡ lines.old.items ++ lines_of_message plan.now message.now) }
 {
+    write_message(alloc, plan, &[], message, lines)
+}
+
+/// Adds these lines with names: ` NAME` behind the number of an enum, and behind that of a set one for each bit that is set.
+pub fn write_named_lines(
+    alloc: Global,
+    plan: &Plan,
+    message: &Message,
+    lines: &mut Vec<u8>,
+) -> Result<(), AllocError>
+    requires fits { Fits plan.now message.now }
+    ensures lines { OnOk result (lines.new.items ≡ lines.old.items ++ named_lines_of_message plan.now message.now) }
+{
+    write_message(alloc, plan, plan.listings.as_slice(), message, lines)
+}
+
+// Writes the lines of a message.
+fn write_message(
+    alloc: Global,
+    plan: &Plan,
+    listings: &[Listing],
+    message: &Message,
+    lines: &mut Vec<u8>,
+) -> Result<(), AllocError>
+    requires fits { Fits plan.now message.now }
+    ensures { OnOk result (lines.new.items ≡ lines.old.items ++ message_lines listings.now message.now (message_of message.now.template plan.now.messages)) }
+{
     let Some(layout) = plan.messages.find(message.template) else {
         unreachable!()
     };
     write_name(layout.name.as_slice(), lines)?;
-    write_block(alloc, b"", &layout.root, &message.root, lines)?;
+    write_block(alloc, listings, b"", &layout.root, &message.root, lines)?;
     lines.extend_from_slice(b"end\n")
 }
 
@@ -59,19 +89,27 @@ fn write_name(name: &[u8], lines: &mut Vec<u8>) -> Result<(), AllocError>
 #[cycle(blocks)]
 fn write_block(
     alloc: Global,
+    listings: &[Listing],
     before: &[u8],
     plan: &BlockPlan,
     block: &Block,
     lines: &mut Vec<u8>,
 ) -> Result<(), AllocError>
     ensures { OnOk result (lines.new.items ≡ lines.old.items
-        ++ lines_of_items before.now block.now.items plan.now.items
-        ++ lines_of_groups before.now block.now.groups plan.now.groups
+        ++ item_lines listings.now before.now block.now.items plan.now.items
+        ++ group_lines listings.now before.now block.now.groups plan.now.groups
         ++ lines_of_data before.now block.now.vars plan.now.vars) }
 {
-    write_items(before, plan.items.as_slice(), block.items.as_slice(), lines)?;
+    write_items(
+        listings,
+        before,
+        plan.items.as_slice(),
+        block.items.as_slice(),
+        lines,
+    )?;
     write_groups(
         alloc,
+        listings,
         before,
         plan.groups.as_slice(),
         block.groups.as_slice(),
@@ -81,34 +119,37 @@ fn write_block(
 }
 
 fn write_items(
+    listings: &[Listing],
     before: &[u8],
     plans: &[ItemPlan],
     items: &[Item],
     lines: &mut Vec<u8>,
 ) -> Result<(), AllocError>
-    ensures { OnOk result (lines.new.items ≡ lines.old.items ++ lines_of_items before.now items.now plans.now) }
+    ensures { OnOk result (lines.new.items ≡ lines.old.items ++ item_lines listings.now before.now items.now plans.now) }
 {
     let mut left = items;
     for plan in plans {
         let [item, others @ ..] = left else {
             return Ok(());
         };
-        write_item(before, plan, item, lines)?;
+        write_item(listings, before, plan, item, lines)?;
         left = others;
     }
     Ok(())
 }
 
 fn write_item(
+    listings: &[Listing],
     before: &[u8],
     plan: &ItemPlan,
     item: &Item,
     lines: &mut Vec<u8>,
 ) -> Result<(), AllocError>
-    ensures { OnOk result (lines.new.items ≡ lines.old.items ++ element_line before.now plan.now.name (value_text item.now)) }
+    ensures { OnOk result (lines.new.items ≡ lines.old.items ++ item_line listings.now before.now plan.now item.now) }
 {
     write_path(before, &plan.name, lines)?;
     write_value(item, lines)?;
+    write_names(listings, plan.kind, item, lines)?;
     lines.extend_from_slice(b"\n")
 }
 
@@ -146,12 +187,13 @@ fn write_data(
 #[cycle(blocks)]
 fn write_groups(
     alloc: Global,
+    listings: &[Listing],
     before: &[u8],
     plans: &[GroupPlan],
     groups: &[Group],
     lines: &mut Vec<u8>,
 ) -> Result<(), AllocError>
-    ensures { OnOk result (lines.new.items ≡ lines.old.items ++ lines_of_groups before.now (groups_of groups.now) (plans_of plans.now)) }
+    ensures { OnOk result (lines.new.items ≡ lines.old.items ++ group_lines listings.now before.now (groups_of groups.now) (plans_of plans.now)) }
 {
     let mut left = groups;
     for g in plans {
@@ -161,7 +203,7 @@ fn write_groups(
         write_path(before, &g.name, lines)?;
         match group {
             Group::Absent => lines.extend_from_slice(b"absent\n")?,
-            Group::Entries(blocks) => write_entries(alloc, before, g, blocks, lines)?,
+            Group::Entries(blocks) => write_entries(alloc, listings, before, g, blocks, lines)?,
         }
         left = others;
     }
@@ -172,6 +214,7 @@ fn write_groups(
 #[cycle(blocks)]
 fn write_entries(
     alloc: Global,
+    listings: &[Listing],
     before: &[u8],
     g: &GroupPlan,
     blocks: &Blocks,
@@ -179,13 +222,13 @@ fn write_entries(
 ) -> Result<(), AllocError>
     ensures { OnOk result (lines.new.items ≡ lines.old.items
         ++ decimal (count_of_blocks blocks.now) ++ 10 ∷ []
-        ++ lines_of_entries before.now 0 blocks.now (head_of g.now) g.now.block.groups) }
+        ++ entry_lines listings.now before.now 0 blocks.now (head_of g.now) g.now.block.groups) }
 {
     write_count(blocks.len(), lines)?;
     let mut inner = Vec::new(alloc);
     for (at, block) in blocks.as_slice().iter().enumerate() {
         begin_names(before, g, at as u128, &mut inner)?;
-        write_block(alloc, inner.as_slice(), &g.block, block, lines)?;
+        write_block(alloc, listings, inner.as_slice(), &g.block, block, lines)?;
     }
     Ok(())
 }
