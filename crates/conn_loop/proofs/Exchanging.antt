@@ -1,6 +1,6 @@
 -- A turn's receive, work and sending, put together.
 use Rattle.std.proofs.Common.{◌≡◌, inl, inr, ⊎_elim, ◌+◌, ◌<◌, ℕ, Bool, true, false, List, [], ◌++◌, ◌≤◌, length, Option, Some, None, Result, Ok, Err, refl, sym, ap, subst, ◌∙◌, arith, append-nil, true≢false}
-use Rattle.std.specs.Prelude.{IsSome, ◌⊎◌, ◌≢◌, OnOk, IfOk, IfErr}
+use Rattle.std.specs.Prelude.{IsSome, ◌⊎◌, ◌==◌, ◌&&◌, ◌||◌, not, nat_le, OnOk, IfOk, IfErr}
 use Rattle.gw_links.specs.Links.{LinkTold, Carried, Moved}
 use Rattle.gw_links.specs.declared.link.Got.{Got}
 use Rattle.gw_links.proofs.Moving.{moved_more}
@@ -16,7 +16,7 @@ use Rattle.conn_turns.specs.declared.answer.TurnEnd.TheVariants as ends
 use Rattle.conn_turns.specs.Lines.{Line}
 use Rattle.conn_turns.specs.Frames.{added, told}
 use Rattle.conn_turns.specs.Turns.{Work}
-use Rattle.conn_turns.specs.Exact.{Served, line_ticked}
+use Rattle.conn_turns.specs.Exact.{Served, receives, most_unsent, line_ticked}
 use Rattle.conn_steps.specs.Settling.{Gains}
 use Rattle.fixp_shake.specs.Flows.{is_absent}
 use Rattle.fixp_shake.specs.declared.config.EndConfig.{EndConfig}
@@ -88,19 +88,30 @@ goes_still now old l new g limit begun done drained untold moment config facts s
   credentials = omega (arith, ap (λ (x : EndConfig). length x.credentials) (k.config ∙ config), g.credentials);
 }
 
+-- where nothing is unsent an end receives, and no output waits
+idle_receives : (l : Line) → l.machine.unsent ≡ [] → receives l ≡ true
+idle_receives l idle = ap (λ (bytes : List ℕ). (length bytes == 0) || (l.waits && nat_le (length bytes) most_unsent)) idle
+
+idle_waits : (waits : Bool) (unsent : List ℕ) → unsent ≡ [] → (waits && not (length unsent == 0)) ≡ false
+idle_waits waits unsent idle = ap (λ (bytes : List ℕ). waits && not (length bytes == 0)) idle ∙ none waits
+  where
+    none : (b : Bool) → (b && false) ≡ false
+    none true = refl
+    none false = refl
+
 -- a turn that only sent does not look; where it goes on, something was unsent
-pub no_look : (m n : State) (p : Part) (r : Result TurnEnd TurnFault) → (m.unsent ≢ []) ⊎ IsSome n.ending → (r ≡ Ok ends.Go → n.ending ≡ None) → HasLooked m p p r
-no_look m n p r why goes = record {
+pub no_look : (l : Line) (n : State) (p : Part) (r : Result TurnEnd TurnFault) → (receives l ≡ false) ⊎ IsSome n.ending → (r ≡ Ok ends.Go → n.ending ≡ None) → HasLooked l.machine p p r
+no_look l n p r why goes = record {
   most = omega arith;
-  least = λ e idle flow. absurd (⊎_elim (λ some. some idle) (λ ended. true≢false (sym (subst (λ (o : Option Ending). IsSome o) (goes e) ended))) why);
+  least = λ e idle flow. absurd (⊎_elim (λ none. true≢false (sym (idle_receives l idle) ∙ none)) (λ ended. true≢false (sym (subst (λ (o : Option Ending). IsSome o) (goes e) ended))) why);
 }
 
 -- it looks as its exchange does, whose machine is of the same configuration
-pub looked_on : (m n : State) (p q : Part) (r : Result TurnEnd TurnFault) → n.config ≡ m.config → q.turns ≤ p.turns + 2
-    → (r ≡ Ok ends.Go → is_absent n.config.own_flow ≡ false → p.turns < q.turns) → HasLooked m p q r
-looked_on m n p q r config most least = record {
+pub looked_on : (l : Line) (n : State) (waits : Bool) (p q : Part) (r : Result TurnEnd TurnFault) → waits ≡ (l.waits && not (length l.machine.unsent == 0)) → n.config ≡ l.machine.config → q.turns ≤ p.turns + 2
+    → (r ≡ Ok ends.Go → waits ≡ false → is_absent n.config.own_flow ≡ false → p.turns < q.turns) → HasLooked l.machine p q r
+looked_on l n waits p q r is config most least = record {
   most = most;
-  least = λ e idle flow. least e (ap (λ (x : EndConfig). is_absent x.own_flow) config ∙ flow);
+  least = λ e idle flow. least e (is ∙ idle_waits l.waits l.machine.unsent idle) (ap (λ (x : EndConfig). is_absent x.own_flow) config ∙ flow);
 }
 
 module _ {J : Type 0} {G : Ghosts J} where
@@ -138,6 +149,8 @@ module _ {J : Type 0} {G : Ghosts J} where
           held = s.held;
           place = s.place;
           over = s.over;
+          serves = s.serves;
+          waits = s.waits;
         };
         front = z.front;
         whole = z.whole;
@@ -168,11 +181,11 @@ module _ {J : Type 0} {G : Ghosts J} where
       inl (refl, λ i. record { told = told i; carried = carried i; seen = seen i; line = line i; box = box i; news = news i })
 
   pub only_sent : (tells : Type 0) (now n : ℕ) (eager : Bool) (old new : EndAt J G) (l : Line) (result : Result TurnEnd TurnFault) → now ≡ n → l ≡ line_ticked old.line now
-      → (old.line.machine.unsent ≢ []) ⊎ IsSome l.machine.ending → SentOnce old.told new.told old.carried new.carried l new.line result
+      → (receives old.line ≡ false) ⊎ IsSome l.machine.ending → SentOnce old.told new.told old.carried new.carried l new.line result
       → new.box ≡ old.box → new.news ≡ old.news → new.seen ≡ old.seen → DidTurn tells n eager old new result
   only_sent tells now n eager old new l result is ticks why sent box news seen = inl (record {
-    why = subst (λ (k : ℕ). (old.line.machine.unsent ≢ []) ⊎ IsSome (line_ticked old.line k).machine.ending) is
-        (subst (λ (x : Line). (old.line.machine.unsent ≢ []) ⊎ IsSome x.machine.ending) ticks why);
+    why = subst (λ (k : ℕ). (receives old.line ≡ false) ⊎ IsSome (line_ticked old.line k).machine.ending) is
+        (subst (λ (x : Line). (receives old.line ≡ false) ⊎ IsSome x.machine.ending) ticks why);
     sent = subst (λ (k : ℕ). SentOnce old.told new.told old.carried new.carried (line_ticked old.line k) new.line result) is
         (subst (λ (x : Line). SentOnce old.told new.told old.carried new.carried x new.line result) ticks sent);
     same_box = box;
@@ -181,10 +194,10 @@ module _ {J : Type 0} {G : Ghosts J} where
   })
 
   pub did_more : (tells : Type 0) (now n : ℕ) (eager : Bool) (old new : EndAt J G) (l : Line) (news : List NewsItem) (result : Result TurnEnd TurnFault) → now ≡ n → l ≡ line_ticked old.line now
-      → old.line.machine.unsent ≡ [] → l.machine.ending ≡ None → news ≡ old.news → Exchanged tells now eager (record old { line = l; news = news }) new result
+      → receives old.line ≡ true → l.machine.ending ≡ None → news ≡ old.news → Exchanged tells now eager (record old { line = l; news = news }) new result
       → DidTurn tells n eager old new result
-  did_more tells now n eager old new l news result is ticks idle goes none x = inr (record {
-    idle = idle;
+  did_more tells now n eager old new l news result is ticks little goes none x = inr (record {
+    little = little;
     unended = subst (λ (k : ℕ). (line_ticked old.line k).machine.ending ≡ None) is (subst (λ (y : Line). y.machine.ending ≡ None) ticks goes);
     exchanged = subst (λ (k : ℕ). Exchanged tells k eager (record old { line = line_ticked old.line k }) new result) is
         (subst (λ (y : Line). Exchanged tells now eager (record old { line = y }) new result) ticks
@@ -192,11 +205,11 @@ module _ {J : Type 0} {G : Ghosts J} where
   })
 
   pub cut_as : (now n : ℕ) (eager : Bool) (old new : EndAt J G) (l : Line) (news : List NewsItem) (r : Result TurnEnd TurnFault) → now ≡ n → l ≡ line_ticked old.line now
-      → old.line.machine.unsent ≡ [] → l.machine.ending ≡ None → news ≡ old.news
+      → receives old.line ≡ true → l.machine.ending ≡ None → news ≡ old.news
       → IfErr r (λ fault. (fault ≡ faults.Link → ⊥) → CutWork now eager (record old { line = l; news = news }) new fault) → IfErr r (λ fault. (fault ≡ faults.Link → ⊥) → CutTurn n eager old new fault)
-  cut_as now n eager old new l news (Ok end) is ticks idle goes none h = tt
-  cut_as now n eager old new l news (Err fault) is ticks idle goes none h = λ other. inr (record {
-    idle = idle;
+  cut_as now n eager old new l news (Ok end) is ticks little goes none h = tt
+  cut_as now n eager old new l news (Err fault) is ticks little goes none h = λ other. inr (record {
+    little = little;
     unended = subst (λ (k : ℕ). (line_ticked old.line k).machine.ending ≡ None) is (subst (λ (y : Line). y.machine.ending ≡ None) ticks goes);
     work = subst (λ (k : ℕ). CutWork k eager (record old { line = line_ticked old.line k }) new fault) is
         (subst (λ (y : Line). CutWork now eager (record old { line = y }) new fault) ticks

@@ -1,12 +1,13 @@
 -- The outbox is served: what it was sent again, what live, and its finish.
-use Rattle.std.proofs.Common.{◌≡◌, ℕ, ◌<◌, if◌then◌else◌, length, List, ◌++◌, Option, Some, None, refl, sym, ap, subst, ◌∙◌}
+use Rattle.std.proofs.Common.{◌≡◌, ℕ, ◌<◌, Bool, true, false, if◌then◌else◌, length, List, ◌++◌, Option, Some, None, refl, sym, ap, subst, ◌∙◌}
 use Rattle.std.specs.Prelude.{is_some}
 use Rattle.session_model.specs.Journal.{History, BeginsHistory}
 use Rattle.fixp_msgs.specs.declared.numbering.Range.{Range}
 use Rattle.fixp_machine.specs.Machine.{State, Call, run}
 use Rattle.conn_turns.specs.Lines.{Line}
 use Rattle.conn_turns.specs.Turns.{again_calls, live_calls, finish_calls, served_of, served_now, live_of, live_beside, finish_of}
-use Rattle.conn_turns.specs.Exact.{IsAsDue}
+use Rattle.gate_turn.proofs.Histories.{begins_self}
+use Rattle.conn_turns.specs.Exact.{IsAsDue, unless_waits}
 use Rattle.conn_turns.proofs.Taking.{run_append}
 use Rattle.conn_steps.proofs.Following.{line_is}
 use Rattle.jr_dated.specs.declared.faults.FetchFault.{FetchFault}
@@ -23,12 +24,39 @@ beside_is None h (Some ps) due fits = absurd fits
 beside_is (Some r) h None due fits = absurd fits
 beside_is (Some r) h (Some ps) due fits = refl
 
+-- where no output waited all is due
+all_due : {A : Type 0} (l : Line) (due : Option A) → l.waits ≡ false → unless_waits l due ≡ due
+all_due l due free = ap (λ (w : Bool). if w then None else due) free
+
+-- where some did nothing is
+pub none_served : (tells : Type 0) (now : ℕ) (h : History) (old : Line) → old.waits ≡ true → ServedOutbox tells now h h old old
+none_served tells now h old waits = record {
+  due_again = None;
+  due_live = None;
+  again = None;
+  live = None;
+  finish = None;
+  at_again = h;
+  due_again_is = sym (none_due_at old _ waits);
+  due_live_is = sym (none_due_at old _ waits);
+  again_is = tt;
+  live_is = tt;
+  faithful = λ _. (refl, refl);
+  finish_is = sym (none_due_at old _ waits);
+  seen_again = begins_self h;
+  seen_live = begins_self h;
+  line = refl;
+}
+  where
+    none_due_at : {A : Type 0} (l : Line) (due : Option A) → l.waits ≡ true → unless_waits l due ≡ None
+    none_due_at l due waits = ap (λ (w : Bool). if w then None else due) waits
+
 pub served_outbox : (tells : Type 0) (now : ℕ) (h first last : History) (old one two new : Line) → BeginsHistory h first → BeginsHistory first last
     → SentDue tells (served_of (served_now old.machine) first) (again_calls now) old one
     → SentDue tells (if is_some (served_now old.machine) then None else live_of one.machine last) (live_calls now) one two
     → new ≡ record two { machine = run two.machine (finish_calls now (finish_of one.machine last)) }
-    → one.machine.config ≡ old.machine.config → ServedOutbox tells now h last old new
-served_outbox tells now h first last old one two new begins goes_on again live finish config =
+    → one.machine.config ≡ old.machine.config → old.waits ≡ false → ServedOutbox tells now h last old new
+served_outbox tells now h first last old one two new begins goes_on again live finish config free =
     let sent = again.sent in
     let m = run old.machine (again_calls now sent) in
     let more = live.sent in
@@ -44,12 +72,12 @@ served_outbox tells now h first last old one two new begins goes_on again live f
       live = more;
       finish = told;
       at_again = first;
-      due_again_is = refl;
-      due_live_is = refl;
+      due_again_is = sym (all_due old (served_of (served_now old.machine) first) free);
+      due_live_is = sym (all_due old (live_beside sent (live_of m last)) free);
       again_is = again.as_due;
       live_is = subst (λ (o : Option (List (List ℕ))). IsAsDue o more) due live.as_due;
       faithful = λ t. (again.told t, live.told t ∙ due);
-      finish_is = refl;
+      finish_is = sym (all_due old told free);
       seen_again = begins;
       seen_live = goes_on;
       line = line_is _ _
@@ -59,7 +87,9 @@ served_outbox tells now h first last old one two new begins goes_on again live f
           ∙ (sym (run_append m (live_calls now more) (finish_calls now told)) ∙ sym (run_append old.machine (again_calls now sent) (live_calls now more ++ finish_calls now told))))))
           (ap (λ (l : Line). l.held) finish ∙ (ap (λ (l : Line). l.held) live.line ∙ ap (λ (l : Line). l.held) again.line))
           (ap (λ (l : Line). l.place) finish ∙ (ap (λ (l : Line). l.place) live.line ∙ ap (λ (l : Line). l.place) again.line))
-          (ap (λ (l : Line). l.over) finish ∙ (ap (λ (l : Line). l.over) live.line ∙ ap (λ (l : Line). l.over) again.line));
+          (ap (λ (l : Line). l.over) finish ∙ (ap (λ (l : Line). l.over) live.line ∙ ap (λ (l : Line). l.over) again.line))
+          (ap (λ (l : Line). l.serves) finish ∙ (ap (λ (l : Line). l.serves) live.line ∙ ap (λ (l : Line). l.serves) again.line))
+          (ap (λ (l : Line). l.waits) finish ∙ (ap (λ (l : Line). l.waits) live.line ∙ ap (λ (l : Line). l.waits) again.line));
     }
 
 -- nothing is due, and nothing is sent

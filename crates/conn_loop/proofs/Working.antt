@@ -17,7 +17,7 @@ use Rattle.conn_turns.specs.Lines.{Line, AreTaken, lines_after}
 use Rattle.conn_turns.specs.Frames.{IsDone, added, told, unframed_at, is_link_over}
 use Rattle.conn_turns.specs.Turns.{bad_calls, end_calls, again_calls, live_calls, finish_calls, served_of, served_now, live_of, live_beside, finish_of, calls_of_frames}
 use Rattle.conn_turns.specs.Refusals.{stood}
-use Rattle.conn_turns.proofs.Taking.{run_append, frames_make_calls}
+use Rattle.conn_turns.proofs.Taking.{run_append, frames_make_calls, lines_wait, unless_same}
 use Rattle.conn_steps.specs.Settling.{Gains, Refuses}
 use Rattle.conn_steps.specs.Agreeing.{Agrees}
 use Rattle.conn_steps.specs.Taking.{TookFrames, CutFrames, OfInbox, refused_by}
@@ -73,6 +73,7 @@ module _ {J : Type 0} {G : Ghosts J} where
       let same : mid ≡ l = t.line in
       let closing : closed.machine ≡ run l.machine (ends_at now many l)
       = ap (λ (x : Line). x.machine) closes ∙ (ap (λ (x : Line). run x.machine (ends_at now count x)) same ∙ ap (λ (k : ℕ). run l.machine (ends_at now k l)) (sym t.many)) in
+      let waits : closed.waits ≡ old.waits = ap (λ (x : Line). x.waits) closes ∙ (ap (λ (x : Line). x.waits) same ∙ lines_wait now old t.frames) in
       let outbox : List Call = again_calls now s.again ++ (live_calls now s.live ++ finish_calls now s.finish) in
       record {
         work = record {
@@ -101,11 +102,11 @@ module _ {J : Type 0} {G : Ghosts J} where
           last = subst (λ (k : ℕ). IsDone k l) (sym t.many) (subst (λ (x : Line). IsDone count x) same last.0);
           broken = refl;
           link_over = refl;
-          due_again = s.due_again_is ∙ ap (λ (m : State). served_of (served_now m) s.at_again) closing;
-          due_live = s.due_live_is ∙ ap (λ (m : State). live_beside s.again (live_of (run m (again_calls now s.again)) seen)) closing;
+          due_again = s.due_again_is ∙ unless_same closed old _ _ waits (ap (λ (m : State). served_of (served_now m) s.at_again) closing);
+          due_live = s.due_live_is ∙ unless_same closed old _ _ waits (ap (λ (m : State). live_beside s.again (live_of (run m (again_calls now s.again)) seen)) closing);
           again = s.again_is;
           live = s.live_is;
-          finish = s.finish_is ∙ ap (λ (m : State). finish_of m seen) closing;
+          finish = s.finish_is ∙ unless_same closed old _ _ waits (ap (λ (m : State). finish_of m seen) closing);
           seen_again = s.seen_again;
           seen_live = s.seen_live;
           seen_finish = begins_self seen;
@@ -117,6 +118,8 @@ module _ {J : Type 0} {G : Ghosts J} where
           held = ap (λ (x : Line). x.held) s.line ∙ (ap (λ (x : Line). x.held) closes ∙ ap (λ (x : Line). x.held) same);
           place = ap (λ (x : Line). x.place) s.line ∙ (ap (λ (x : Line). x.place) closes ∙ ap (λ (x : Line). x.place) same);
           over = ap (λ (x : Line). x.over) s.line ∙ (ap (λ (x : Line). x.over) closes ∙ ap (λ (x : Line). x.over) same);
+          serves = ap (λ (x : Line). x.serves) s.line ∙ (ap (λ (x : Line). x.serves) closes ∙ ap (λ (x : Line). x.serves) same);
+          waits = ap (λ (x : Line). x.waits) s.line ∙ (ap (λ (x : Line). x.waits) closes ∙ ap (λ (x : Line). x.waits) same);
         };
         gains = t.gains;
         news_are = t.news_are;

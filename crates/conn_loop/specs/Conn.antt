@@ -15,7 +15,7 @@ use Rattle.conn_loop.specs.declared.conn.Conn.{Conn}
 
 -- what one end sees of the connection
 abbrev pub line_of : Conn → Line
-line_of c = record { machine = c.end; held = c.framer.held; place = c.place; over = c.over }
+line_of c = record { machine = c.end; held = c.framer.held; place = c.place; over = c.over; serves = c.serves; waits = c.waits }
 
 -- the payloads that its turn has gathered
 abbrev pub gathered_by : Conn → List (List ℕ)
@@ -23,11 +23,11 @@ gathered_by c = payloads_in c.gathered
 
 -- a connection that has not begun
 abbrev pub new_line : State → Line
-new_line m = record { machine = m; held = []; place = 0; over = false }
+new_line m = record { machine = m; held = []; place = 0; over = false; serves = false; waits = false }
 
 -- a connection begins: nothing is held
 abbrev pub line_begun : Line → ℕ → Line
-line_begun l now = record { machine = run l.machine (begin now ∷ []); held = []; place = 0; over = false }
+line_begun l now = record { machine = run l.machine (begin now ∷ []); held = []; place = 0; over = false; serves = false; waits = false }
 
 -- a connection is cut: what is held and unsent is dropped, and it ends, if it has not ended
 abbrev pub line_cut : Line → Line

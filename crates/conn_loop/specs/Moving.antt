@@ -5,14 +5,14 @@ use Rattle.sofh_frame.specs.Framing.{IsBytes, first_of}
 use Rattle.gw_links.specs.declared.link.Got.{Got}
 use Rattle.gw_links.specs.Links.{LinkTold, Carried, Moved}
 use Rattle.fixp_replies.specs.declared.act.Ending.TheVariants as endings
-use Rattle.fixp_machine.specs.Machine.{State, run}
+use Rattle.fixp_machine.specs.Machine.{State}
 use Rattle.conn_turns.specs.declared.answer.TurnEnd.{TurnEnd}
 use Rattle.conn_turns.specs.declared.answer.TurnFault.{TurnFault}
 use Rattle.conn_turns.specs.declared.answer.TurnFault.TheVariants as faults
 use Rattle.conn_turns.specs.Lines.{Line}
 use Rattle.conn_turns.specs.Frames.{is_whole, is_bad}
-use Rattle.conn_turns.specs.Turns.{is_end, sending_calls}
-use Rattle.conn_turns.specs.Exact.{Received, most_held}
+use Rattle.conn_turns.specs.Turns.{is_end}
+use Rattle.conn_turns.specs.Exact.{Received, line_sent, most_held}
 use Rattle.conn_loop.specs.Conn.{answer_of}
 
 -- the shorter of both ends' intervals, in milliseconds; this end's, until the peer has told its own, which is not 0
@@ -23,11 +23,11 @@ interval_of m =
     else min m.config.keepalive m.facts.connection.peer_interval
 
 -- how long the receive of a turn may wait where nothing is there, in milliseconds: not at all where the turn before took frames, whose
--- answers the outbox may have, nor where a whole frame is held, or bytes that no frame begins with, or a range is served; and else the
+-- answers the outbox may have, nor where output is unsent, a whole frame is held, or bytes that no frame begins with, or a range is served; and else the
 -- lesser of 100 and a tenth of the shorter interval
 abbrev pub patience_of : (took : Bool) → Line → ℕ
 patience_of took l =
-    if took || is_whole (first_of l.held) || is_bad (first_of l.held) || is_some l.machine.facts.connection.serving
+    if took || l.waits || is_whole (first_of l.held) || is_bad (first_of l.held) || is_some l.machine.facts.connection.serving
     then 0
     else min 100 (interval_of l.machine / 10)
 
@@ -51,7 +51,7 @@ pub record SentOnce (told told' : Option LinkTold) (carried carried' : Option Ca
   pub sent : List ℕ
   pub lost : Bool
   pub front : IsPrefix sent old.machine.unsent
-  pub line : new ≡ record old { machine = run old.machine (sending_calls sent lost) }
+  pub line : new ≡ line_sent old sent lost
   pub whole : lost ≡ false → old.machine.unsent ≡ sent ++ new.machine.unsent
   pub full : lost ≡ false → 0 < length new.machine.unsent → IfSome told' (λ t. t.room ≡ 0)
   pub answer : lost ≡ true → IsLossOf old.machine new.machine result

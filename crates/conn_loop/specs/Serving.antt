@@ -8,7 +8,7 @@ use Rattle.gate_turn.specs.Views.{HasFailed, Part}
 use Rattle.conn_turns.specs.declared.answer.TurnFault.{TurnFault}
 use Rattle.conn_turns.specs.declared.answer.TurnFault.TheVariants as faults
 use Rattle.conn_turns.specs.Lines.{Line}
-use Rattle.conn_turns.specs.Exact.{IsAsDue}
+use Rattle.conn_turns.specs.Exact.{IsAsDue, unless_waits}
 use Rattle.conn_turns.specs.Turns.{again_calls, live_calls, finish_calls, served_of, served_now, live_of, live_beside, finish_of}
 
 -- a refusal of the outbox, as a turn answers it
@@ -36,7 +36,7 @@ pub record SentDue (tells : Type 0) (due : Option (List (List ℕ))) (calls : Op
 
 -- the front of the range that was served was sent again, 16 entries at most, of the outbox as it was seen then; and entries were sent live
 -- where that may be and none was sent again, and the finish was told where it stands, both of the outbox as it was seen at one look behind
--- that
+-- that. Nothing of it was sent or told where the turn began with output unsent
 pub record ServedOutbox (tells : Type 0) (now : ℕ) (seen seen' : History) (old new : Line) : Type 0 where
   pub due_again : Option (List (List ℕ))
   pub due_live : Option (List (List ℕ))
@@ -44,12 +44,12 @@ pub record ServedOutbox (tells : Type 0) (now : ℕ) (seen seen' : History) (old
   pub live : Option (List (List ℕ))
   pub finish : Option ℕ
   pub at_again : History
-  pub due_again_is : due_again ≡ served_of (served_now old.machine) at_again
-  pub due_live_is : due_live ≡ live_beside again (live_of (run old.machine (again_calls now again)) seen')
+  pub due_again_is : due_again ≡ unless_waits old (served_of (served_now old.machine) at_again)
+  pub due_live_is : due_live ≡ unless_waits old (live_beside again (live_of (run old.machine (again_calls now again)) seen'))
   pub again_is : IsAsDue due_again again
   pub live_is : IsAsDue due_live live
   pub faithful : tells → (again ≡ due_again) × (live ≡ due_live)
-  pub finish_is : finish ≡ finish_of old.machine seen'
+  pub finish_is : finish ≡ unless_waits old (finish_of old.machine seen')
   pub seen_again : BeginsHistory seen at_again
   pub seen_live : BeginsHistory at_again seen'
   pub line : new ≡ record old { machine = run old.machine (again_calls now again ++ (live_calls now live ++ finish_calls now finish)) }

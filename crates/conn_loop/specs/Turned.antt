@@ -1,5 +1,5 @@
 -- What a turn did, and what it leaves (this project's profile).
-use Rattle.std.specs.Prelude.{◌≡◌, ◌≢◌, ◌⊎◌, ℕ, ◌+◌, ◌<◌, ◌≤◌, ◌||◌, Bool, false, List, [], ◌∷◌, ◌++◌, length, Option, Some, None, IsSome, IfSome, ◌^◌, true, Result, Ok}
+use Rattle.std.specs.Prelude.{◌≡◌, ◌⊎◌, ℕ, ◌+◌, ◌<◌, ◌≤◌, ◌||◌, Bool, false, List, [], ◌∷◌, ◌++◌, length, Option, Some, None, IsSome, IfSome, ◌^◌, true, Result, Ok}
 use mathlib.Core.List.{IsPrefix}
 use Rattle.sofh_frame.specs.Framing.{IsBytes}
 use Rattle.gw_links.specs.declared.link.Got.{Got}
@@ -16,9 +16,9 @@ use Rattle.conn_turns.specs.declared.answer.TurnFault.{TurnFault}
 use Rattle.conn_turns.specs.declared.answer.TurnFault.TheVariants as faults
 use Rattle.conn_turns.specs.Lines.{Line, TakenFrame, AreTaken, lines_after}
 use Rattle.conn_turns.specs.Frames.{added, told}
-use Rattle.conn_turns.specs.Turns.{Work, Refusal, works, IsFaithful, first_calls, sending_calls, is_end}
+use Rattle.conn_turns.specs.Turns.{Work, Refusal, works, IsFaithful, first_calls, is_end}
 use Rattle.conn_turns.specs.Refusals.{IsRefused, IsTried, IsOfRecord, stood_of, told_of, wanted_of}
-use Rattle.conn_turns.specs.Exact.{Served, Received, line_ticked, most_held}
+use Rattle.conn_turns.specs.Exact.{Served, Received, receives, line_ticked, line_sent, most_held}
 use Rattle.conn_steps.specs.Ends.{TakingEnd}
 use Rattle.conn_steps.specs.Settling.{IsPast, Gains, Refuses}
 use Rattle.conn_steps.specs.Taking.{OfInbox, refused_by}
@@ -82,7 +82,7 @@ module _ {J : Type 0} {G : Ghosts J} where
     pub full : work.lost ≡ false → 0 < length new.line.machine.unsent → IfSome new.told (λ t. t.room ≡ 0)
     pub answer : work.lost ≡ true → IsLossOf behind.machine new.line.machine result
     pub kept : work.lost ≡ false → result ≡ Ok (answer_of new.line.machine.ending)
-    pub line : new.line ≡ record behind { machine = run behind.machine (sending_calls work.sent work.lost) }
+    pub line : new.line ≡ line_sent behind work.sent work.lost
     pub gains : Gains old.box new.box (added now (received_by old.line work) work.frames)
     pub news_are : new.news ≡ old.news ++ told now (received_by old.line work) work.frames
     pub moved : Moved old.told new.told old.carried new.carried work.received work.sent
@@ -107,18 +107,18 @@ module _ {J : Type 0} {G : Ghosts J} where
     pub receives : ReceivedOnce eager old.told new.told old.carried new.carried old.line line got
     pub cut : CutShort now line old.box new.box old.news new.news fault
 
-  -- A turn only sent: something was unsent at its start, or its tick ended the connection. The inbox, the pass and the news are as
+  -- A turn only sent: more was unsent at its start than an end receives beside, or its tick ended the connection. The inbox, the pass and the news are as
   -- they were, and it answers as what it sent says
   pub record OnlySent (now : ℕ) (old new : EndAt J G) (result : Result TurnEnd TurnFault) : Type 0 where
-    pub why : (old.line.machine.unsent ≢ []) ⊎ IsSome (run old.line.machine (first_calls now)).ending
+    pub why : (receives old.line ≡ false) ⊎ IsSome (run old.line.machine (first_calls now)).ending
     pub sent : SentOnce old.told new.told old.carried new.carried (line_ticked old.line now) new.line result
     pub same_box : new.box ≡ old.box
     pub same_news : new.news ≡ old.news
     pub same_seen : new.seen ≡ old.seen
 
-  -- nothing was unsent and its tick left the connection open: it did more
+  -- no more was unsent than an end receives beside, and its tick left the connection open: it did more
   pub record DidMore (tells : Type 0) (now : ℕ) (eager : Bool) (old new : EndAt J G) (result : Result TurnEnd TurnFault) : Type 0 where
-    pub idle : old.line.machine.unsent ≡ []
+    pub little : receives old.line ≡ true
     pub unended : (run old.line.machine (first_calls now)).ending ≡ None
     pub exchanged : Exchanged tells now eager (record old { line = line_ticked old.line now }) new result
 
@@ -130,9 +130,9 @@ module _ {J : Type 0} {G : Ghosts J} where
   abbrev pub NotBegun : (old new : EndAt J G) → TurnFault → Type 0
   NotBegun old new fault = (fault ≡ faults.Memory) × (new ≡ old)
 
-  -- a turn was cut short in its work: nothing was unsent, and its tick left the connection open
+  -- a turn was cut short in its work: no more was unsent than an end receives beside, and its tick left the connection open
   pub record CutMore (now : ℕ) (eager : Bool) (old new : EndAt J G) (fault : TurnFault) : Type 0 where
-    pub idle : old.line.machine.unsent ≡ []
+    pub little : receives old.line ≡ true
     pub unended : (run old.line.machine (first_calls now)).ending ≡ None
     pub work : CutWork now eager (record old { line = line_ticked old.line now }) new fault
 

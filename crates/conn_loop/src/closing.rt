@@ -73,7 +73,7 @@ impl Conn {
         ensures recorded { (line_of self.new).machine.facts.recorded ≡ (line_of self.old).machine.facts.recorded }
         ensures moment { (line_of self.new).machine.moment ≡ now }
         ensures drained { front_of (line_of self.new).machine ≡ None }
-        ensures small { length (line_of self.new).machine.unsent ≤ 300000 }
+        ensures small { length (line_of self.new).machine.unsent ≤ 600000 }
         ensures told { (line_of self.new).machine.ending ≡ None → (line_of self.new).machine.untold ≡ [] }
     {
         self.tell_bad(taken, now);

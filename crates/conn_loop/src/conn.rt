@@ -19,6 +19,10 @@ pub struct Conn {
     pub(crate) place: u64,
     /// Whether the link has given its end.
     pub(crate) over: bool,
+    /// Whether a range was served as the last turn began.
+    pub(crate) serves: bool,
+    /// Whether the link left output unsent as it was sent last, and that was so still as the last turn began.
+    pub(crate) waits: bool,
     /// Whether the last turn that received took frames. A business answers them behind that turn, in the outbox.
     pub(crate) took: bool,
     /// What a turn gathers of its frames, until the inbox has it; each turn begins with nothing gathered.
@@ -41,6 +45,8 @@ impl Conn {
             framer: Framer::new(alloc)?,
             place: 0,
             over: false,
+            serves: false,
+            waits: false,
             took: false,
             gathered: Gathered::new(alloc)?,
         })
@@ -64,6 +70,8 @@ impl Conn {
         self.drop_held();
         self.place = 0;
         self.over = false;
+        self.serves = false;
+        self.waits = false;
         self.took = false;
         self.end.begin(now);
     }

@@ -24,13 +24,14 @@ pub const FRAMES: u64 = 16;
 impl Conn {
     ghost use Rattle.conn_loop.specs.Conn.{line_of, gathered_by};
 
-    /// Whether a further frame may be taken: the connection has not ended, and no range is served.
+    /// Whether a further frame may be taken: the connection has not ended, and no range began in this turn.
     pub(crate) fn may_take(&self) -> bool
-        ensures value { result ≡ may_take (line_of self.now).machine }
-        ensures may { IsTrue result → MayTake (line_of self.now).machine }
+        ensures value { result ≡ may_take (line_of self.now) }
+        ensures may { IsTrue result → MayTake (line_of self.now) }
         ensures not { (count : ℕ) → IsFalse result → IsDone count (line_of self.now) }
     {
-        self.end.ending().is_none() && self.end.serving().is_none()
+        let has_begun = self.end.serving().is_some() && !self.serves;
+        self.end.ending().is_none() && !has_begun
     }
 
     /// Takes the frame at the front of what is held, if one stands there, and says whether one did. Its message, and those held that it lets
@@ -41,7 +42,7 @@ impl Conn {
         news: &mut News,
         now: u64,
     ) -> Result<bool, TurnFault>
-        requires may { MayTake (line_of self.old).machine }
+        requires may { MayTake (line_of self.old) }
         requires in_turn { IsInTurn (line_of self.old).machine now 1 }
         requires time { now < 2 ^ 44 }
         requires place { (line_of self.old).place < 2 ^ 63 + 2 ^ 62 }

@@ -79,7 +79,7 @@ impl Conn {
     ) -> Result<bool, FetchFault>
         requires own { IsPassAt gate.now pass.old }
         requires free { IsFree pass.old }
-        requires serve { MayServe (line_of self.old).machine now 300000 (known pass.old) }
+        requires serve { MayServe (line_of self.old).machine now 600000 (known pass.old) }
         requires time { now < 2 ^ 44 }
         ensures own { IsPassAt gate.now pass.new }
         ensures free { IsFree pass.new }
@@ -224,7 +224,7 @@ impl Conn {
     }
 
     /// Sends what the outbox has to send in this turn, and tells its finish: it takes the outbox once for the range that is sent
-    /// again, if one is, and once for all else.
+    /// again, if one is, and once for all else. Where the turn began with output unsent it does neither.
     ///
     /// # Errors
     /// Where the outbox could not be read, a record of it has changed, or there is no memory for what was read.
@@ -237,18 +237,21 @@ impl Conn {
     ) -> Result<(), TurnFault>
         requires own { IsPassAt gate.now pass.old }
         requires free { IsFree pass.old }
-        requires serve { MayServe (line_of self.old).machine now 300000 (known pass.old) }
+        requires serve { MayServe (line_of self.old).machine now 600000 (known pass.old) }
         requires time { now < 2 ^ 44 }
         ensures own { IsPassAt gate.now pass.new }
         ensures free { IsFree pass.new }
         ensures looks { Looks (known pass.old) (known pass.new) }
         ensures most { (known pass.new).turns ≤ (known pass.old).turns + 2 }
-        ensures least { OnOk result (is_absent (line_of self.old).machine.config.own_flow ≡ false → (known pass.old).turns < (known pass.new).turns) }
+        ensures least { OnOk result ((line_of self.old).waits ≡ false → is_absent (line_of self.old).machine.config.own_flow ≡ false → (known pass.old).turns < (known pass.new).turns) }
         ensures served { OnOk result (ServedOutbox J.tells now (known pass.old).seen (known pass.new).seen (line_of self.old) (line_of self.new)) }
         ensures serve { OnOk result (MayServe (line_of self.new).machine now 5000000 (known pass.new)) }
         ensures same { OnOk result (SameInbox (line_of self.old).machine (line_of self.new).machine) }
         ensures blames { IfErr result (BlamesPass J.tells (known pass.old) (known pass.new)) }
     {
+        if self.waits {
+            return Ok(());
+        }
         let again = match self.send_again(gate, pass, now, rt) {
             Ok(again) => again,
             Err(fault) => return Err(refusal(fault)),

@@ -47,7 +47,12 @@ impl Conn {
     fn patience(&self) -> u64
         ensures { result ≡ patience_of self.now.took (line_of self.now) }
     {
-        if self.took || self.holds_frame() || self.holds_bad() || self.end.serving().is_some() {
+        if self.took
+            || self.waits
+            || self.holds_frame()
+            || self.holds_bad()
+            || self.end.serving().is_some()
+        {
             return 0;
         }
         LONGEST.min(self.interval() / 10)

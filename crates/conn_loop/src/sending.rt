@@ -1,6 +1,6 @@
 //! What a turn sends over its link, and what it answers.
 
-ghost use Rattle.std.specs.Prelude.{◌≡◌, ◌≤◌, [], ◌∷◌, length, true, None, OnErr};
+ghost use Rattle.std.specs.Prelude.{◌≡◌, ◌≤◌, ◌==◌, [], ◌∷◌, length, not, true, None, OnErr};
 ghost use Rattle.gw_outside.specs.Faults.{HasRisen};
 ghost use Rattle.fixp_machine.specs.Machine.{run, link_end};
 
@@ -42,6 +42,13 @@ impl Conn {
         }
     }
 
+    /// Whether output is unsent.
+    pub(crate) fn has_unsent(&self) -> bool
+        ensures { result ≡ not (length (line_of self.now).machine.unsent == 0) }
+    {
+        !self.end.out().is_empty()
+    }
+
     /// Sends what is unsent, until the link takes nothing.
     #[tactic(auto, using(crate::proofs::Machine::taken_drained))]
     pub(crate) fn send<L: Link>(&mut self, link: &mut L) -> Result<TurnEnd, TurnFault>
@@ -59,9 +66,13 @@ impl Conn {
         match send_front(link, self.end.out()) {
             Ok(count) => {
                 self.end.taken(count);
+                self.waits = self.has_unsent();
                 Ok(self.answer())
             }
-            Err(_) => self.lose_link(),
+            Err(_) => {
+                self.waits = self.has_unsent();
+                self.lose_link()
+            }
         }
     }
 }

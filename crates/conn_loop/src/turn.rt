@@ -54,7 +54,7 @@ impl Conn {
         ensures free { IsFree pass.new }
         ensures looks { Looks (known pass.old) (known pass.new) }
         ensures most { (known pass.new).turns ≤ (known pass.old).turns + 2 }
-        ensures least { result ≡ Ok ends.Go → is_absent (line_of self.old).machine.config.own_flow ≡ false → (known pass.old).turns < (known pass.new).turns }
+        ensures least { result ≡ Ok ends.Go → (line_of self.old).waits ≡ false → is_absent (line_of self.old).machine.config.own_flow ≡ false → (known pass.old).turns < (known pass.new).turns }
         ensures did { OnOk result (Exchanged O.tells now L.eager (live_end (L.told link.old) (L.carried link.old) (known pass.old).seen (line_of self.old) inbox.old (items_of news.old)) (live_end (L.told link.new) (L.carried link.new) (known pass.new).seen (line_of self.new) inbox.new (items_of news.new)) result) }
         ensures lost { result ≡ Err faults.Link → Exchanged O.tells now L.eager (live_end (L.told link.old) (L.carried link.old) (known pass.old).seen (line_of self.old) inbox.old (items_of news.old)) (live_end (L.told link.new) (L.carried link.new) (known pass.new).seen (line_of self.new) inbox.new (items_of news.new)) result }
         ensures cut { IfErr result (λ fault. (fault ≡ faults.Link → ⊥) → CutWork now L.eager (live_end (L.told link.old) (L.carried link.old) (known pass.old).seen (line_of self.old) inbox.old (items_of news.old)) (live_end (L.told link.new) (L.carried link.new) (known pass.new).seen (line_of self.new) inbox.new (items_of news.new)) fault) }

@@ -11,7 +11,7 @@ ghost use Rattle.gate_turn.specs.Calls.{IsFree};
 ghost use Rattle.gate_senders.specs.Gate.{IsPassAt};
 ghost use Rattle.conn_turns.specs.News.{items_of};
 ghost use Rattle.conn_turns.specs.declared.answer.TurnFault.TheVariants as faults;
-ghost use Rattle.conn_turns.specs.Exact.{line_ticked};
+ghost use Rattle.conn_turns.specs.Exact.{line_ticked, receives};
 ghost use Rattle.conn_steps.specs.Settling.{SameKind};
 ghost use Rattle.conn_steps.specs.Agreeing.{IsInTurn, Agrees};
 ghost use Rattle.conn_loop.specs.Conn.{GoesOn, HasSeen, Looks, MayServe};
@@ -27,8 +27,19 @@ use jr_kept::Inbox;
 use std::alloc::AllocError;
 use std::sync::Wait;
 
+/// How many bytes of output may be unsent where an end still receives.
+const MOST_UNSENT: usize = 300_000;
+
 impl Conn {
     ghost use Rattle.conn_loop.specs.Conn.{line_of};
+
+    /// Whether a turn does more than send: no output is unsent, or the link left some and that is not much.
+    fn receives(&self) -> bool
+        ensures { result ≡ receives (line_of self.now) }
+    {
+        let unsent = self.end.out().len();
+        unsent == 0 || (self.waits && unsent <= MOST_UNSENT)
+    }
 
     /// Takes the memory of a turn and ticks, and says whether the turn does more than send.
     ///
@@ -39,17 +50,17 @@ impl Conn {
         requires goes { GoesOn (line_of self.old).machine }
         requires time { ((line_of self.old).machine.moment ≤ now) × (now < 2 ^ 44) }
         ensures ticked { OnOk result (line_of self.new ≡ line_ticked (line_of self.old) now) }
-        ensures idle { result ≡ Ok true → (line_of self.old).machine.unsent ≡ [] }
+        ensures little { result ≡ Ok true → receives (line_of self.old) ≡ true }
         ensures unended { result ≡ Ok true → (line_of self.new).machine.ending ≡ None }
         ensures in_turn { result ≡ Ok true → IsInTurn (line_of self.new).machine now 16 }
-        ensures why { result ≡ Ok false → ((line_of self.old).machine.unsent ≢ []) ⊎ IsSome (line_of self.new).machine.ending }
+        ensures why { result ≡ Ok false → (receives (line_of self.old) ≡ false) ⊎ IsSome (line_of self.new).machine.ending }
         ensures facts { OnOk result ((line_of self.new).machine.facts ≡ (line_of self.old).machine.facts) }
         ensures begun { OnOk result ((line_of self.new).machine.begun ≡ true) }
         ensures done { OnOk result ((line_of self.new).machine.pending ≡ None) }
         ensures untold { OnOk result ((line_of self.new).machine.untold ≡ []) }
         ensures moment { OnOk result ((line_of self.new).machine.moment ≡ now) }
         ensures drained { OnOk result (front_of (line_of self.new).machine ≡ None) }
-        ensures little { result ≡ Ok false → (line_of self.new).machine.ending ≡ None → length (line_of self.new).machine.unsent ≤ length (line_of self.old).machine.unsent }
+        ensures small { result ≡ Ok false → (line_of self.new).machine.ending ≡ None → length (line_of self.new).machine.unsent ≤ length (line_of self.old).machine.unsent }
         ensures config { OnOk result ((line_of self.new).machine.config ≡ (line_of self.old).machine.config) }
         ensures most { OnOk result ((line_of self.new).machine.most ≡ (line_of self.old).machine.most) }
         ensures err { OnErr result (line_of self.new ≡ line_of self.old) }
@@ -57,9 +68,11 @@ impl Conn {
         if self.end.reserve().is_err() {
             return Err(AllocError);
         }
-        let idle = self.end.out().is_empty();
+        self.serves = self.end.serving().is_some();
+        let receives = self.receives();
+        self.waits = self.waits && self.has_unsent();
         self.end.on_tick(now);
-        if !idle {
+        if !receives {
             return Ok(false);
         }
         Ok(self.end.ending().is_none())
@@ -92,7 +105,7 @@ impl Conn {
         ensures free { IsFree pass.new }
         ensures looks { Looks (known pass.old) (known pass.new) }
         ensures most { (known pass.new).turns ≤ (known pass.old).turns + 2 }
-        ensures least { OnOk result (is_absent (line_of self.old).machine.config.own_flow ≡ false → (known pass.old).turns < (known pass.new).turns) }
+        ensures least { OnOk result ((line_of self.old).waits ≡ false → is_absent (line_of self.old).machine.config.own_flow ≡ false → (known pass.old).turns < (known pass.new).turns) }
         ensures served { OnOk result (ServedFrames O.tells now (known pass.old).seen (known pass.new).seen (taking_end (line_of self.old) inbox.old (items_of news.old)) (taking_end (line_of self.new) inbox.new (items_of news.new))) }
         ensures cut { IfErr result (CutShort now (line_of self.old) inbox.old inbox.new (items_of news.old) (items_of news.new)) }
         ensures serve { OnOk result (MayServe (line_of self.new).machine now 5000000 (known pass.new)) }

@@ -23,16 +23,18 @@ use Rattle.conn_steps.specs.Ends.{Intake, TakingEnd, GatheringEnd, intake, waiti
 use Rattle.conn_steps.specs.Taking.{taken_as, messages_at, AnsweredFrame, RefusedAnswer, Undone, TookFrame, RefusedFrame, LatestFrames, GatheredFrames, TookFrames}
 use Rattle.conn_steps.proofs.Rooms.{gains_none, gains_on}
 
--- a line is its four parts
-pub line_is : (a b : Line) → a.machine ≡ b.machine → a.held ≡ b.held → a.place ≡ b.place → a.over ≡ b.over → a ≡ b
-line_is a b machine held place over =
-    ap (λ (m : State). record { machine = m; held = a.held; place = a.place; over = a.over }) machine
-    ∙ (ap (λ (h : List ℕ). record { machine = b.machine; held = h; place = a.place; over = a.over }) held
-    ∙ (ap (λ (n : ℕ). record { machine = b.machine; held = b.held; place = n; over = a.over }) place
-    ∙ ap (λ (o : Bool). record { machine = b.machine; held = b.held; place = b.place; over = o }) over))
+-- a line is its six parts
+pub line_is : (a b : Line) → a.machine ≡ b.machine → a.held ≡ b.held → a.place ≡ b.place → a.over ≡ b.over → a.serves ≡ b.serves → a.waits ≡ b.waits → a ≡ b
+line_is a b machine held place over serves waits =
+    ap (λ (m : State). record { machine = m; held = a.held; place = a.place; over = a.over; serves = a.serves; waits = a.waits }) machine
+    ∙ (ap (λ (h : List ℕ). record { machine = b.machine; held = h; place = a.place; over = a.over; serves = a.serves; waits = a.waits }) held
+    ∙ (ap (λ (n : ℕ). record { machine = b.machine; held = b.held; place = n; over = a.over; serves = a.serves; waits = a.waits }) place
+    ∙ (ap (λ (o : Bool). record { machine = b.machine; held = b.held; place = b.place; over = o; serves = a.serves; waits = a.waits }) over
+    ∙ (ap (λ (o : Bool). record { machine = b.machine; held = b.held; place = b.place; over = b.over; serves = o; waits = a.waits }) serves
+    ∙ ap (λ (o : Bool). record { machine = b.machine; held = b.held; place = b.place; over = b.over; serves = b.serves; waits = o }) waits))))
 
 -- a frame at the front of what is held
-next_is : (l : Line) (f : Frame) (size : ℕ) (t : TakenFrame) → MayTake l.machine → BeginsWith l.held f size → t.frame ≡ f → t.at ≡ l.place → IsIncoming t.frame.order t.frame.message t.incoming → IsNext l t
+next_is : (l : Line) (f : Frame) (size : ℕ) (t : TakenFrame) → MayTake l → BeginsWith l.held f size → t.frame ≡ f → t.at ≡ l.place → IsIncoming t.frame.order t.frame.message t.incoming → IsNext l t
 next_is l f size t may begins frame at is = record {
   may = may;
   begins = subst (λ (x : Frame). BeginsWith l.held x (size_of x)) (sym frame) (subst (λ (n : ℕ). BeginsWith l.held f n) begins.counts begins);
@@ -63,7 +65,7 @@ keeps_on a b c first second = record { config = second.config ∙ first.config; 
 abbrev taken_whole : ℕ → Line → Frame → Incoming → TakenFrame
 taken_whole now l f i = record (taken_as now l.machine l.place f i) { helds = length (ready_in (run l.machine (act_calls now (taken_as now l.machine l.place f i)))) }
 
-is_taken : (now size : ℕ) (l : Line) (f : Frame) (i : Incoming) → MayTake l.machine → BeginsWith l.held f size → IsIncoming f.order f.message i → IsTaken now l (taken_whole now l f i)
+is_taken : (now size : ℕ) (l : Line) (f : Frame) (i : Incoming) → MayTake l → BeginsWith l.held f size → IsIncoming f.order f.message i → IsTaken now l (taken_whole now l f i)
 is_taken now size l f i may begins is = record { next = next_is l f size (taken_whole now l f i) may begins refl refl is; recorded = refl; helds = refl }
 
 messages_are : (now : ℕ) (l : Line) (f : Frame) (i : Incoming) → messages_of now l (taken_whole now l f i) ≡ messages_at now l.machine l.place f i
@@ -72,16 +74,16 @@ messages_are now l f i = refl
 
 module _ {J : Type 0} {G : Ghosts J} where
   -- a frame that was answered, once its bytes are dropped
-  pub took : (now size : ℕ) (old new : Line) (f : Frame) (s after : Intake J G) → MayTake old.machine → BeginsWith old.held f size
-      → AnsweredFrame now (answering_end old.machine s) (answering_end new.machine after) f old.place → new.held ≡ drop size old.held → new.place ≡ old.place + size → new.over ≡ old.over
+  pub took : (now size : ℕ) (old new : Line) (f : Frame) (s after : Intake J G) → MayTake old → BeginsWith old.held f size
+      → AnsweredFrame now (answering_end old.machine s) (answering_end new.machine after) f old.place → new.held ≡ drop size old.held → new.place ≡ old.place + size → new.over ≡ old.over → new.serves ≡ old.serves → new.waits ≡ old.waits
       → TookFrame now (gathering_end old s) (gathering_end new after)
   unfolding line_after messages_of
-  took now size old new f s after may begins a held place over = record {
+  took now size old new f s after may begins a held place over serves waits = record {
     frame = t;
     taken = is_taken now size old f a.act.incoming may begins a.act.is;
     line = line_is new (line_after now old t)
         (a.machine ∙ (ap (λ (m : State). run m (replicate (length (ready_in m)) calls.held_done)) a.act.machine ∙ sym (run_append old.machine (act_calls now t) (replicate t.helds calls.held_done))))
-        (held ∙ ap (λ (n : ℕ). drop n old.held) begins.counts) (place ∙ ap (λ (n : ℕ). old.place + n) begins.counts) over;
+        (held ∙ ap (λ (n : ℕ). drop n old.held) begins.counts) (place ∙ ap (λ (n : ℕ). old.place + n) begins.counts) over serves waits;
     done = record {
       gains = a.act.done.gains;
       news_are = a.act.done.news_are;
@@ -98,7 +100,7 @@ module _ {J : Type 0} {G : Ghosts J} where
       act = act_at now old t
 
   -- the next frame, of which something was refused
-  pub was_refused : (now size : ℕ) (old new : Line) (f : Frame) (s after : Intake J G) (fault : TurnFault) → MayTake old.machine → BeginsWith old.held f size
+  pub was_refused : (now size : ℕ) (old new : Line) (f : Frame) (s after : Intake J G) (fault : TurnFault) → MayTake old → BeginsWith old.held f size
       → RefusedAnswer now (answering_end old.machine s) (answering_end new.machine after) f old.place fault → RefusedFrame now (gathering_end old s) (gathering_end new after) fault
   was_refused now size old new f s after fault may begins r = record {
     frame = t;

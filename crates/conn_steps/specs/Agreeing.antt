@@ -15,7 +15,7 @@ pub record IsInTurn (m : State) (now frames : ℕ) : Type 0 where
   pub time : m.moment ≤ now
   pub room : frames ≤ m.room
   pub credentials : length m.config.credentials ≤ 2048
-  pub unsent : length m.unsent + frames * 5000 ≤ 100000
+  pub unsent : length m.unsent + frames * 5000 ≤ 400000
   pub untold : length m.untold + frames ≤ 16
 
 -- the machine, were nothing held

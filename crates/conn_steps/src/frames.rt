@@ -7,7 +7,7 @@ ghost use Rattle.fixp_msgs.specs.Payload.{IsApplication};
 ghost use Rattle.jr_kept.specs.Inbox.{faults_of, is_broken, size_of, count_of};
 ghost use Rattle.conn_turns.specs.declared.answer.TurnFault.TheVariants as faults;
 ghost use Rattle.conn_turns.specs.News.{items_of};
-ghost use Rattle.conn_turns.specs.Lines.{MayTake, ready_in};
+ghost use Rattle.conn_turns.specs.Lines.{ready_in};
 ghost use Rattle.conn_steps.specs.Gathered.{payloads_in};
 ghost use Rattle.conn_steps.specs.Settling.{SameKind, MayStand, AllStand};
 ghost use Rattle.conn_steps.specs.Agreeing.{IsInTurn, AgreesBut, KeepsOwn, unheld};
@@ -80,7 +80,7 @@ pub fn answer_frame<J: Journal>(
 ) -> Result<(), TurnFault>
     requires header { 8 ≤ length message.now }
     requires most { length message.now ≤ 16384 }
-    requires may { MayTake end.old }
+    requires open { end.old.ending ≡ None }
     requires in_turn { IsInTurn end.old now 1 }
     requires time { now < 2 ^ 44 }
     requires agrees { AgreesBut (payloads_in gathered.old) end.old inbox.old }
@@ -113,7 +113,7 @@ fn answer_act<J: Journal>(
 ) -> Result<(), TurnFault>
     requires header { 8 ≤ length message.now }
     requires most { length message.now ≤ 16384 }
-    requires may { MayTake end.old }
+    requires open { end.old.ending ≡ None }
     requires in_turn { IsInTurn end.old now 1 }
     requires time { now < 2 ^ 44 }
     requires agrees { AgreesBut (payloads_in gathered.old) end.old inbox.old }

@@ -1,5 +1,5 @@
 -- Frames that are taken one after another: what they make of the line, and what one more adds.
-use Rattle.std.proofs.Common.{◌≡◌, ℕ, List, [], ◌∷◌, ◌++◌, length, refl, sym, ap, ◌∙◌, arith, append_assoc, append-nil, length-append}
+use Rattle.std.proofs.Common.{◌≡◌, ℕ, Bool, true, false, if◌then◌else◌, Option, None, subst, List, [], ◌∷◌, ◌++◌, length, refl, sym, ap, ◌∙◌, arith, append_assoc, append-nil, length-append}
 use Rattle.sofh_frame.specs.Framing.{Frame, header_of, spelled}
 use Rattle.sofh_frame.specs.Splits.{spelled_all}
 use Rattle.fixp_machine.specs.Machine.{State, Call, step, run}
@@ -7,7 +7,7 @@ use Rattle.conn_turns.specs.Lines.{Line, TakenFrame, size_of, frame_calls, IsTak
 use Rattle.conn_turns.specs.Frames.{adds, tells, added, told}
 use Rattle.session_model.specs.Journal.{History}
 use Rattle.conn_turns.specs.Turns.{Work, works, first_calls, closing_calls, outbox_calls, sending_calls, calls_of, calls_of_frames}
-use Rattle.conn_turns.specs.Exact.{Served}
+use Rattle.conn_turns.specs.Exact.{Served, line_sent, unless_waits}
 use Rattle.conn_turns.specs.Laws.{frames_in, Joins}
 
 pub run_append : (m : State) (first later : List Call) → run m (first ++ later) ≡ run (run m first) later
@@ -56,7 +56,7 @@ told_more now l (x ∷ later) t =
     ap (λ ns. tells now l x ++ ns) (told_more now (line_after now l x) later t) ∙ sym (append_assoc (tells now l x) (told now (line_after now l x) later) _)
 
 pub work_makes_calls : (before seen : History) (old l behind new : Line) (w : Work) → l.machine ≡ run old.machine (first_calls w.now) → Served before seen l behind w
-    → new ≡ record behind { machine = run behind.machine (sending_calls w.sent w.lost) } → new.machine ≡ run old.machine (calls_of (works w))
+    → new ≡ line_sent behind w.sent w.lost → new.machine ≡ run old.machine (calls_of (works w))
 work_makes_calls before seen old l behind new w start s sends =
     let first : List Call = first_calls w.now in
     let frames : List Call = calls_of_frames w.now w.frames in
@@ -70,3 +70,24 @@ work_makes_calls before seen old l behind new w start s sends =
     ∙ (sym (run_append m (frames ++ (closing ++ outbox)) sending)
     ∙ (ap (λ (cs : List Call). run m cs) (append_assoc frames (closing ++ outbox) sending ∙ ap (λ (cs : List Call). frames ++ cs) (append_assoc closing outbox sending))
     ∙ sym (run_append old.machine first (frames ++ (closing ++ (outbox ++ sending))))))))
+
+-- frames leave whether the turn began with output unsent
+after_waits : (now : ℕ) (l : Line) (t : TakenFrame) → (line_after now l t).waits ≡ l.waits
+unfolding line_after
+after_waits now l t = refl
+
+pub lines_wait : (now : ℕ) (l : Line) (frames : List TakenFrame) → (lines_after now l frames).waits ≡ l.waits
+lines_wait now l [] = refl
+lines_wait now l (t ∷ later) = lines_wait now (line_after now l t) later ∙ after_waits now l t
+
+-- the same is due of lines of which both waits are the same
+pub unless_same : {A : Type 0} (a b : Line) (x y : Option A) → a.waits ≡ b.waits → x ≡ y → unless_waits a x ≡ unless_waits b y
+unless_same {A} a b x y waits is = ap (λ (w : Bool). if w then None else x) waits ∙ ap (λ (o : Option A). if b.waits then None else o) is
+
+-- of what a turn sends or tells of the outbox: as much as is due, or nothing where the turn began with output unsent
+pub due_unless : {A : Type 0} (l : Line) (due told : Option A) (P : Option A → Type 0) → told ≡ unless_waits l due → P None → P due → P told
+due_unless {A} l due told P is none some = subst P (sym is) (by_test l.waits)
+  where
+    by_test : (b : Bool) → P (if b then None else due)
+    by_test true = none
+    by_test false = some

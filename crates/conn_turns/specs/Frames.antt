@@ -2,12 +2,11 @@
 use Rattle.std.specs.Prelude.{◌≡◌, ◌⊎◌, ℕ, ◌&&◌, Bool, true, false, not, nat_lt, if◌then◌else◌, IsTrue, List, [], ◌∷◌, ◌++◌, map, Option, Some, None, is_some, is_none}
 use Rattle.session_model.specs.Inbox.{InboxRecord, Numbered}
 use Rattle.sofh_frame.specs.Framing.{First, frame, rest, bad_length, bad_encoding, first_of}
-use Rattle.fixp_machine.specs.Machine.{State}
 use Rattle.fixp_machine.specs.Accepting.{records_of}
 use Rattle.conn_turns.specs.declared.news.NewsItem.{NewsItem}
 use Rattle.conn_turns.specs.News.{told_by}
 use Rattle.conn_turns.specs.declared.news.NewsItem.TheVariants as items
-use Rattle.conn_turns.specs.Lines.{Line, TakenFrame, reply_at, ready_behind, line_after}
+use Rattle.conn_turns.specs.Lines.{Line, TakenFrame, has_begun, reply_at, ready_behind, line_after}
 
 -- held messages that are applied, as records and as news
 abbrev pub applies : List Numbered → List InboxRecord
@@ -45,19 +44,18 @@ is_bad rest = false
 is_bad (bad_length n) = true
 is_bad (bad_encoding encoding) = true
 
--- behind so many frames no further one is taken: the turn has its 16, the connection has ended, a range is served, or no whole
--- frame is left
+-- behind so many frames no further one is taken: the turn has its 16, the connection has ended, a range began in the turn, or no
+-- whole frame is left
 abbrev pub IsDone : ℕ → Line → Type 0
-IsDone count l =
-    (count ≡ 16) ⊎ (IsTrue (is_some l.machine.ending) ⊎ (IsTrue (is_some l.machine.facts.connection.serving) ⊎ (is_whole (first_of l.held) ≡ false)))
+IsDone count l = (count ≡ 16) ⊎ (IsTrue (is_some l.machine.ending) ⊎ (IsTrue (has_begun l) ⊎ (is_whole (first_of l.held) ≡ false)))
 
--- a further frame may be taken of a machine
-abbrev pub may_take : State → Bool
-may_take m = is_none m.ending && is_none m.facts.connection.serving
+-- a further frame may be taken
+abbrev pub may_take : Line → Bool
+may_take l = is_none l.machine.ending && not (has_begun l)
 
 -- behind so many frames bytes stand that no frame begins with, of which the machine is told, at their place
 abbrev pub is_unframed : ℕ → Line → Bool
-is_unframed count l = nat_lt count 16 && may_take l.machine && is_bad (first_of l.held)
+is_unframed count l = nat_lt count 16 && may_take l && is_bad (first_of l.held)
 
 abbrev pub unframed_at : ℕ → Line → Option ℕ
 unframed_at count l = if is_unframed count l then Some l.place else None

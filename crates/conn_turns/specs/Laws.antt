@@ -6,8 +6,8 @@ use Rattle.sofh_frame.specs.Splits.{spelled_all, place_behind}
 use Rattle.fixp_machine.specs.Machine.{run}
 use Rattle.conn_turns.specs.Lines.{Line, TakenFrame, lines_after, AreTaken}
 use Rattle.session_model.specs.Journal.{History}
-use Rattle.conn_turns.specs.Turns.{Work, works, first_calls, calls_of, calls_of_frames, sending_calls}
-use Rattle.conn_turns.specs.Exact.{Served}
+use Rattle.conn_turns.specs.Turns.{Work, works, first_calls, calls_of, calls_of_frames}
+use Rattle.conn_turns.specs.Exact.{Served, line_sent}
 use Rattle.session_model.specs.Inbox.{applied, payloads_of}
 use Rattle.conn_turns.specs.News.{delivered_in}
 use Rattle.conn_turns.specs.Frames.{added, told}
@@ -34,8 +34,7 @@ FramesMakeCalls = (now : ℕ) (l : Line) (frames : List TakenFrame) → (lines_a
 -- unsent then was sent, the machine is what those calls make of it
 abbrev pub WorkMakesCalls : Type 0
 WorkMakesCalls = (before seen : History) (old l behind new : Line) (w : Work)
-    → l.machine ≡ run old.machine (first_calls w.now) → Served before seen l behind w → new
-    ≡ record behind { machine = run behind.machine (sending_calls w.sent w.lost) }
+    → l.machine ≡ run old.machine (first_calls w.now) → Served before seen l behind w → new ≡ line_sent behind w.sent w.lost
     → new.machine ≡ run old.machine (calls_of (works w))
 
 -- what frames deliver are the payloads of the messages that they apply

@@ -1,5 +1,5 @@
 -- A connection as one end sees it between its turns, and the frames that a turn takes of what it read (this project's profile).
-use Rattle.std.specs.Prelude.{◌≡◌, ℕ, ◌+◌, Bool, if◌then◌else◌, List, [], ◌∷◌, ◌++◌, drop, length, replicate, None}
+use Rattle.std.specs.Prelude.{◌≡◌, ℕ, ◌+◌, Bool, false, not, ◌&&◌, is_some, if◌then◌else◌, List, [], ◌∷◌, ◌++◌, drop, length, replicate, None}
 use Rattle.session_model.specs.Inbox.{Numbered}
 use Rattle.sofh_frame.specs.Framing.{Frame, BeginsWith}
 use Rattle.fixp_replies.specs.Acts.{is_record}
@@ -11,12 +11,15 @@ use Rattle.fixp_machine.specs.Machine.{State, Call, did, held_done, run, around}
 use Rattle.fixp_machine.specs.Machine as calls
 
 -- the session machine; the bytes read of which no frame was taken yet; the place of the first of them among all bytes of the
--- connection; and whether the link has given its end
+-- connection; whether the link has given its end; whether a range was served as its last turn began; and whether the link left output
+-- unsent as it was sent last, which is so still as that turn began
 pub record Line : Type 0 where
   pub machine : State
   pub held : List ℕ
   pub place : ℕ
   pub over : Bool
+  pub serves : Bool
+  pub waits : Bool
 
 -- a frame that a turn took: its place, its message in its byte order, what that is to an end, whether its act is a record, which was
 -- made stable and then told to be done, and how many held messages were applied behind it, each made stable and then told to be done
@@ -50,14 +53,18 @@ ready_in m = ready m.facts.recorded.inbox_next m.held
 abbrev pub ready_behind : ℕ → Line → TakenFrame → List Numbered
 ready_behind now l t = ready_in (run l.machine (act_calls now t))
 
--- a further frame may be taken: the connection has not ended, and no range is served
-pub record MayTake (m : State) : Type 0 where
-  pub goes_on : m.ending ≡ None
-  pub free : m.facts.connection.serving ≡ None
+-- a range began in the turn: one is served, and none was as the turn began
+abbrev pub has_begun : Line → Bool
+has_begun l = is_some l.machine.facts.connection.serving && not l.serves
+
+-- a further frame may be taken: the connection has not ended, and no range began in the turn
+pub record MayTake (l : Line) : Type 0 where
+  pub goes_on : l.machine.ending ≡ None
+  pub free : has_begun l ≡ false
 
 -- the frame stands at the front of what is held, and may be taken
 pub record IsNext (l : Line) (t : TakenFrame) : Type 0 where
-  pub may : MayTake l.machine
+  pub may : MayTake l
   pub begins : BeginsWith l.held t.frame (size_of t.frame)
   pub at : t.at ≡ l.place
   pub is : IsIncoming t.frame.order t.frame.message t.incoming
@@ -76,6 +83,8 @@ line_after now l t = record {
   held = drop (size_of t.frame) l.held;
   place = l.place + size_of t.frame;
   over = l.over;
+  serves = l.serves;
+  waits = l.waits;
 }
 
 -- what the line is once frames were taken, one after another

@@ -42,7 +42,7 @@ pub data Refusal : Type 0 where
   of_act : TakenFrame → Refusal
   of_held : TakenFrame → Numbered → Refusal
 
--- What a turn did: it only sent, where output was unsent at its start or its tick ended the connection; it worked; its link
+-- What a turn did: it only sent, where more output was unsent at its start than an end receives beside, or its tick ended the connection; it worked; its link
 -- failed as it received; it was cut short, by a journal or by memory, behind these frames, and behind them by what was refused, if
 -- something was; or it had no memory to begin
 pub data Turn : Type 0 where

@@ -9,7 +9,7 @@ use Rattle.fixp_msgs.specs.Payload.{IsApplication}
 use Rattle.fixp_machine.specs.Machine.{State, run}
 use Rattle.conn_turns.specs.Lines.{Line, line_after, lines_after}
 use Rattle.conn_turns.specs.Turns.{Work, sending_calls}
-use Rattle.conn_turns.specs.Exact.{line_ticked}
+use Rattle.conn_turns.specs.Exact.{line_ticked, line_sent}
 use Rattle.turn_laws.specs.Turns.{line_received, Works}
 use Rattle.turn_laws.specs.Legs.{TurnedLeg, AreTurnsOf, IsTimely, first_line}
 use Rattle.honest_ends.specs.Resting.{IsIdle}
@@ -73,7 +73,7 @@ abbrev first_a : Line
 first_a = first_line (begins sample_config) 0
 
 abbrev mid_a : Line
-mid_a = record (line_ticked first_a 0) { machine = run (line_ticked first_a 0).machine (sending_calls (frame_bytes opening) false) }
+mid_a = line_sent (line_ticked first_a 0) (frame_bytes opening) false
 
 abbrev work_a : Work
 work_a = hears answer []

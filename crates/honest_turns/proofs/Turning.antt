@@ -198,10 +198,11 @@ turn_steps outbox ha w c before after old new (works a) tail is alike drained ma
     r = lines_after a.now l a.frames
 
     broken : a.broken ≡ None
-    broken = k.served.broken ∙ none_broken (nat_lt (length a.frames) 16) (may_take r.machine) (is_bad (first_of r.held)) r.place (not_bad y.left r.held tail y.legal (y.goes_on tail e))
+    broken = k.served.broken ∙ none_broken (nat_lt (length a.frames) 16) (may_take r) (is_bad (first_of r.held)) r.place (not_bad y.left r.held tail y.legal (y.goes_on tail e))
 
     last : AllByRecursion (IsOther h) (finish_calls a.now a.finish)
-    last = finish_other outbox a.at_finish (closed_at l a) a.now a.finish k.served.finish (subst (λ (s : History). BeginsHistory s outbox) (sym k.served.seen) begins)
+    last = due_unless l (finish_of (closed_at l a) a.at_finish) a.finish (λ (o : Option ℕ). AllByRecursion (IsOther h) (finish_calls a.now o)) k.served.finish tt
+        (finish_other outbox a.at_finish (closed_at l a) a.now (finish_of (closed_at l a) a.at_finish) refl (subst (λ (s : History). BeginsHistory s outbox) (sym k.served.seen) begins))
 
     other : AllByRecursion (IsOther h) rest
     other = all_append (IsOther h) closing (outboxes ++ sending) (closing_other h a.now a.broken a.link_over broken)

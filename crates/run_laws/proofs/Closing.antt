@@ -93,8 +93,10 @@ turn_tells outbox before after old new (works w) k begins =
     let agains : List Call = again_calls w.now w.again in
     let lives : List Call = live_calls w.now w.live in
     let ends : List Call = finish_calls w.now w.finish in
-    let last : AllByRecursion (Tells outbox) ends = finish_tells outbox w.at_finish (closed_at (line_received old w.now w.received w.got) w) w.now w.finish k.served.finish
-    (subst (λ (h : History). BeginsHistory h outbox) (sym k.served.seen) begins) in (
+    let l : Line = line_received old w.now w.received w.got in
+    let last : AllByRecursion (Tells outbox) ends =
+    due_unless l (finish_of (closed_at l w) w.at_finish) w.finish (λ (o : Option ℕ). AllByRecursion (Tells outbox) (finish_calls w.now o)) k.served.finish tt
+    (finish_tells outbox w.at_finish (closed_at l w) w.now (finish_of (closed_at l w) w.at_finish) refl (subst (λ (h : History). BeginsHistory h outbox) (sym k.served.seen) begins)) in (
       tt,
       (
         tt,

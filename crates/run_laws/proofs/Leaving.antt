@@ -4,7 +4,8 @@ use Rattle.std.specs.List.{AllByRecursion}
 use Rattle.session_model.specs.Journal.{History}
 use Rattle.fixp_machine.specs.Machine.{State, run}
 use Rattle.conn_turns.specs.Lines.{Line}
-use Rattle.conn_turns.specs.Turns.{Turn, only_sends, works, link_lost, cut_short, not_begun, sending_calls}
+use Rattle.conn_turns.specs.Turns.{Turn, only_sends, works, link_lost, cut_short, not_begun}
+use Rattle.conn_turns.specs.Exact.{line_sent}
 use Rattle.turn_laws.specs.Turns.{IsTurn}
 use Rattle.turn_laws.specs.Legs.{TurnedLeg, AreTurns, first_line}
 use Rattle.honest_turns.specs.Sides.{MakesTurns}
@@ -100,19 +101,21 @@ same_config e f (opens j r p) = same_config j f p ∙ r.config
 
 -- ---- turns lead to one line alone
 
-line_same : (x y : Line) → x.machine ≡ y.machine → x.held ≡ y.held → x.place ≡ y.place → x.over ≡ y.over → x ≡ y
-line_same x y machine held place over =
-    ap (λ (m : State). record { machine = m; held = x.held; place = x.place; over = x.over }) machine
-    ∙ (ap (λ (bs : List ℕ). record { machine = y.machine; held = bs; place = x.place; over = x.over }) held
-    ∙ (ap (λ (n : ℕ). record { machine = y.machine; held = y.held; place = n; over = x.over }) place
-    ∙ ap (λ (b : Bool). record { machine = y.machine; held = y.held; place = y.place; over = b }) over))
+line_same : (x y : Line) → x.machine ≡ y.machine → x.held ≡ y.held → x.place ≡ y.place → x.over ≡ y.over → x.serves ≡ y.serves → x.waits ≡ y.waits → x ≡ y
+line_same x y machine held place over serves waits =
+    ap (λ (m : State). record { machine = m; held = x.held; place = x.place; over = x.over; serves = x.serves; waits = x.waits }) machine
+    ∙ (ap (λ (bs : List ℕ). record { machine = y.machine; held = bs; place = x.place; over = x.over; serves = x.serves; waits = x.waits }) held
+    ∙ (ap (λ (n : ℕ). record { machine = y.machine; held = y.held; place = n; over = x.over; serves = x.serves; waits = x.waits }) place
+    ∙ (ap (λ (b : Bool). record { machine = y.machine; held = y.held; place = y.place; over = b; serves = x.serves; waits = x.waits }) over
+    ∙ (ap (λ (b : Bool). record { machine = y.machine; held = y.held; place = y.place; over = y.over; serves = b; waits = x.waits }) serves
+    ∙ ap (λ (b : Bool). record { machine = y.machine; held = y.held; place = y.place; over = y.over; serves = y.serves; waits = b }) waits))))
 
 turn_same : (b a b' a' : History) (old x y : Line) (t : Turn) → IsTurn b a old x t → IsTurn b' a' old y t → x ≡ y
 turn_same b a b' a' old x y (only_sends now sent lost) k l = k.0.line ∙ sym l.0.line
 turn_same b a b' a' old x y (works w) k l =
     let same : k.behind ≡ l.behind =
-    line_same k.behind l.behind (k.served.machine ∙ sym l.served.machine) (k.served.held ∙ sym l.served.held) (k.served.place ∙ sym l.served.place) (k.served.over ∙ sym l.served.over) in
-    k.sends.line ∙ (ap (λ (z : Line). record z { machine = run z.machine (sending_calls w.sent w.lost) }) same ∙ sym l.sends.line)
+    line_same k.behind l.behind (k.served.machine ∙ sym l.served.machine) (k.served.held ∙ sym l.served.held) (k.served.place ∙ sym l.served.place) (k.served.over ∙ sym l.served.over) (k.served.serves ∙ sym l.served.serves) (k.served.waits ∙ sym l.served.waits) in
+    k.sends.line ∙ (ap (λ (z : Line). line_sent z w.sent w.lost) same ∙ sym l.sends.line)
 turn_same b a b' a' old x y (link_lost now) k l = k.0 ∙ sym l.0
 turn_same b a b' a' old x y (cut_short now received frames refused) k l = absurd k
 turn_same b a b' a' old x y not_begun k l = absurd k

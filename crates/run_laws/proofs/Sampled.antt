@@ -20,7 +20,7 @@ use Rattle.fixp_shake.specs.declared.phase.Phase.TheVariants.{Ended}
 use Rattle.fixp_replies.specs.declared.facts.EndState.{EndState}
 use Rattle.fixp_machine.specs.Machine.{State, fresh, run, link_end, phase_of}
 use Rattle.fixp_machine.specs.Accepting.{model_flow}
-use Rattle.conn_turns.specs.Exact.{line_ticked}
+use Rattle.conn_turns.specs.Exact.{line_ticked, line_sent}
 use Rattle.conn_turns.specs.Lines.{Line, lines_after}
 use Rattle.conn_turns.specs.Turns.{Work, only_sends, works, link_lost, calls_of_frames, closing_calls, outbox_calls, sending_calls}
 use Rattle.gw_links.specs.declared.link.Got.TheVariants as gots
@@ -430,7 +430,7 @@ abbrev ticked_i : Line
 ticked_i = line_ticked (first_line start_i 0) 0
 
 abbrev last_i : Line
-last_i = record ticked_i { machine = run ticked_i.machine (sending_calls of_initiator.taken true) }
+last_i = line_sent ticked_i of_initiator.taken true
 
 abbrev pub leg_i : TurnedLeg
 leg_i = record { moment = 0; turns = only_sends 0 of_initiator.taken true ∷ []; cut = None }
@@ -521,10 +521,12 @@ served_a = record {
   held = (lines_after 0 received_a []).held;
   place = (lines_after 0 received_a []).place;
   over = (lines_after 0 received_a []).over;
+  serves = (lines_after 0 received_a []).serves;
+  waits = (lines_after 0 received_a []).waits;
 }
 
 abbrev mid_a : Line
-mid_a = record served_a { machine = run served_a.machine (sending_calls [] false) }
+mid_a = line_sent served_a [] false
 
 works_a : Works nothing nothing begun_a mid_a heard
 works_a = record {
@@ -548,6 +550,8 @@ works_a = record {
     held = refl;
     place = refl;
     over = refl;
+    serves = refl;
+    waits = refl;
   };
   sends = record { front = (served_a.machine.unsent, refl); line = refl };
 }

@@ -70,7 +70,7 @@ module _ {J : Type 0} {G : Ghosts J} where
           result = result;
           is = work_is_one now old.seen new.seen old.line new.line w.behind w.work w.at w.served (record { front = w.front; line = w.line });
           does = (
-            subst (λ (n : ℕ). DoesMore old.line n) (sym w.at) (x.idle, x.unended),
+            subst (λ (n : ℕ). DoesMore old.line n) (sym w.at) (x.little, x.unended),
             w.received,
             subst (λ (m : State). SendsAll m (turn_at new after) w.work.sent w.work.lost result) (work_unsent now old.seen new.seen old.line w.behind w.work w.at w.served)
                 (record { whole = w.whole; full = w.full; answer = w.answer; kept = w.kept }),
@@ -86,7 +86,7 @@ module _ {J : Type 0} {G : Ghosts J} where
       }
       by_kind (inr l) = record {
         turn = link_lost now;
-        made = record { result = result; is = (l.line, l.same_seen); does = ((x.idle, x.unended), l.answer); moved = l.moved; moment = refl; clock = clock };
+        made = record { result = result; is = (l.line, l.same_seen); does = ((x.little, x.unended), l.answer); moved = l.moved; moment = refl; clock = clock };
         timely = record { bytes = All-nil (λ (b : ℕ). b < 256); time = time };
         faithful = λ _. tt;
         gains = gains_none old.box new.box l.same_box;
@@ -108,7 +108,7 @@ module _ {J : Type 0} {G : Ghosts J} where
         few = cut.few;
         made = record {
           cut = record { got = k.work.got; taken = cut.taken; is = cut.is };
-          more = (k.idle, k.unended);
+          more = (k.little, k.unended);
           found = r.found;
           moved = r.moved;
           moment = refl;

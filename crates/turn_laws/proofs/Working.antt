@@ -2,19 +2,19 @@
 use Rattle.turn_laws.proofs.Draining.{link_drained, first_drained, frames_drained, closing_drained, again_calls_drained, live_calls_drained, finish_calls_drained, sending_drained, helds_ready}
 use Rattle.conn_turns.specs.Refusals.{IsRefused}
 use Rattle.std.proofs.Common.{◌≡◌, ℕ, Bool, true, false, ◌&&◌, if◌then◌else◌, List, [], ◌∷◌, ◌++◌, length, Option, Some, None, refl, sym, ap, subst, ◌∙◌, true≢false, ◌<◌}
-use Rattle.std.specs.Prelude.{IfSome, is_none, nat_lt}
+use Rattle.std.specs.Prelude.{IfSome, is_none, not, nat_lt}
 use mathlib.Core.List.{IsPrefix}
 use Rattle.session_model.specs.Journal.{Entry, History}
 use Rattle.session_model.proofs.Lists.{prefix_trans}
 use Rattle.sofh_frame.specs.Framing.{first_of}
 use Rattle.fixp_replies.specs.declared.act.Ending.{Ending}
 use Rattle.fixp_machine.specs.Machine.{State, Call, link_end, run, IsDrained, front_of}
-use Rattle.conn_turns.specs.Lines.{Line, lines_after}
+use Rattle.conn_turns.specs.Lines.{Line, has_begun, lines_after}
 use Rattle.conn_turns.specs.Frames.{is_unframed, unframed_at, is_bad}
 use Rattle.conn_turns.specs.Turns.{Work, Turn, IsFaithful, only_sends, works, link_lost, cut_short, not_begun, first_calls, calls_of_frames, closing_calls, again_calls, live_calls, finish_calls, outbox_calls, sending_calls, calls_of, Refusal, of_act, of_held, refused_calls, live_beside, live_of}
 use Rattle.fixp_machine.specs.Machine as calls
 use Rattle.conn_turns.specs.Exact.{Served, closed_at}
-use Rattle.conn_turns.proofs.Taking.{run_append, frames_make_calls, work_makes_calls}
+use Rattle.conn_turns.proofs.Taking.{run_append, frames_make_calls, work_makes_calls, due_unless}
 use Rattle.connection_laws.specs.Courses.{Course, course_after}
 use Rattle.connection_laws.specs.Standing.{MayStand, AllMayStand}
 use Rattle.turn_laws.specs.Turns.{line_received, IsTurn}
@@ -26,7 +26,7 @@ use Rattle.turn_laws.proofs.Outbox.{again_goes, live_goes}
 broken_open : (count : ℕ) (l : Line) (broken : Option ℕ) → broken ≡ unframed_at count l → IfSome broken (λ (_ : ℕ). l.machine.ending ≡ None)
 broken_open count l broken is = subst (λ (o : Option ℕ). IfSome o (λ (_ : ℕ). l.machine.ending ≡ None)) (sym is) (by_test (is_unframed count l) refl)
   where
-    by_ending : (e : Option Ending) (few b : Bool) → l.machine.ending ≡ e → (few && (is_none e && is_none l.machine.facts.connection.serving) && b) ≡ true → l.machine.ending ≡ None
+    by_ending : (e : Option Ending) (few b : Bool) → l.machine.ending ≡ e → (few && (is_none e && not (has_begun l)) && b) ≡ true → l.machine.ending ≡ None
     by_ending None few b k t = k
     by_ending (Some x) true b k t = absurd (true≢false (sym t))
     by_ending (Some x) false b k t = absurd (true≢false (sym t))
@@ -55,10 +55,12 @@ outbox_goes h c before after l behind w s drained has v faithful =
     let last : IsPrefix w.at_finish.made h = subst (λ (x : History). IsPrefix x.made h) (sym v.seen) has.begins in
     let mid : IsPrefix w.at_live.made h = prefix_trans w.at_live.made w.at_finish.made h v.seen_finish.made last in
     let first : IsPrefix w.at_again.made h = prefix_trans w.at_again.made w.at_live.made h v.seen_live.made mid in
-    let x : Goes h c k agains = subst (λ (o : Option (List (List ℕ))). Goes h c k (again_calls w.now o)) (sym (faithful.0 ∙ v.due_again)) (again_goes h c k w.now w.at_again s first) in
+    let x : Goes h c k agains = due_unless l (served_of (served_now k) w.at_again) w.again (λ (o : Option (List (List ℕ))). Goes h c k (again_calls w.now o)) (faithful.0 ∙ v.due_again) (nothing h c k s)
+    (again_goes h c k w.now w.at_again s first) in
     let d : Course = course_after c agains in
     let m : State = run k agains in
-    let y : Goes h d m lives = subst (λ (o : Option (List (List ℕ))). Goes h d m (live_calls w.now o)) (sym (faithful.1 ∙ v.due_live)) (beside_goes h d m w.now w.at_live w.again x.after mid has.few) in
+    let y : Goes h d m lives = due_unless l (live_beside w.again (live_of m w.at_live)) w.live (λ (o : Option (List (List ℕ))). Goes h d m (live_calls w.now o)) (faithful.1 ∙ v.due_live) (nothing h d m x.after)
+    (beside_goes h d m w.now w.at_live w.again x.after mid has.few) in
     and_then h c k agains (lives ++ ends) x (and_then h d m lives ends y (finish_go h (course_after d lives) (run m lives) w.now w.finish y.after
     (live_calls_drained m w.now w.live (again_calls_drained k w.now w.again drained))))
 

@@ -44,7 +44,7 @@ calls_on t = flat_map calls_of (all_turns t)
 
 -- the line of a connection that begins in this state
 abbrev pub first_line : State → ℕ → Line
-first_line s now = record { machine = connected s now; held = []; place = 0; over = false }
+first_line s now = record { machine = connected s now; held = []; place = 0; over = false; serves = false; waits = false }
 
 -- such a connection is made of these turns, over an outbox that begins with all that was seen, of which each turn sent what it had seen
 pub record AreTurnsOf (h : List Entry) (s : State) (t : TurnedLeg) : Type 0 where

@@ -1,5 +1,5 @@
 -- What a turn did over its link, beside what it made of its line (this project's profile).
-use Rattle.std.specs.Prelude.{◌≡◌, ◌≢◌, ◌⊎◌, ℕ, ◌+◌, ◌<◌, ◌≤◌, max, Bool, true, false, List, [], ◌++◌, length, Option, None, IsSome, IfSome, Result, Ok}
+use Rattle.std.specs.Prelude.{◌≡◌, ◌⊎◌, ℕ, ◌+◌, ◌<◌, ◌≤◌, max, Bool, true, false, List, [], ◌++◌, length, Option, None, IsSome, IfSome, Result, Ok}
 use Rattle.session_model.specs.Journal.{History}
 use Rattle.gw_links.specs.declared.link.Got.{Got}
 use Rattle.gw_links.specs.Links.{LinkTold, Carried, Moved}
@@ -9,7 +9,7 @@ use Rattle.conn_turns.specs.declared.answer.TurnEnd.{TurnEnd}
 use Rattle.conn_turns.specs.declared.answer.TurnFault.{TurnFault}
 use Rattle.conn_turns.specs.Lines.{Line, TakenFrame}
 use Rattle.conn_turns.specs.Turns.{Turn, only_sends, works, link_lost, cut_short, not_begun, first_calls, calls_of_frames, closing_calls, outbox_calls, Refusal}
-use Rattle.conn_turns.specs.Exact.{Received, line_ticked, most_held}
+use Rattle.conn_turns.specs.Exact.{Received, receives, line_ticked, most_held}
 use Rattle.conn_loop.specs.Conn.{answer_of}
 use Rattle.conn_loop.specs.Live.{EndAt}
 use Rattle.conn_loop.specs.Moving.{IsLossOf}
@@ -37,13 +37,13 @@ calls_unsent (link_lost now) = first_calls now
 calls_unsent (cut_short now received frames refused) = []
 calls_unsent not_begun = []
 
--- something was unsent, or the tick ended the connection: a turn only sends
+-- more was unsent than an end receives beside, or the tick ended the connection: a turn only sends
 abbrev pub SendsAlone : Line → ℕ → Type 0
-SendsAlone l now = (l.machine.unsent ≢ []) ⊎ IsSome (line_ticked l now).machine.ending
+SendsAlone l now = (receives l ≡ false) ⊎ IsSome (line_ticked l now).machine.ending
 
--- nothing was unsent, and the tick left the connection open: a turn does more
+-- no more was unsent, and the tick left the connection open: a turn does more
 abbrev pub DoesMore : Line → ℕ → Type 0
-DoesMore l now = (l.machine.unsent ≡ []) × ((line_ticked l now).machine.ending ≡ None)
+DoesMore l now = (receives l ≡ true) × ((line_ticked l now).machine.ending ≡ None)
 
 -- it received once, of the whole room that was left
 abbrev pub ReceivesOnce : (eager : Bool) → TurnAt → (received : List ℕ) → Option Got → Type 0

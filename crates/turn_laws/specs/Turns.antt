@@ -9,13 +9,13 @@ use Rattle.gw_links.specs.declared.link.Got.{Got}
 use Rattle.conn_turns.specs.Lines.{Line, TakenFrame, AreTaken, lines_after}
 use Rattle.conn_turns.specs.declared.news.NewsItem.{NewsItem}
 use Rattle.conn_turns.specs.Frames.{added, told}
-use Rattle.conn_turns.specs.Turns.{Work, Turn, only_sends, works, link_lost, cut_short, not_begun, sending_calls, is_end, Refusal}
-use Rattle.conn_turns.specs.Exact.{Served, line_ticked}
+use Rattle.conn_turns.specs.Turns.{Work, Turn, only_sends, works, link_lost, cut_short, not_begun, is_end, Refusal}
+use Rattle.conn_turns.specs.Exact.{Served, line_ticked, line_sent}
 
 -- a front of what was unsent was sent
 pub record Sends (sent : List ℕ) (lost : Bool) (old new : Line) : Type 0 where
   pub front : IsPrefix sent old.machine.unsent
-  pub line : new ≡ record old { machine = run old.machine (sending_calls sent lost) }
+  pub line : new ≡ line_sent old sent lost
 
 -- the line behind a tick and a receive: these bytes stand behind those held, and it is known whether the link has given its end
 abbrev pub line_received : Line → ℕ → List ℕ → Option Got → Line

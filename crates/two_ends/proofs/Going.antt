@@ -133,7 +133,7 @@ leg_begins b legs e now k time h has =
     record {
       behind = r.made;
       before = e.seen;
-      made = (ap (λ (x : State). record { machine = x; held = []; place = 0; over = false }) (r.next now), refl);
+      made = (ap (λ (x : State). record { machine = x; held = []; place = 0; over = false; serves = false; waits = false }) (r.next now), refl);
       faithful = tt;
       uncut = refl;
       in_time = record { begins = time; turns = tt };

@@ -13,7 +13,7 @@ use Rattle.fixp_msgs.proofs.Written.{message_spells}
 use Rattle.fixp_shake.specs.declared.config.EndConfig.{EndConfig}
 use Rattle.fixp_machine.specs.Machine.{run}
 use Rattle.conn_turns.specs.Lines.{Line, IsNext, MayTake, line_after, lines_after}
-use Rattle.conn_turns.specs.Exact.{line_ticked}
+use Rattle.conn_turns.specs.Exact.{line_ticked, line_sent}
 use Rattle.conn_turns.specs.Turns.{Turn, Work, works, calls_of_frames, closing_calls, outbox_calls, sending_calls}
 use Rattle.connection_laws.specs.Writing.{said, bytes_written}
 use Rattle.connection_laws.specs.Samples.{sample_config}
@@ -38,13 +38,15 @@ served_in old w = record {
   held = (lines_after w.now (received_in old w) w.frames).held;
   place = (lines_after w.now (received_in old w) w.frames).place;
   over = (lines_after w.now (received_in old w) w.frames).over;
+  serves = (lines_after w.now (received_in old w) w.frames).serves;
+  waits = (lines_after w.now (received_in old w) w.frames).waits;
 }
 
 abbrev sent_in : Line → Work → Line
-sent_in old w = record (served_in old w) { machine = run (served_in old w).machine (sending_calls w.sent w.lost) }
+sent_in old w = line_sent (served_in old w) w.sent w.lost
 
 -- the frame of a message at the front
-next_is : (l : Line) (m : Message) → IsLegal m → MayTake l.machine → l.held ≡ frame_bytes m → l.place ≡ 0 → IsNext l (frame_of m)
+next_is : (l : Line) (m : Message) → IsLegal m → MayTake l → l.held ≡ frame_bytes m → l.place ≡ 0 → IsNext l (frame_of m)
 next_is l m legal may held place =
     let f : Frame = (frame_of m).frame in
     let there = frame_of_message m legal in
@@ -65,7 +67,7 @@ abbrev first_a : Line
 first_a = first_line (begins sample_config) 0
 
 abbrev mid_a : Line
-mid_a = record (line_ticked first_a 0) { machine = run (line_ticked first_a 0).machine (sending_calls (frame_bytes opening) false) }
+mid_a = line_sent (line_ticked first_a 0) (frame_bytes opening) false
 
 sends_a : Sends (frame_bytes opening) false (line_ticked first_a 0) mid_a
 sends_a = record { front = ([], refl); line = refl }
@@ -96,6 +98,8 @@ works_a = record {
     held = refl;
     place = refl;
     over = refl;
+    serves = refl;
+    waits = refl;
   };
   sends = record { front = ((served_in mid_a work_a).machine.unsent, refl); line = refl };
 }
@@ -140,6 +144,8 @@ works_b = record {
     held = refl;
     place = refl;
     over = refl;
+    serves = refl;
+    waits = refl;
   };
   sends = record { front = ([], refl); line = refl };
 }

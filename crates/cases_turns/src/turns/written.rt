@@ -15,6 +15,7 @@ fn parts_of(said: &SessionMsg<'_>) -> (&'static str, Option<u64>, Option<u32>) {
         SessionMsg::Sequence(m) => ("Sequence", Some(m.next_seq), None),
         SessionMsg::RetransmitRequest(m) => ("RetransmitRequest", Some(m.from_seq), Some(m.count)),
         SessionMsg::Retransmission(m) => ("Retransmission", Some(m.next_seq), Some(m.count)),
+        SessionMsg::Terminate(m) => ("Terminate", Some(u64::from(m.code)), None),
         _ => ("another", None, None),
     }
 }

@@ -26,6 +26,8 @@ returns-clause-closed c =
     (ap (λ (l : Line). l.held) ended ∙ ap (λ (l : Line). l.held) told)
     (ap (λ (l : Line). l.place) ended ∙ ap (λ (l : Line). l.place) told)
     (ap (λ (l : Line). l.over) ended ∙ ap (λ (l : Line). l.over) told)
+    (ap (λ (l : Line). l.serves) ended ∙ ap (λ (l : Line). l.serves) told)
+    (ap (λ (l : Line). l.waits) ended ∙ ap (λ (l : Line). l.waits) told)
 
 pub returns-clause-told : goal.returns-clause-told
 returns-clause-told c = λ goes. c.turn_done.ensures.told (sym (ap (λ (s : State). s.ending) c.turn_done.ensures.turn ∙ turn_keeps c.tell_end.new.self.end c.args.now) ∙ goes)

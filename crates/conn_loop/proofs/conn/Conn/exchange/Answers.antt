@@ -103,4 +103,4 @@ returns-in_default-clause-leaves_lost g c = λ _.
     (subst (λ (x : State). KeepsAll x n x.moment) same c.lose_link.ensures.keeps) (c.lose_link.ensures.facts ∙ ap (λ (x : State). x.facts) same)
 
 pub returns-clause-least : goal.returns-clause-least
-returns-clause-least g c = λ e flow. c.in_default-work.ensures.least (ap (λ (l : Line). is_absent l.machine.config.own_flow) c.in-Ok.ensures.received.line ∙ flow)
+returns-clause-least g c = λ e waits flow. c.in_default-work.ensures.least (ap (λ (l : Line). l.waits) c.in-Ok.ensures.received.line ∙ waits) (ap (λ (l : Line). is_absent l.machine.config.own_flow) c.in-Ok.ensures.received.line ∙ flow)

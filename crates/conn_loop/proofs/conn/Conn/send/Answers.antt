@@ -1,9 +1,10 @@
-use Rattle.std.proofs.Common.{◌≡◌, ◌≤◌, ◌++◌, [], ℕ, List, length, take, drop, true, false, Ok, refl, sym, ap, subst, ◌∙◌, arith, length-drop, take-append-drop, true≢false}
+use Rattle.std.proofs.Common.{◌≡◌, ◌≤◌, ◌==◌, not, ◌++◌, [], ℕ, List, length, take, drop, true, false, Ok, refl, sym, ap, subst, ◌∙◌, arith, length-drop, take-append-drop, true≢false}
 use Rattle.std.proofs.lemmas.List.{length-take-le}
 use Rattle.gw_links.specs.Links.{Moved}
 use Rattle.fixp_machine.specs.Machine.{State}
 use Rattle.conn_turns.specs.declared.answer.TurnEnd.{TurnEnd}
 use Rattle.conn_steps.proofs.Following.{line_is}
+use Rattle.conn_loop.proofs.Machine.{link_keeps}
 use Rattle.conn_loop.proofs.conn.Conn.send.Goals as goal
 
 pub returns-in-Ok-clause-sent : goal.returns-in-Ok-clause-sent
@@ -18,7 +19,8 @@ returns-in-Ok-clause-sent g c =
       sent = take n u;
       lost = false;
       front = (drop n u, take-append-drop n u);
-      line = line_is _ _ (c.taken.ensures ∙ ap (λ (k : ℕ). record m { unsent = drop k u }) (sym (length-take-le n u within))) refl refl refl;
+      line = line_is _ _ (c.taken.ensures ∙ ap (λ (k : ℕ). record m { unsent = drop k u }) (sym (length-take-le n u within))) refl refl refl refl
+          (c.has_unsent.ensures ∙ ap (λ (s : State). not (length s.unsent == 0)) (c.taken.ensures ∙ ap (λ (k : ℕ). record m { unsent = drop k u }) (sym (length-take-le n u within))));
       whole = λ _. sym (take-append-drop n u) ∙ ap (λ (bytes : List ℕ). take n u ++ bytes) (sym rest);
       full = λ _ some. c.in-Ok.ensures.full (omega (arith, some, ap (λ (bytes : List ℕ). length bytes) rest, length-drop n u, long));
       answer = λ e. absurd (true≢false (sym e));
@@ -34,7 +36,7 @@ returns-in-Err-clause-sent g c =
       sent = take took.count u;
       lost = true;
       front = (drop took.count u, take-append-drop took.count u);
-      line = c.lose_link.ensures.line;
+      line = c.lose_link.ensures.line ∙ line_is _ _ refl refl refl refl refl (c.has_unsent.ensures ∙ ap (λ (bytes : List ℕ). not (length bytes == 0)) (sym (link_keeps c.args.self.now.end).0));
       whole = λ e. absurd (true≢false e);
       full = λ e. absurd (true≢false e);
       answer = λ _. c.lose_link.ensures.answer;

@@ -48,7 +48,7 @@ returns-in-Ok-clause-live g c =
       as_due = subst (λ (o : Option (List (List ℕ))). IsAsDue o (Some pays)) due
           (due_given h (c.sent.result + 1) 16 c.as_slice.result.now given (applied_as c.as_slice.ensures.value c.in-Ok.ensures.applications));
       told = λ tells. told_given h (c.sent.result + 1) 16 c.as_slice.result.now given tells ∙ due;
-      line = line_is _ _ c.send_live.ensures.live refl refl refl;
+      line = line_is _ _ c.send_live.ensures.live refl refl refl refl refl;
     }
 
 pub returns-in-Ok-clause-mark : goal.returns-in-Ok-clause-mark

@@ -3,6 +3,7 @@ use Rattle.std.proofs.lemmas.Result.{on_ok_weaker}
 use Rattle.fixp_shake.specs.declared.config.EndConfig.{EndConfig}
 use Rattle.fixp_replies.specs.declared.facts.Facts.{Facts}
 use Rattle.gate_turn.specs.Places.{known}
+use Rattle.conn_turns.specs.Lines.{Line}
 use Rattle.conn_loop.specs.Conn.{line_of}
 use Rattle.conn_loop.specs.Live.{live_end}
 use Rattle.conn_loop.proofs.Working.{seen_same}
@@ -34,24 +35,24 @@ pub returns-clause-did : goal.returns-clause-did
 returns-clause-did g c =
     on_ok_weaker c.exchange.result
     (did_more _ c.moment-now.result _ _ (live_end _ _ _ (line_of c.args.self.now) c.args.inbox.now []) (live_end _ _ _ (line_of c.exchange.new.self) c.exchange.new.inbox _) (line_of c.start.new.self) _ c.exchange.result c.moment-now.ensures.now
-    c.in-Ok.ensures.ticked (c.in-Ok.ensures.idle (cc)) (c.in-Ok.ensures.unended (cc)) c.clear.ensures)
+    c.in-Ok.ensures.ticked (c.in-Ok.ensures.little (cc)) (c.in-Ok.ensures.unended (cc)) c.clear.ensures)
     c.exchange.ensures.did
 
 pub returns-clause-lost : goal.returns-clause-lost
 returns-clause-lost g c = λ e.
     did_more _ c.moment-now.result _ _ (live_end _ _ _ (line_of c.args.self.now) c.args.inbox.now []) (live_end _ _ _ (line_of c.exchange.new.self) c.exchange.new.inbox _) (line_of c.start.new.self) _ c.exchange.result c.moment-now.ensures.now
-    c.in-Ok.ensures.ticked (c.in-Ok.ensures.idle (cc)) (c.in-Ok.ensures.unended (cc)) c.clear.ensures (c.exchange.ensures.lost e)
+    c.in-Ok.ensures.ticked (c.in-Ok.ensures.little (cc)) (c.in-Ok.ensures.unended (cc)) c.clear.ensures (c.exchange.ensures.lost e)
 
 pub returns-clause-cut : goal.returns-clause-cut
 returns-clause-cut g c =
     cut_as c.moment-now.result _ _ (live_end _ _ _ (line_of c.args.self.now) c.args.inbox.now []) (live_end _ _ _ (line_of c.exchange.new.self) c.exchange.new.inbox _) (line_of c.start.new.self) _ c.exchange.result c.moment-now.ensures.now
-    c.in-Ok.ensures.ticked (c.in-Ok.ensures.idle (cc)) (c.in-Ok.ensures.unended (cc)) c.clear.ensures c.exchange.ensures.cut
+    c.in-Ok.ensures.ticked (c.in-Ok.ensures.little (cc)) (c.in-Ok.ensures.unended (cc)) c.clear.ensures c.exchange.ensures.cut
 
 pub returns-then-not-works-clause-goes : goal.returns-then-not-works-clause-goes
 returns-then-not-works-clause-goes g c = λ e.
     let s = c.in-Ok.ensures in
     let t = c.send.ensures in
-    goes_still c.moment-now.result c.args.self.now.end c.start.new.self.end c.send.new.self.end c.requires.goes c.moment-now.ensures.limit s.begun s.done s.drained s.untold s.moment s.config s.facts (s.little (cc)) t.keeps t.facts t.little
+    goes_still c.moment-now.result c.args.self.now.end c.start.new.self.end c.send.new.self.end c.requires.goes c.moment-now.ensures.limit s.begun s.done s.drained s.untold s.moment s.config s.facts (s.small (cc)) t.keeps t.facts t.little
     t.goes (loss_goes c.start.new.self.end c.send.new.self.end c.send.result t.answer e)
 
 pub returns-then-not-works-clause-leaves : goal.returns-then-not-works-clause-leaves
@@ -80,9 +81,10 @@ returns-then-not-works-clause-ended_lost g c = loss_ends c.start.new.self.end c.
 
 pub returns-then-not-works-clause-looked : goal.returns-then-not-works-clause-looked
 returns-then-not-works-clause-looked g c =
-    no_look c.args.self.now.end c.start.new.self.end (known c.args.pass.now) c.send.result (c.in-Ok.ensures.why (cc))
+    no_look (line_of c.args.self.now) c.start.new.self.end (known c.args.pass.now) c.send.result (c.in-Ok.ensures.why (cc))
     (λ e. c.send.ensures.goes (loss_goes c.start.new.self.end c.send.new.self.end c.send.result c.send.ensures.answer e))
 
 pub returns-clause-looked : goal.returns-clause-looked
 returns-clause-looked g c =
-    looked_on c.args.self.now.end c.start.new.self.end (known c.args.pass.now) (known c.exchange.new.pass) c.exchange.result c.in-Ok.ensures.config c.exchange.ensures.most c.exchange.ensures.least
+    looked_on (line_of c.args.self.now) c.start.new.self.end (line_of c.start.new.self).waits (known c.args.pass.now) (known c.exchange.new.pass) c.exchange.result (ap (λ (l : Line). l.waits) c.in-Ok.ensures.ticked)
+    c.in-Ok.ensures.config c.exchange.ensures.most c.exchange.ensures.least

@@ -5,6 +5,8 @@ use Rattle.fixp_shake.specs.declared.config.EndConfig.{EndConfig}
 use Rattle.gate_turn.specs.Places.{known}
 use Rattle.conn_turns.specs.declared.answer.TurnFault.{TurnFault}
 use Rattle.conn_steps.proofs.Inboxes.{kind_on, kind_at}
+use Rattle.conn_turns.specs.Lines.{Line}
+use Rattle.conn_turns.proofs.Taking.{lines_wait}
 use Rattle.conn_loop.specs.Conn.{line_of}
 use Rattle.conn_loop.specs.Serving.{BlamesPass}
 use Rattle.conn_loop.proofs.Working.{served_frames, agrees_at, took_at, cut_at, cut_at_frame, cut_at_outbox}
@@ -69,5 +71,7 @@ returns-clause-cut g c =
 pub returns-clause-least : goal.returns-clause-least
 returns-clause-least g c =
     on_ok_weaker c.serve_outbox.result
-    (λ least flow. least (ap (λ (x : EndConfig). is_absent x.own_flow) (c.close_frames.ensures.config ∙ c.in-Ok.ensures.own.config) ∙ flow))
+    (λ least waits flow. least
+    (ap (λ (l : Line). l.waits) c.close_frames.ensures.closed ∙ (ap (λ (l : Line). l.waits) c.in-Ok.ensures.took.line ∙ (lines_wait c.args.now (line_of c.args.self.now) c.in-Ok.ensures.took.frames ∙ waits)))
+    (ap (λ (x : EndConfig). is_absent x.own_flow) (c.close_frames.ensures.config ∙ c.in-Ok.ensures.own.config) ∙ flow))
     c.serve_outbox.ensures.least
