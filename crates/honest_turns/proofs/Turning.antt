@@ -11,6 +11,7 @@ use Rattle.conn_turns.specs.Lines.{Line, TakenFrame, lines_after}
 use Rattle.conn_turns.specs.Frames.{is_bad, may_take}
 use Rattle.conn_turns.specs.Turns.{Turn, only_sends, works, link_lost, cut_short, not_begun, first_calls, calls_of_frames, bad_calls, end_calls, closing_calls, again_calls, live_calls, finish_calls, outbox_calls, sending_calls, calls_of, finish_of}
 use Rattle.conn_turns.specs.Exact.{closed_at}
+use Rattle.conn_turns.proofs.Taking.{due_unless}
 use Rattle.connection_laws.specs.Writing.{Piece, bytes_written}
 use Rattle.connection_laws.specs.Framed.{IsLegalPiece}
 use Rattle.connection_laws.specs.Courses.{Course, next_course, course_after}

@@ -39,7 +39,7 @@ use Rattle.conn_turns.specs.Lines.{Line, TakenFrame, reply_at, act_calls, frame_
 use Rattle.conn_turns.specs.Frames.{adds, added, applies}
 use Rattle.conn_turns.specs.Turns.{Work, Turn, only_sends, works, link_lost, cut_short, not_begun, first_calls, calls_of_frames, closing_calls, again_calls, live_calls, finish_calls, outbox_calls, sending_calls, call_for, finish_of}
 use Rattle.conn_turns.specs.Exact.{Served, closed_at}
-use Rattle.conn_turns.proofs.Taking.{run_append}
+use Rattle.conn_turns.proofs.Taking.{run_append, due_unless}
 use Rattle.turn_laws.specs.Turns.{IsTurn, adds_in, line_received}
 use Rattle.turn_laws.specs.Made.{TurnAt}
 use Rattle.turn_laws.proofs.Each.{closing_all}
@@ -317,7 +317,8 @@ module _ (cfg : EndConfig) where
       all_append (Plain (InOutbox after)) (closing_calls w) (outbox_calls w) (closing_all (Plain (InOutbox after)) w.now w.broken w.link_over (λ _. tt) tt tt)
       (all_append (Plain (InOutbox after)) (again_calls w.now w.again) (live_calls w.now w.live ++ finish_calls w.now w.finish) (option_plain (InOutbox after) (λ sent. again sent w.now) w.again (λ _ _. tt))
       (all_append (Plain (InOutbox after)) (live_calls w.now w.live) (finish_calls w.now w.finish) (option_plain (InOutbox after) (λ sent. live sent w.now) w.live (λ _ _. tt))
-      (option_plain (InOutbox after) (λ last. closed last w.now) w.finish (λ n e. subst InOutbox v.seen (told_seen (closed_at l w) w.at_finish n (sym v.finish ∙ e)))))) in
+      (due_unless l (finish_of (closed_at l w) w.at_finish) w.finish (λ (o : Option ℕ). AllByRecursion (Plain (InOutbox after)) (finish_calls w.now o)) v.finish tt
+      (option_plain (InOutbox after) (λ last. closed last w.now) (finish_of (closed_at l w) w.at_finish) (λ n e. subst InOutbox v.seen (told_seen (closed_at l w) w.at_finish n e)))))) in
       subst (Stand cfg (InOutbox after) (InInbox j)) (sym (v.machine ∙ run_append l.machine frames (closing_calls w ++ outbox_calls w)))
       (calls_stand cfg (InOutbox after) (InInbox j) (closing_calls w ++ outbox_calls w) plain (run l.machine frames) first)
 

@@ -20,6 +20,7 @@ use Rattle.fixp_machine.specs.Machine.{State, Call, begin, frame, bad_frame, did
 use Rattle.conn_turns.specs.Lines.{Line, TakenFrame, frame_calls, act_calls}
 use Rattle.conn_turns.specs.Turns.{Turn, only_sends, works, link_lost, cut_short, not_begun, calls_of_frames, bad_calls, end_calls, closing_calls, again_calls, live_calls, finish_calls, outbox_calls, sending_calls, calls_of, finish_of, Refusal, of_act, of_held, refused_calls}
 use Rattle.conn_turns.specs.Exact.{closed_at}
+use Rattle.conn_turns.proofs.Taking.{due_unless}
 use Rattle.turn_laws.specs.Turns.{line_received, IsTurn, IsCut}
 use Rattle.turn_laws.specs.Legs.{AreTurns, calls_on}
 use Rattle.honest_turns.specs.Sides.{Side, MakesTurns}

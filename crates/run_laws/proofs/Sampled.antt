@@ -447,14 +447,11 @@ link_i = failing first_i end_i
 abbrev connection_i : Connection
 connection_i = record { link = link_i; leg = leg_i; news = []; adds = []; refused = []; wanted = []; close = Some closes.LinkFault; carried = Some of_initiator }
 
-unsent_i : first_i.line.machine.unsent ≡ [] → ⊥
-unsent_i none = let e : 0 ∷ (drop 1 first_i.line.machine.unsent) ≡ [] = none in absurd cc
-
 sent_i : MadeTurn true first_i end_i (only_sends 0 of_initiator.taken true)
 sent_i = record {
   result = Err turn_faults.Link;
   is = (record { front = (drop 3 ticked_i.machine.unsent, refl); line = refl }, refl);
-  does = (inl unsent_i, record { whole = not_lost; full = λ e. absurd (true≢false e); answer = λ e. (refl, refl, refl); kept = not_lost });
+  does = (inl refl, record { whole = not_lost; full = λ e. absurd (true≢false e); answer = λ e. (refl, refl, refl); kept = not_lost });
   moved = record { tells = tt; carries = refl };
   moment = refl;
   clock = omega arith;

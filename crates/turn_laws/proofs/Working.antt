@@ -11,7 +11,7 @@ use Rattle.fixp_replies.specs.declared.act.Ending.{Ending}
 use Rattle.fixp_machine.specs.Machine.{State, Call, link_end, run, IsDrained, front_of}
 use Rattle.conn_turns.specs.Lines.{Line, has_begun, lines_after}
 use Rattle.conn_turns.specs.Frames.{is_unframed, unframed_at, is_bad}
-use Rattle.conn_turns.specs.Turns.{Work, Turn, IsFaithful, only_sends, works, link_lost, cut_short, not_begun, first_calls, calls_of_frames, closing_calls, again_calls, live_calls, finish_calls, outbox_calls, sending_calls, calls_of, Refusal, of_act, of_held, refused_calls, live_beside, live_of}
+use Rattle.conn_turns.specs.Turns.{Work, Turn, IsFaithful, only_sends, works, link_lost, cut_short, not_begun, first_calls, calls_of_frames, closing_calls, again_calls, live_calls, finish_calls, outbox_calls, sending_calls, calls_of, Refusal, of_act, of_held, refused_calls, served_of, served_now, live_beside, live_of}
 use Rattle.fixp_machine.specs.Machine as calls
 use Rattle.conn_turns.specs.Exact.{Served, closed_at}
 use Rattle.conn_turns.proofs.Taking.{run_append, frames_make_calls, work_makes_calls, due_unless}
