@@ -36,5 +36,5 @@ pub returns-in-Err-send_beside-clause-looks : goal.returns-in-Err-send_beside-cl
 returns-in-Err-send_beside-clause-looks g c =
     looks_on (known c.args.pass.now) (known c.send_again.new.pass) (known c.send_beside.new.pass) c.send_again.ensures.looks c.send_beside.ensures.looks
 
-pub returns-then-waits-clause-served : goal.returns-then-waits-clause-served
-returns-then-waits-clause-served g c = none_served _ c.args.now (known c.args.pass.now).seen (line_of c.args.self.now) (cc)
+pub returns-then-self-clause-served : goal.returns-then-self-clause-served
+returns-then-self-clause-served g c = none_served _ c.args.now (known c.args.pass.now).seen (line_of c.args.self.now) (cc)
