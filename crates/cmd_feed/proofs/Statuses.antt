@@ -15,7 +15,6 @@ use Rattle.conn_feed.specs.declared.end.FeedEnd.TheVariants as ends
 use Rattle.life_laws.proofs.Passes.{answer_blames}
 use Rattle.fed_laws.specs.Answers.{fed_refusal}
 use Rattle.fed_laws.specs.Told.{is_done}
-use Rattle.jr_boxes.specs.declared.faults.Which.TheVariants.{Outbox as OutboxOf}
 use Rattle.jr_boxes.specs.declared.faults.JournalCause.TheVariants as causes
 use Rattle.cmd_base.specs.declared.status.Status.{Status}
 use Rattle.cmd_base.specs.declared.status.Status.TheVariants.{Done, InputFault, OutputFault, JournalFault, JournalBad, DialFault, Unfinished, Rejected, Full, Turns}
@@ -26,7 +25,7 @@ of_life : (r : Result (Unit {0}) ServeFault) → IsOfLife (status_of r)
 of_life (Ok done) = tt
 of_life (Err faults.Output) = tt
 of_life (Err faults.Journal) = tt
-of_life (Err (faults.Changed at)) = tt
+of_life (Err (faults.Changed which at)) = tt
 of_life (Err faults.Dial) = tt
 of_life (Err (faults.Unfinished phase)) = tt
 of_life (Err (faults.Rejected template code)) = tt
@@ -38,7 +37,7 @@ never_input : (r : Result (Unit {0}) ServeFault) → status_of r ≡ InputFault 
 never_input (Ok done) e = cc
 never_input (Err faults.Output) e = cc
 never_input (Err faults.Journal) e = cc
-never_input (Err (faults.Changed at)) e = cc
+never_input (Err (faults.Changed which at)) e = cc
 never_input (Err faults.Dial) e = cc
 never_input (Err (faults.Unfinished phase)) e = cc
 never_input (Err (faults.Rejected template code)) e = cc
@@ -50,7 +49,7 @@ of_output : (r : Result (Unit {0}) ServeFault) → status_of r ≡ OutputFault �
 of_output (Ok done) e = cc
 of_output (Err faults.Output) e = refl
 of_output (Err faults.Journal) e = cc
-of_output (Err (faults.Changed at)) e = cc
+of_output (Err (faults.Changed which at)) e = cc
 of_output (Err faults.Dial) e = cc
 of_output (Err (faults.Unfinished phase)) e = cc
 of_output (Err (faults.Rejected template code)) e = cc
@@ -62,7 +61,7 @@ of_dial : (r : Result (Unit {0}) ServeFault) → status_of r ≡ DialFault → r
 of_dial (Ok done) e = cc
 of_dial (Err faults.Output) e = cc
 of_dial (Err faults.Journal) e = cc
-of_dial (Err (faults.Changed at)) e = cc
+of_dial (Err (faults.Changed which at)) e = cc
 of_dial (Err faults.Dial) e = refl
 of_dial (Err (faults.Unfinished phase)) e = cc
 of_dial (Err (faults.Rejected template code)) e = cc
@@ -152,7 +151,7 @@ answer_in : Status → Result (Unit {0}) ServeFault
 answer_in Done = Ok tt
 answer_in OutputFault = Err faults.Output
 answer_in JournalFault = Err faults.Journal
-answer_in (JournalBad OutboxOf (causes.Changed at)) = Err (faults.Changed at)
+answer_in (JournalBad which (causes.Changed at)) = Err (faults.Changed which at)
 answer_in DialFault = Err faults.Dial
 answer_in (Unfinished phase) = Err (faults.Unfinished phase)
 answer_in (Rejected template code) = Err (faults.Rejected template code)
@@ -165,7 +164,7 @@ unfolding answer_in
 answer_back (Ok tt) = refl
 answer_back (Err faults.Output) = refl
 answer_back (Err faults.Journal) = refl
-answer_back (Err (faults.Changed at)) = refl
+answer_back (Err (faults.Changed which at)) = refl
 answer_back (Err faults.Dial) = refl
 answer_back (Err (faults.Unfinished phase)) = refl
 answer_back (Err (faults.Rejected template code)) = refl
@@ -180,8 +179,8 @@ same_answer a b e = sym (answer_back a) ∙ ap answer_in e ∙ answer_back b
 firm_journals : (x : ServeFault) → BlamesJournals x → (r : Option ServeFault) → answer_of (Err x) r ≡ Err x
 firm_journals faults.Journal b None = refl
 firm_journals faults.Journal b (Some f) = refl
-firm_journals (faults.Changed at) b None = refl
-firm_journals (faults.Changed at) b (Some f) = refl
+firm_journals (faults.Changed which at) b None = refl
+firm_journals (faults.Changed which at) b (Some f) = refl
 firm_journals (faults.Full entries bytes) b None = refl
 firm_journals (faults.Full entries bytes) b (Some f) = refl
 firm_journals faults.Output b r = absurd b
@@ -197,7 +196,7 @@ never_memory x b e = subst BlamesJournals e b
 -- neither is its status that of INPUT, or of ACCEPTED
 journals_apart : (x : ServeFault) → BlamesJournals x → (status_of (Err x) ≡ InputFault → ⊥) × (status_of (Err x) ≡ OutputFault → ⊥)
 journals_apart faults.Journal b = (λ e. cc e, λ e. cc e)
-journals_apart (faults.Changed at) b = (λ e. cc e, λ e. cc e)
+journals_apart (faults.Changed which at) b = (λ e. cc e, λ e. cc e)
 journals_apart (faults.Full entries bytes) b = (λ e. cc e, λ e. cc e)
 journals_apart faults.Output b = absurd b
 journals_apart faults.Dial b = absurd b
@@ -210,7 +209,7 @@ alone_apart : (r : Result (Unit {0}) ServeFault) → IsUnrefused r → (status_o
 alone_apart (Ok done) u = (λ e. cc e, λ e. cc e)
 alone_apart (Err faults.Output) u = absurd (false≢true u)
 alone_apart (Err faults.Journal) u = absurd (false≢true u)
-alone_apart (Err (faults.Changed at)) u = absurd (false≢true u)
+alone_apart (Err (faults.Changed which at)) u = absurd (false≢true u)
 alone_apart (Err faults.Dial) u = absurd (false≢true u)
 alone_apart (Err (faults.Unfinished phase)) u = (λ e. cc e, λ e. cc e)
 alone_apart (Err (faults.Rejected template code)) u = (λ e. cc e, λ e. cc e)
@@ -222,7 +221,7 @@ alone_apart (Err faults.Memory) u = absurd (false≢true u)
 firm_sender : (x : ServeFault) → IsOfSender x → yields x ≡ false
 firm_sender faults.Output h = absurd h
 firm_sender faults.Journal h = refl
-firm_sender (faults.Changed at) h = absurd h
+firm_sender (faults.Changed which at) h = absurd h
 firm_sender faults.Dial h = absurd h
 firm_sender (faults.Unfinished phase) h = absurd h
 firm_sender (faults.Rejected template code) h = absurd h

@@ -48,7 +48,7 @@ status_of_feeding connections ends.Memory mark = status_of (answer_of connection
 -- the faults that blame a journal: a failed call of its disk, a record that it gave otherwise than it was written, and a limit
 abbrev pub BlamesJournals : ServeFault → Type 0
 BlamesJournals faults.Journal = Unit {0}
-BlamesJournals (faults.Changed at) = Unit {0}
+BlamesJournals (faults.Changed which at) = Unit {0}
 BlamesJournals (faults.Full entries bytes) = Unit {0}
 BlamesJournals _ = ⊥
 

@@ -183,12 +183,9 @@ module _ {S K D N C J : Type 0} {H : Ghosts J} (outbox : Outbox J H) (sees : See
       marked = λ u some waits. l.marked u some i.inbox i.holds waits;
       sent = λ u waits t. l.sent u waits i.inbox i.holds t;
       none = l.none;
-      journal = λ e looks. ⊎_elim
-          (λ blamed. ⊎_elim
+      journal = λ e. ⊎_elim
           (λ risen. inr (risen_over (sees.disk before.in_disk) (sees.disk after.in_disk) (inboxes.faults_of box) (inboxes.faults_of since) in_least (sym in_count) risen))
           (λ risen. inl (risen_over (sees.disk before.out_disk) (sees.disk after.out_disk) (outboxes.faults_of outbox) (outboxes.faults_of closed) out_least (sym out_count) risen))
-          blamed)
-          (λ untold. absurd (untold.1 (looks untold.0)))
           (l.journal e);
       changed = l.changed;
       full = λ entries bytes e. ⊎_elim

@@ -23,10 +23,10 @@ use Rattle.gate_business.proofs.Resuming.{stays_self}
 use Rattle.order_desk.proofs.Shares.{desk_plan_goes_on}
 use Rattle.order_book_gate.specs.Standing.{book_plan_goes_on}
 use Rattle.conn_loop.specs.Conn.{Looks}
-use Rattle.conn_door.specs.Answers.{answer_of, IsOfSender}
+use Rattle.conn_door.specs.Answers.{answer_of}
 use Rattle.conn_door.specs.declared.answer.ServeFault.{ServeFault}
 use Rattle.conn_door.specs.declared.answer.ServeFault.TheVariants as faults
-use Rattle.conn_serve.specs.Answering.{AnsweringAt, answering_at, AnsweredSo, faults_around}
+use Rattle.conn_serve.specs.Answering.{IsOfBusiness, AnsweringAt, answering_at, AnsweredSo, faults_around}
 use Rattle.conn_serve.specs.Causes.{IsBlamed}
 use Rattle.conn_serve.specs.Moments.{beside}
 use Rattle.conn_serve.specs.Opening.{opened_state}
@@ -41,12 +41,12 @@ use Rattle.cmd_session.specs.Answers.{plan_of}
 use Rattle.cmd_session.specs.declared.answering.Answerer.{Answerer}
 use Rattle.cmd_session.specs.declared.answering.Answerer.TheVariants as answerers
 
--- a fault that no sender is refused for is one of the connections
+-- a fault that no business is refused for is one of the connections
 pub blamed_so : {J : Type 0} {G : Ghosts J} {L : Type 0} (tells : Type 0) (links : LinkGhosts L) (before behind : ℕ) (old new : AnsweringAt J G) (m : State) (result : Result (Unit {0}) ServeFault)
-    → AnsweredSo tells links before behind old new m result → (x : ServeFault) → (x ≡ faults.Memory → ⊥) → (IsOfSender x → ⊥) → result ≡ Err x → IsBlamed tells (faults_around old) (faults_around new) x
-blamed_so tells links before behind old new m result s x memory no_sender e = ⊎_elim
+    → AnsweredSo tells links before behind old new m result → (x : ServeFault) → (x ≡ faults.Memory → ⊥) → (IsOfBusiness x → ⊥) → result ≡ Err x → IsBlamed tells (faults_around old) (faults_around new) x
+blamed_so tells links before behind old new m result s x memory no_business e = ⊎_elim
     (λ c. blamed_at (IsBlamed tells (faults_around old) (faults_around new)) s.connections x s.blamed c)
-    (λ r. absurd (no_sender (s.refusal x r).of_sender))
+    (λ r. absurd (no_business (s.refusal x r).of_business))
     (answer_blames s.connections new.business.refused x memory (sym s.answer ∙ e))
 
 -- nothing was served, and nothing answered, where there was no memory to begin

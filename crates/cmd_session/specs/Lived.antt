@@ -24,7 +24,7 @@ use Rattle.jr_kept.specs.Outbox as outboxes
 use Rattle.jr_kept.specs.Inbox as inboxes
 use Rattle.cmd_base.specs.Contents.{Disks}
 use Rattle.cmd_base.specs.declared.status.Status.{Status}
-use Rattle.jr_boxes.specs.declared.faults.Which.TheVariants.{Outbox as OutboxOf}
+use Rattle.jr_boxes.specs.declared.faults.Which.{Which}
 use Rattle.jr_boxes.specs.declared.faults.JournalCause.TheVariants as causes
 use Rattle.cmd_base.specs.declared.status.Status.TheVariants.{Done, OutputFault, JournalFault, JournalBad, DialFault, Unfinished, Rejected, Full, Turns, Memory}
 use Rattle.gate_turn.specs.Views.{Limits}
@@ -33,7 +33,9 @@ use Rattle.conn_door.specs.declared.answer.ServeFault.{ServeFault}
 use Rattle.conn_door.specs.declared.answer.ServeFault.TheVariants as faults
 use Rattle.conn_door.specs.declared.answer.LifeEnd.{LifeEnd}
 use Rattle.conn_door.specs.declared.answer.LifeEnd.TheVariants as ends
-use Rattle.conn_door.specs.Answers.{answer_of, IsOfSender, IsUnrefused}
+use Rattle.conn_door.specs.Answers.{answer_of, IsUnrefused}
+use Rattle.conn_serve.specs.Answering.{IsRefusal}
+use Rattle.conn_serve.specs.Causes.{IsChanged}
 use Rattle.conn_serve.specs.Connections.{all_of, adds_of, refused_of_all, wanted_of_all}
 use Rattle.conn_serve.specs.Moments.{life_at, beside}
 use Rattle.conn_serve.specs.Served.{ServedOver}
@@ -52,7 +54,7 @@ abbrev pub status_of : Result (Unit {0}) ServeFault → Status
 status_of (Ok _) = Done
 status_of (Err faults.Output) = OutputFault
 status_of (Err faults.Journal) = JournalFault
-status_of (Err (faults.Changed at)) = JournalBad OutboxOf (causes.Changed at)
+status_of (Err (faults.Changed which at)) = JournalBad which (causes.Changed at)
 status_of (Err faults.Dial) = DialFault
 status_of (Err (faults.Unfinished phase)) = Unfinished phase
 status_of (Err (faults.Rejected template code)) = Rejected template code
@@ -65,7 +67,7 @@ abbrev pub IsOfLife : Status → Type 0
 IsOfLife Done = Unit {0}
 IsOfLife OutputFault = Unit {0}
 IsOfLife JournalFault = Unit {0}
-IsOfLife (JournalBad OutboxOf (causes.Changed at)) = Unit {0}
+IsOfLife (JournalBad which (causes.Changed at)) = Unit {0}
 IsOfLife DialFault = Unit {0}
 IsOfLife (Unfinished phase) = Unit {0}
 IsOfLife (Rejected template code) = Unit {0}
@@ -129,7 +131,7 @@ module _ {J : Type 0} {G : Ghosts J} where
   module _ {S K D N C : Type 0} where
     -- One life over both journals. They held a history and a list; what serves its connections is a machine that is made of both; what it came to see
     -- of the outbox begins the closing history, as the opening one does; and where the disks tell their content it keeps the contract of one end, by
-    -- the plans of these senders. A record of OUTBOX changes only where they do not. What is left are the records of the closing history and list, and
+    -- the plans of these senders. A record of OUTBOX or INBOX changes only where they do not. What is left are the records of the closing history and list, and
     -- behind them a beginning of those refused by a failed call: in the outbox of what the plans have next, if its disk failed, with all of which the
     -- closing history is one history in order, which keeps the plans too. Of senders that look at what is applied this is so where the disks tell.
     -- Every record that the life added to its inbox had room, and so had the one whose append the disk failed. Where the connections came to
@@ -150,7 +152,7 @@ module _ {J : Type 0} {G : Ghosts J} where
           (life_at (sees.carried before.dialer) (sees.taken before.out) opening old)
           (life_at (sees.carried after.dialer) (sees.taken after.out) seen new) (fresh config (opened_state opening old) (2 ^ 26)) connections
       pub answer : result ≡ answer_of connections refused
-      pub refusal : IfSome refused IsOfSender
+      pub refusal : IfSome refused (IsRefusal senders.waits)
       pub finished : connections ≡ Ok ends.Finished → (is_absent config.own_flow ≡ false → closing.finished ≡ true)
           × (is_absent config.peer_flow ≡ false → has_peer_finished (inbox ++ adds_of (all_of served.life.ended served.life.given_up)) ≡ true)
       pub begins : BeginsHistory seen closing
@@ -176,9 +178,9 @@ module _ {J : Type 0} {G : Ghosts J} where
       pub sent : IsUnrefused result → senders.waits ≡ true → G.tells
           → (closing.finished ≡ true) ⊎ SentAll senders opening closing (inbox ++ adds_of (all_of served.life.ended served.life.given_up))
       pub none : senders.count ≡ 0 → closing.finished ≡ opening.finished
-      pub journal : result ≡ Err faults.Journal → (senders.waits ≡ true → G.tells)
+      pub journal : result ≡ Err faults.Journal
           → HasRisen (sees.disk before.out_disk) (sees.disk after.out_disk) ⊎ HasRisen (sees.disk before.in_disk) (sees.disk after.in_disk)
-      pub changed : (at : ℕ) → result ≡ Err (faults.Changed at) → (at < length seen.made) × (G.tells → ⊥)
+      pub changed : (which : Which) (at : ℕ) → result ≡ Err (faults.Changed which at) → IsChanged senders.waits G.tells G.tells seen which at
       pub full : (entries bytes : ℕ) → result ≡ Err (faults.Full entries bytes)
           → FullInbox (inbox ++ adds_of (all_of served.life.ended served.life.given_up)) (wanted_of_all (option_to_list served.life.given_up)) entries bytes
           ⊎ ((looks : senders.waits ≡ true → G.tells) → WasFull limits (plans_at senders (planned looks).answered) opening closing entries bytes)

@@ -27,7 +27,7 @@ ghost use Rattle.cmd_session.specs.Lived.{status_of, over_boxes, IsOfLife, Began
 
 use crate::boxes::MOST;
 use crate::outside::Live;
-use cmd_base::{JournalCause, Status, Which};
+use cmd_base::{JournalCause, Status};
 use conn_serve::{ServeFault, serve};
 use fixp_shake::EndConfig;
 use gate_plans::{Sender, count_done, give_last, seat, take_last, unseat};
@@ -54,8 +54,8 @@ pub fn status_of(answer: Result<(), ServeFault>) -> Status
         Ok(()) => Status::Done,
         Err(ServeFault::Output) => Status::OutputFault,
         Err(ServeFault::Journal) => Status::JournalFault,
-        Err(ServeFault::Changed { at }) => Status::JournalBad {
-            which: Which::Outbox,
+        Err(ServeFault::Changed { which, at }) => Status::JournalBad {
+            which,
             cause: JournalCause::Changed { at },
         },
         Err(ServeFault::Dial) => Status::DialFault,

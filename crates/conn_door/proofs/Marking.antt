@@ -118,7 +118,7 @@ module _ {O : Type 0} {H : Ghosts O} where
 firm_to : (e f : ServeFault) → yields_to e f ≡ false → yields e ≡ false
 firm_to faults.Output f is = refl
 firm_to faults.Journal f is = refl
-firm_to (faults.Changed at) f is = refl
+firm_to (faults.Changed which at) f is = refl
 firm_to faults.Dial f is = refl
 firm_to (faults.Unfinished phase) f is = is
 firm_to (faults.Rejected template code) f is = is
@@ -147,7 +147,7 @@ late_is (Ok ends.Finished) f u = refl
 late_is (Ok ends.Stopped) f u = refl
 late_is (Err faults.Output) f u = absurd (false≢true u)
 late_is (Err faults.Journal) f u = absurd (false≢true u)
-late_is (Err (faults.Changed at)) f u = absurd (false≢true u)
+late_is (Err (faults.Changed which at)) f u = absurd (false≢true u)
 late_is (Err faults.Dial) f u = absurd (false≢true u)
 late_is (Err (faults.Unfinished phase)) f u = refl
 late_is (Err (faults.Rejected template code)) f u = refl

@@ -34,7 +34,7 @@ IsOfSender _ = ⊥
 abbrev pub yields : ServeFault → Bool
 yields faults.Output = false
 yields faults.Journal = false
-yields (faults.Changed at) = false
+yields (faults.Changed which at) = false
 yields faults.Dial = false
 yields (faults.Unfinished phase) = true
 yields (faults.Rejected template code) = true
@@ -46,7 +46,7 @@ yields faults.Memory = false
 abbrev pub is_journal : ServeFault → Bool
 is_journal faults.Output = false
 is_journal faults.Journal = true
-is_journal (faults.Changed at) = false
+is_journal (faults.Changed which at) = false
 is_journal faults.Dial = false
 is_journal (faults.Unfinished phase) = false
 is_journal (faults.Rejected template code) = false
@@ -58,7 +58,7 @@ is_journal faults.Memory = false
 abbrev pub yields_to : (fault refusal : ServeFault) → Bool
 yields_to faults.Output refusal = false
 yields_to faults.Journal refusal = false
-yields_to (faults.Changed at) refusal = false
+yields_to (faults.Changed which at) refusal = false
 yields_to faults.Dial refusal = is_journal refusal
 yields_to (faults.Unfinished phase) refusal = true
 yields_to (faults.Rejected template code) refusal = true

@@ -4,7 +4,7 @@ ghost use Rattle.std.specs.Prelude.{◌≡◌, IsTrue, IsFalse};
 ghost use Rattle.conn_door.specs.Answers.{submit_fault, finish_fault, yields_to, late_answer, answer_of, IsUnrefused};
 
 use fixp_shake::Phase;
-use jr_boxes::{CloseFault, SubmitFault};
+use jr_boxes::{CloseFault, SubmitFault, Which};
 
 /// How the connections of a life ended that did not fail.
 #[derive(Clone, Copy)]
@@ -22,8 +22,8 @@ pub enum ServeFault {
     Output,
     /// A call of the disk of the inbox or of the outbox failed, now or since its opening.
     Journal,
-    /// The outbox's disk gave another record than was written at this index, from 0 on.
-    Changed { at: u64 },
+    /// The disk of this box gave another record than was written at this index of its journal, from 0 on.
+    Changed { which: Which, at: u64 },
     /// The dialer failed: it gave no further connection.
     Dial,
     /// No connection is left, and none ended with both finishes exchanged. The phase is `Idle` where there was no connection,

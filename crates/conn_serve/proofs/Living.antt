@@ -270,7 +270,7 @@ module _ {J : Type 0} {G : Ghosts J} where
       → IsRound tells known n (life_at dialed out seen box) (life_at later out seen box) m m (Err fault)
   round_none tells carried known n dialed later out seen m box faults.Output next phase none = absurd next
   round_none tells carried known n dialed later out seen m box faults.Journal next phase none = absurd next
-  round_none tells carried known n dialed later out seen m box (faults.Changed at) next phase none = absurd next
+  round_none tells carried known n dialed later out seen m box (faults.Changed which at) next phase none = absurd next
   round_none tells carried known n dialed later out seen m box faults.Dial next phase none = (made_none dialed later out seen m box next, none)
   round_none tells carried known n dialed later out seen m box (faults.Unfinished p) next phase none = (made_none dialed later out seen m box next.0, phase p refl, next.1, none)
   round_none tells carried known n dialed later out seen m box (faults.Rejected template code) next phase none = absurd next
@@ -411,7 +411,7 @@ module _ {J : Type 0} {G : Ghosts J} {tells : Type 0} where
       → IsOfConnection fault → GaveOneUp tells known (Some fault) old new m → IsRound tells known n old new m m' (Err fault)
   round_given known n old new m m' faults.Output is g = inr g
   round_given known n old new m m' faults.Journal is g = g
-  round_given known n old new m m' (faults.Changed at) is g = g
+  round_given known n old new m m' (faults.Changed which at) is g = g
   round_given known n old new m m' faults.Dial is g = absurd is
   round_given known n old new m m' (faults.Unfinished phase) is g = absurd is
   round_given known n old new m m' (faults.Rejected template code) is g = absurd is
@@ -582,8 +582,8 @@ module _ {J : Type 0} {G : Ghosts J} {tells : Type 0} where
       over_given P Q R G' p q t (Err faults.Output) (Some faults.Output) n old mid new m m' l k g join refl (λ entries bytes e. cc) tt
   over_err P Q R G' p q t faults.Journal n old mid new m m' m'' (l, k) r join later =
       over_given P Q R G' p q t (Err faults.Journal) (Some faults.Journal) n old mid new m m' l k r join refl (λ entries bytes e. cc) (l.lived.followed, r.connection, refl, r.cut_short.0 refl)
-  over_err P Q R G' p q t (faults.Changed at) n old mid new m m' m'' (l, k) r join later =
-      over_given P Q R G' p q t (Err (faults.Changed at)) (Some (faults.Changed at)) n old mid new m m' l k r join refl (λ entries bytes e. cc) (l.lived.followed, r.connection, refl, r.cut_changed at refl)
+  over_err P Q R G' p q t (faults.Changed which at) n old mid new m m' m'' (l, k) r join later =
+      over_given P Q R G' p q t (Err (faults.Changed which at)) (Some (faults.Changed which at)) n old mid new m m' l k r join refl (λ entries bytes e. cc) (l.lived.followed, r.connection, refl, r.cut_changed which at refl)
   over_err P Q R G' p q t faults.Dial n old mid new m m' m'' (l, k) r join later =
       over_none R G' p q t (Err faults.Dial) n old mid new m m' m'' l (with_none P Q R old mid l.ended join l.lived.gains k r.1) r.0 later (l.lived.followed, refl)
   over_err P Q R G' p q t (faults.Unfinished phase) n old mid new m m' m'' (l, k) r join later =

@@ -1,9 +1,11 @@
 -- What a turn answered, as its connection knows it.
-use Rattle.std.proofs.Common.{◌≡◌, ◌⊎◌, inl, inr, ⊎_elim, ℕ, ◌<◌, ◌≤◌, true, arith, length, Option, Some, None, Result, Ok, Err, refl, sym, subst, ◌∙◌}
+use Rattle.std.proofs.Common.{◌≡◌, ◌⊎◌, inl, inr, ⊎_elim, ℕ, ◌<◌, ◌≤◌, true, false, arith, length, Option, Some, None, Result, Ok, Err, refl, sym, subst, ◌∙◌}
 use Rattle.std.specs.Prelude.{IfOk, IfErr, OnOk}
 use Rattle.gw_outside.specs.Faults.{HasRisen}
 use Rattle.fixp_replies.specs.declared.act.Ending.{Ending}
 use Rattle.fixp_replies.specs.declared.act.Ending.TheVariants as endings
+use Rattle.jr_boxes.specs.declared.faults.Which.{Which}
+use Rattle.jr_boxes.specs.declared.faults.Which.TheVariants as boxes
 use Rattle.jr_dated.specs.declared.journal.Journal.{Ghosts}
 use Rattle.jr_kept.specs.declared.inbox.Inbox.{Inbox}
 use Rattle.jr_kept.specs.Inbox.{faults_of, is_broken, size_of, count_of}
@@ -21,7 +23,7 @@ use Rattle.conn_door.specs.declared.answer.ServeFault.{ServeFault}
 use Rattle.conn_door.specs.declared.answer.ServeFault.TheVariants as faults
 use Rattle.conn_serve.specs.Answers.{close_of, IsOfTurn}
 use Rattle.conn_serve.specs.Connections.{ClosesAs}
-use Rattle.conn_serve.specs.Causes.{BlamesJournal, IsBlamed}
+use Rattle.conn_serve.specs.Causes.{IsChanged, BlamesJournal, IsBlamed}
 use Rattle.conn_serve.specs.Moments.{FaultsAt, faults_at}
 
 -- what holds where it answers, and where its link failed, holds where the connection goes on or has ended
@@ -51,7 +53,7 @@ on_cut P Q (Err turn_faults.Link) gives cut = tt
 on_cut P Q (Err turn_faults.Inbox) gives cut = gives turn_faults.Inbox faults.Journal refl (cut (λ e. cc))
 on_cut P Q (Err turn_faults.Outbox) gives cut = gives turn_faults.Outbox faults.Journal refl (cut (λ e. cc))
 on_cut P Q (Err turn_faults.Broken) gives cut = gives turn_faults.Broken faults.Journal refl (cut (λ e. cc))
-on_cut P Q (Err (turn_faults.Changed at)) gives cut = gives (turn_faults.Changed at) (faults.Changed at) refl (cut (λ e. cc))
+on_cut P Q (Err (turn_faults.Changed at)) gives cut = gives (turn_faults.Changed at) (faults.Changed boxes.Outbox at) refl (cut (λ e. cc))
 on_cut P Q (Err (turn_faults.Full entries bytes)) gives cut = gives (turn_faults.Full entries bytes) (faults.Full entries bytes) refl (cut (λ e. cc))
 on_cut P Q (Err turn_faults.Memory) gives cut = gives turn_faults.Memory faults.Memory refl (cut (λ e. cc))
 
@@ -122,7 +124,7 @@ module _ {J : Type 0} {G : Ghosts J} where
 
 module _ {J : Type 0} {G : Ghosts J} {tells : Type 0} where
   blames : (p q : Part) (box since : Inbox J G) → BlamesJournal p q box since → IsBlamed tells (faults_at 0 0 p box) (faults_at 0 0 q since) faults.Journal
-  blames p q box since b = record { output = λ e. cc; journal = λ _. b; changed = λ at e. cc; dial = λ e. cc; full = λ entries bytes e. cc }
+  blames p q box since b = record { output = λ e. cc; journal = λ _. b; changed = λ which at e. cc; dial = λ e. cc; full = λ entries bytes e. cc }
 
   pub blamed_made : (p q : Part) (box since : Inbox J G) (r : Result TurnEnd TurnFault) → SameKind box since
       → (r ≡ Err turn_faults.Inbox → HasRisen (faults_of box) (faults_of since))
@@ -144,13 +146,16 @@ module _ {J : Type 0} {G : Ghosts J} {tells : Type 0} where
   blamed_made p q box since (Err (turn_faults.Changed at)) kind inbox outbox broken changed full = record {
     output = λ e. cc;
     journal = λ e. cc;
-    changed = λ n e. let same : at ≡ n = cc in subst (λ (k : ℕ). (k < length q.seen.made) × (tells → ⊥)) same (changed at refl);
+    changed = λ which n e.
+        let box : boxes.Outbox ≡ which = cc in
+        let same : at ≡ n = cc in
+        subst (λ (w : Which). IsChanged false G.tells tells q.seen w n) box (subst (λ (k : ℕ). (k < length q.seen.made) × (tells → ⊥)) same (changed at refl));
     dial = λ e. cc;
     full = λ entries bytes e. cc;
   }
   blamed_made p q box since (Err (turn_faults.Full entries bytes)) kind inbox outbox broken changed full =
-      record { output = λ e. cc; journal = λ e. cc; changed = λ at e. cc; dial = λ e. cc; full = λ n m e. let a : n ≡ entries = cc in let b : m ≡ bytes = cc in (a ∙ (full entries bytes refl).0, b ∙ (full entries bytes refl).1) }
-  blamed_made p q box since (Err turn_faults.Memory) kind inbox outbox broken changed full = record { output = λ e. cc; journal = λ e. cc; changed = λ at e. cc; dial = λ e. cc; full = λ entries bytes e. cc }
+      record { output = λ e. cc; journal = λ e. cc; changed = λ which at e. cc; dial = λ e. cc; full = λ n m e. let a : n ≡ entries = cc in let b : m ≡ bytes = cc in (a ∙ (full entries bytes refl).0, b ∙ (full entries bytes refl).1) }
+  blamed_made p q box since (Err turn_faults.Memory) kind inbox outbox broken changed full = record { output = λ e. cc; journal = λ e. cc; changed = λ which at e. cc; dial = λ e. cc; full = λ entries bytes e. cc }
 
   -- what is to blame behind the middle is to blame for the whole
   pub blamed_since : (old mid new : FaultsAt J G) (fault : ServeFault) → old.out ≤ mid.out → old.dialer ≤ mid.dialer → old.pass.faults ≤ mid.pass.faults

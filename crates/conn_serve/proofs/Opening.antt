@@ -36,7 +36,7 @@ module _ {J : Type 0} {G : Ghosts J} where
   })
 
   pub blamed_none : {tells : Type 0} (old new : FaultsAt J G) → IsBlamed tells old new faults.Memory
-  blamed_none old new = record { output = λ e. cc; journal = λ e. cc; changed = λ at e. cc; dial = λ e. cc; full = λ entries bytes e. cc }
+  blamed_none old new = record { output = λ e. cc; journal = λ e. cc; changed = λ which at e. cc; dial = λ e. cc; full = λ entries bytes e. cc }
 
 module _ {J : Type 0} {G : Ghosts J} {O : Type 0} {H : Ghosts O} where
   pub served_at : {L : Type 0} (links : LinkGhosts L) (before behind : ℕ) (gate : Gate O H) (old new : ServingAt J G O H) (m n : State) (result : Result (Unit {0}) ServeFault) → m ≡ n

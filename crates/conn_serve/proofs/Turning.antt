@@ -12,6 +12,7 @@ use Rattle.session_model.specs.Inbox.{InboxRecord}
 use Rattle.session_model.proofs.Lists.{all_append}
 use Rattle.gw_links.specs.Links.{LinkTold, Carried, Moved}
 use Rattle.gw_links.proofs.Moving.{moved_none, moved_more}
+use Rattle.jr_boxes.specs.declared.faults.Which.{Which}
 use Rattle.jr_dated.specs.declared.journal.Journal.{Ghosts}
 use Rattle.jr_kept.specs.declared.inbox.Inbox.{Inbox}
 use Rattle.gate_turn.proofs.Histories.{begins_self}
@@ -136,9 +137,9 @@ lacking_full : (fault : ServeFault) (H : Type 0) (entries bytes : ℕ) → ((fau
 lacking_full fault H entries bytes (inl a) e = let f = a.0 in cc
 lacking_full fault H entries bytes (inr b) e = cc
 
-lacking_changed : (fault : ServeFault) (H : Type 0) (at : ℕ) → ((fault ≡ faults.Output) × H) ⊎ (fault ≡ faults.Memory) → fault ≡ faults.Changed at → ⊥
-lacking_changed fault H at (inl a) e = let f = a.0 in cc
-lacking_changed fault H at (inr b) e = cc
+lacking_changed : (fault : ServeFault) (H : Type 0) (which : Which) (at : ℕ) → ((fault ≡ faults.Output) × H) ⊎ (fault ≡ faults.Memory) → fault ≡ faults.Changed which at → ⊥
+lacking_changed fault H which at (inl a) e = let f = a.0 in cc
+lacking_changed fault H which at (inr b) e = cc
 
 -- a turn was at Full where its connection is
 full_turn : (fault : TurnFault) (entries bytes : ℕ) → close_of (Err fault) ≡ Err (faults.Full entries bytes) → fault ≡ turn_faults.Full entries bytes
@@ -276,7 +277,7 @@ module _ {J : Type 0} {G : Ghosts J} {tells : Type 0} where
   -- behind whole turns, with no turn cut short
   pub given_whole : (eager : Bool) (why : Option ServeFault) (old new : ConnectionAt J G) (n : ℕ)
       → Turned tells eager old new n
-      → (why ≡ Some faults.Turns → (n ≡ 1099511627776) × (new.line.machine.ending ≡ None)) → (why ≡ Some faults.Journal → ⊥) → ((at : ℕ) → why ≡ Some (faults.Changed at) → ⊥) → ((entries bytes : ℕ) → why ≡ Some (faults.Full entries bytes) → ⊥)
+      → (why ≡ Some faults.Turns → (n ≡ 1099511627776) × (new.line.machine.ending ≡ None)) → (why ≡ Some faults.Journal → ⊥) → ((which : Which) (at : ℕ) → why ≡ Some (faults.Changed which at) → ⊥) → ((entries bytes : ℕ) → why ≡ Some (faults.Full entries bytes) → ⊥)
       → GivenUp tells eager why old new
   given_whole eager why old new n t turns no_journal no_change no_full = record {
     behind = turn_in new;
@@ -304,7 +305,7 @@ module _ {J : Type 0} {G : Ghosts J} {tells : Type 0} where
     };
     spent = λ e. record { many = t.many ∙ (turns e).0; unended = (turns e).1; whole = refl };
     cut_short = (λ e. absurd (no_journal e), λ entries bytes e. absurd (no_full entries bytes e));
-    cut_changed = λ at e. absurd (no_change at e);
+    cut_changed = λ which at e. absurd (no_change which at e);
     past = λ entries bytes e. absurd (no_full entries bytes e);
   }
 
@@ -365,7 +366,7 @@ module _ {J : Type 0} {G : Ghosts J} {tells : Type 0} where
     };
     spent = λ e. by_kind which (inl (cc));
     cut_short = (λ e. by_kind which (inr (inl (cc))), λ entries bytes e. by_kind which (inr (inr (entries, bytes, cc))));
-    cut_changed = λ at e. absurd (by_change at which (cc));
+    cut_changed = λ box at e. absurd (by_change box at which (cc));
     past = λ entries bytes e. by_kind which (inr (inr (entries, bytes, cc)));
   }
     where
@@ -377,14 +378,14 @@ module _ {J : Type 0} {G : Ghosts J} {tells : Type 0} where
       by_kind (inr a) (inr (inl b)) = cc
       by_kind (inr a) (inr (inr b)) = let e = b.2 in cc
 
-      by_change : (at : ℕ) → (fault ≡ faults.Output) ⊎ (fault ≡ faults.Memory) → fault ≡ faults.Changed at → ⊥
-      by_change at (inl a) b = cc
-      by_change at (inr a) b = cc
+      by_change : (box : Which) (at : ℕ) → (fault ≡ faults.Output) ⊎ (fault ≡ faults.Memory) → fault ≡ faults.Changed box at → ⊥
+      by_change box at (inl a) b = cc
+      by_change box at (inr a) b = cc
 
   -- at a turn that had not begun
   given_unbegun : (eager : Bool) (fault why : ServeFault) (turn_fault : TurnFault) (old new : ConnectionAt J G) (news : List NewsItem)
       → BeginsHistory old.seen new.seen → old.clock ≤ new.clock → NotBegun (end_at old []) (end_at new news) turn_fault → close_of (Err turn_fault) ≡ Err why → Tells (lacks fault) old.out new.out (news_lines news)
-      → (fault ≡ faults.Turns → ⊥) → (fault ≡ faults.Journal → why ≡ faults.Journal) → ((at : ℕ) → fault ≡ faults.Changed at → why ≡ faults.Changed at) → ((entries bytes : ℕ) → fault ≡ faults.Full entries bytes → why ≡ faults.Full entries bytes) → GivenUp tells eager (Some fault) old new
+      → (fault ≡ faults.Turns → ⊥) → (fault ≡ faults.Journal → why ≡ faults.Journal) → ((which : Which) (at : ℕ) → fault ≡ faults.Changed which at → why ≡ faults.Changed which at) → ((entries bytes : ℕ) → fault ≡ faults.Full entries bytes → why ≡ faults.Full entries bytes) → GivenUp tells eager (Some fault) old new
   given_unbegun eager fault why turn_fault old new news grows ticks n is lines no_turns journal change full = record {
     behind = turn_in old;
     turns = [];
@@ -411,7 +412,7 @@ module _ {J : Type 0} {G : Ghosts J} {tells : Type 0} where
     };
     spent = λ e. absurd (no_turns (cc));
     cut_short = (λ e. absurd (no_journal (cc)), λ entries bytes e. absurd (no_full entries bytes (cc)));
-    cut_changed = λ at e. absurd (no_change at (cc));
+    cut_changed = λ which at e. absurd (no_change which at (cc));
     past = λ entries bytes e. absurd (no_full entries bytes (cc));
   }
     where
@@ -424,8 +425,8 @@ module _ {J : Type 0} {G : Ghosts J} {tells : Type 0} where
       no_journal : fault ≡ faults.Journal → ⊥
       no_journal e = let same = journal e in let m = memory in cc
 
-      no_change : (at : ℕ) → fault ≡ faults.Changed at → ⊥
-      no_change at e = let same = change at e in let m = memory in cc
+      no_change : (which : Which) (at : ℕ) → fault ≡ faults.Changed which at → ⊥
+      no_change which at e = let same = change which at e in let m = memory in cc
 
       no_full : (entries bytes : ℕ) → fault ≡ faults.Full entries bytes → ⊥
       no_full entries bytes e = let same = full entries bytes e in let m = memory in cc
@@ -460,14 +461,14 @@ module _ {J : Type 0} {G : Ghosts J} {tells : Type 0} where
     };
     spent = λ e. absurd (no_turns (cc));
     cut_short = (λ e. refl, λ entries bytes e. refl);
-    cut_changed = λ at e. refl;
+    cut_changed = λ which at e. refl;
     past = λ entries bytes e. k.past entries bytes (full_turn turn_fault entries bytes (is ∙ ap (λ (f : ServeFault). Err f) (full entries bytes (cc))));
   }
 
   -- at either
   given_off : (eager : Bool) (fault why : ServeFault) (old new : ConnectionAt J G) (news : List NewsItem)
       → BeginsHistory old.seen new.seen → old.clock ≤ new.clock → CutOff eager old.clock new.clock (end_at old []) (end_at new news) why → length news ≤ 272 → Tells (lacks fault) old.out new.out (news_lines news)
-      → (fault ≡ faults.Turns → ⊥) → (fault ≡ faults.Journal → why ≡ faults.Journal) → ((at : ℕ) → fault ≡ faults.Changed at → why ≡ faults.Changed at) → ((entries bytes : ℕ) → fault ≡ faults.Full entries bytes → why ≡ faults.Full entries bytes) → GivenUp tells eager (Some fault) old new
+      → (fault ≡ faults.Turns → ⊥) → (fault ≡ faults.Journal → why ≡ faults.Journal) → ((which : Which) (at : ℕ) → fault ≡ faults.Changed which at → why ≡ faults.Changed which at) → ((entries bytes : ℕ) → fault ≡ faults.Full entries bytes → why ≡ faults.Full entries bytes) → GivenUp tells eager (Some fault) old new
   given_off eager fault why old new news grows ticks c few lines no_turns journal change full = by_kind c.cut
     where
       by_kind : NotBegun (end_at old []) (end_at new news) c.fault ⊎ WasCut eager old.clock new.clock (end_at old []) (end_at new news) c.fault → GivenUp tells eager (Some fault) old new
@@ -522,7 +523,7 @@ module _ {J : Type 0} {G : Ghosts J} {tells : Type 0} where
       given_lacking eager fault old new news unended whole few (lacking_tells fault H old.out new.out (news_lines news) cause front) (which_lacks fault H cause)
   given_told (Err e) fault H eager old new news unended grows ticks whole cut few front cause =
       given_off eager fault e old new news grows ticks cut few (lacking_tells fault H old.out new.out (news_lines news) cause front) (lacking_spent fault H cause) (λ is. absurd (lacking_journal fault H cause is))
-      (λ at is. absurd (lacking_changed fault H at cause is)) (λ entries bytes is. absurd (lacking_full fault H entries bytes cause is))
+      (λ which at is. absurd (lacking_changed fault H which at cause is)) (λ entries bytes is. absurd (lacking_full fault H entries bytes cause is))
 
 module _ {J : Type 0} {G : Ghosts J} (tells : Type 0) where
   -- and one that was cut short, and whose lines were told
@@ -531,7 +532,7 @@ module _ {J : Type 0} {G : Ghosts J} (tells : Type 0) where
       → IfErr r (λ fault. GivenUp tells eager (Some fault) old new)
   given_answer (Ok a) eager old new news grows ticks cut is few lines = tt
   given_answer (Err fault) eager old new news grows ticks cut is few lines =
-      given_off eager fault fault old new news grows ticks cut few (tells_all (lacks fault) old.out new.out (news_lines news) lines) (λ e. subst IsOfTurn e is) (λ e. e) (λ at e. e) (λ entries bytes e. e)
+      given_off eager fault fault old new news grows ticks cut few (tells_all (lacks fault) old.out new.out (news_lines news) lines) (λ e. subst IsOfTurn e is) (λ e. e) (λ which at e. e) (λ entries bytes e. e)
 
 module _ {J : Type 0} {G : Ghosts J} {tells : Type 0} where
   -- ---- the same, with what is known of the records that the inbox gained
@@ -554,7 +555,7 @@ module _ {J : Type 0} {G : Ghosts J} {tells : Type 0} where
 
   pub whole_adding : (P : List InboxRecord → Type 0) (eager : Bool) (why : Option ServeFault) (old new : ConnectionAt J G) (n : ℕ)
       → ((t : Turned tells eager old new n) × P t.adds)
-      → (why ≡ Some faults.Turns → (n ≡ 1099511627776) × (new.line.machine.ending ≡ None)) → (why ≡ Some faults.Journal → ⊥) → ((at : ℕ) → why ≡ Some (faults.Changed at) → ⊥) → ((entries bytes : ℕ) → why ≡ Some (faults.Full entries bytes) → ⊥)
+      → (why ≡ Some faults.Turns → (n ≡ 1099511627776) × (new.line.machine.ending ≡ None)) → (why ≡ Some faults.Journal → ⊥) → ((which : Which) (at : ℕ) → why ≡ Some (faults.Changed which at) → ⊥) → ((entries bytes : ℕ) → why ≡ Some (faults.Full entries bytes) → ⊥)
       → (g : GivenUp tells eager why old new) × P (g.adds ++ g.cut_added)
   unfolding given_whole
   whole_adding P eager why old new n t turns no_journal no_change no_full =

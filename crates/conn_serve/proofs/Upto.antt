@@ -14,6 +14,7 @@ use Rattle.jr_dated.specs.declared.faults.FetchFault.{FetchFault}
 use Rattle.jr_dated.specs.declared.faults.FetchFault.TheVariants as fetch
 use Rattle.jr_boxes.specs.declared.faults.SubmitFault.{SubmitFault}
 use Rattle.jr_boxes.specs.declared.faults.SubmitFault.TheVariants as submit
+use Rattle.jr_boxes.specs.declared.faults.Which.TheVariants as boxes
 use Rattle.jr_kept.specs.declared.inbox.Inbox.{Inbox}
 use Rattle.jr_kept.specs.Inbox.{StandsFor, HoldsBox, SameContent, peer_last_of}
 use Rattle.gate_turn.specs.Views.{Account, HasFailed, Part}
@@ -88,48 +89,52 @@ module _ (b c d : BusinessAt) (fault : ServeFault) where
       of (inl h) = inl (failed_before (b.part s.number).faults (c.part s.number).faults (d.part s.number).faults (earlier s.number inside).faults h)
       of (inr h) = inr h
 
-  pub refused_later : (unread : Type 0) → AllStay b.count c.part d.part → RefusedFor unread b c fault → RefusedFor unread b d fault
-  refused_later unread later r = record { of_sender = r.of_sender; journal = λ e. of (r.journal e) }
+  pub refused_later : (unread otherwise : Type 0) → AllStay b.count c.part d.part → RefusedFor unread otherwise b c fault → RefusedFor unread otherwise b d fault
+  refused_later unread otherwise later r = record { of_business = r.of_business; journal = λ e. of (r.journal e); changed = r.changed }
     where
       of : SeesFailed b.count b.part c.part ⊎ unread → SeesFailed b.count b.part d.part ⊎ unread
       of (inl s) = inl (failed_later later s)
       of (inr u) = inr u
 
-  pub refused_earlier : (unread : Type 0) → c.count ≡ b.count → AllStay b.count b.part c.part → RefusedFor ⊥ c d fault → RefusedFor unread b d fault
-  refused_earlier unread count earlier r = record { of_sender = r.of_sender; journal = λ e. of (r.journal e) }
+  pub refused_earlier : (unread otherwise : Type 0) → c.count ≡ b.count → AllStay b.count b.part c.part → RefusedFor ⊥ ⊥ c d fault → RefusedFor unread otherwise b d fault
+  refused_earlier unread otherwise count earlier r = record { of_business = r.of_business; journal = λ e. of (r.journal e); changed = λ at e. absurd (r.changed at e) }
     where
       of : SeesFailed c.count c.part d.part ⊎ ⊥ → SeesFailed b.count b.part d.part ⊎ unread
       of (inl s) = inl (failed_earlier count earlier s)
       of (inr none) = absurd none
 
-pub refused_any : (b c : BusinessAt) (fault : ServeFault) (some any : Type 0) → (some → any) → RefusedFor some b c fault → RefusedFor any b c fault
-refused_any b c fault some any f r = record { of_sender = r.of_sender; journal = λ e. of (r.journal e) }
+pub refused_any : (b c : BusinessAt) (fault : ServeFault) (some any here there : Type 0) → (some → any) → (here → there) → RefusedFor some here b c fault → RefusedFor any there b c fault
+refused_any b c fault some any here there f g r = record { of_business = r.of_business; journal = λ e. of (r.journal e); changed = λ at e. g (r.changed at e) }
   where
     of : SeesFailed b.count b.part c.part ⊎ some → SeesFailed b.count b.part c.part ⊎ any
     of (inl s) = inl s
     of (inr u) = inr (f u)
 
-refused_memory : (unread : Type 0) (b c : BusinessAt) → RefusedFor unread b c faults.Memory
-refused_memory unread b c = record { of_sender = tt; journal = λ e. absurd (cc e) }
+refused_memory : (unread otherwise : Type 0) (b c : BusinessAt) → RefusedFor unread otherwise b c faults.Memory
+refused_memory unread otherwise b c = record { of_business = tt; journal = λ e. absurd (cc e); changed = λ at e. absurd (cc e) }
 
-refused_full : (unread : Type 0) (b c : BusinessAt) (entries bytes : ℕ) → RefusedFor unread b c (faults.Full entries bytes)
-refused_full unread b c entries bytes = record { of_sender = tt; journal = λ e. absurd (cc e) }
+refused_full : (unread otherwise : Type 0) (b c : BusinessAt) (entries bytes : ℕ) → RefusedFor unread otherwise b c (faults.Full entries bytes)
+refused_full unread otherwise b c entries bytes = record { of_business = tt; journal = λ e. absurd (cc e); changed = λ at e. absurd (cc e) }
+
+-- a journal is to blame for this, or it was not read
+refused_journal : (unread otherwise : Type 0) (b c : BusinessAt) → SeesFailed b.count b.part c.part ⊎ unread → RefusedFor unread otherwise b c faults.Journal
+refused_journal unread otherwise b c why = record { of_business = tt; journal = λ _. why; changed = λ at e. absurd (cc e) }
 
 -- an answer to a business says why
-module _ (unread : Type 0) (b c : BusinessAt) (f : SubmitFault) (shown : f ≢ submit.Memory → ShownByOne b.count b.part c.part f) where
-  pub refused_submit : (fault : ServeFault) → submit_fault f ≡ Some fault → RefusedFor unread b c fault
+module _ (unread otherwise : Type 0) (b c : BusinessAt) (f : SubmitFault) (shown : f ≢ submit.Memory → ShownByOne b.count b.part c.part f) where
+  pub refused_submit : (fault : ServeFault) → submit_fault f ≡ Some fault → RefusedFor unread otherwise b c fault
   refused_submit fault e = of f refl e
     where
-      of : (g : SubmitFault) → f ≡ g → submit_fault g ≡ Some fault → RefusedFor unread b c fault
+      of : (g : SubmitFault) → f ≡ g → submit_fault g ≡ Some fault → RefusedFor unread otherwise b c fault
       of submit.Broken is e =
           let s = shown (λ m. let x : submit.Broken ≡ submit.Memory = sym is ∙ m in absurd (cc x)) in
-          subst (λ x. RefusedFor unread b c x) (same_Some faults.Journal fault e) (record { of_sender = tt; journal = λ _. inl (record { number = s.number; inside = s.inside; failed = inr (s.broken is) }) })
+          subst (λ x. RefusedFor unread otherwise b c x) (same_Some faults.Journal fault e) (refused_journal unread otherwise b c (inl (record { number = s.number; inside = s.inside; failed = inr (s.broken is) })))
       of submit.Fault is e =
           let s = shown (λ m. let x : submit.Fault ≡ submit.Memory = sym is ∙ m in absurd (cc x)) in
-          subst (λ x. RefusedFor unread b c x) (same_Some faults.Journal fault e) (record { of_sender = tt; journal = λ _. inl (record { number = s.number; inside = s.inside; failed = inl (s.failed is) }) })
+          subst (λ x. RefusedFor unread otherwise b c x) (same_Some faults.Journal fault e) (refused_journal unread otherwise b c (inl (record { number = s.number; inside = s.inside; failed = inl (s.failed is) })))
       of submit.Closed is e = absurd (none-some fault e)
-      of (submit.Full entries bytes) is e = subst (λ x. RefusedFor unread b c x) (same_Some (faults.Full entries bytes) fault e) (refused_full unread b c entries bytes)
-      of submit.Memory is e = subst (λ x. RefusedFor unread b c x) (same_Some faults.Memory fault e) (refused_memory unread b c)
+      of (submit.Full entries bytes) is e = subst (λ x. RefusedFor unread otherwise b c x) (same_Some (faults.Full entries bytes) fault e) (refused_full unread otherwise b c entries bytes)
+      of submit.Memory is e = subst (λ x. RefusedFor unread otherwise b c x) (same_Some faults.Memory fault e) (refused_memory unread otherwise b c)
 
 pub stays_none : (b : BusinessAt) → StaysBusiness b b
 stays_none b = record { count = refl; passes = λ n inside. stays_self (b.part n); refusal = λ fault e. inl e }
@@ -139,7 +144,7 @@ pub stays_memory : (b : BusinessAt) → StaysBusiness b (record b { refused = So
 stays_memory b = record {
   count = refl;
   passes = λ n inside. stays_self (b.part n);
-  refusal = λ fault e. inr (subst (λ x. RefusedFor ⊥ b (record b { refused = Some faults.Memory }) x) (same_Some faults.Memory fault e) (refused_memory ⊥ b (record b { refused = Some faults.Memory })));
+  refusal = λ fault e. inr (subst (λ x. RefusedFor ⊥ ⊥ b (record b { refused = Some faults.Memory }) x) (same_Some faults.Memory fault e) (refused_memory ⊥ ⊥ b (record b { refused = Some faults.Memory })));
 }
 
 -- one that was called
@@ -147,9 +152,9 @@ pub stays_called : (b c : BusinessAt) (result : Result (Unit {0}) SubmitFault) �
     → ((f : SubmitFault) → result ≡ Err f → f ≢ submit.Memory → ShownByOne b.count b.part c.part f) → StaysBusiness b c
 stays_called b c result count passes refused shown = record { count = count; passes = passes; refusal = λ fault e. inr (of result refl fault (sym refused ∙ e)) }
   where
-    of : (r : Result (Unit {0}) SubmitFault) → result ≡ r → (fault : ServeFault) → call_fault r ≡ Some fault → RefusedFor ⊥ b c fault
+    of : (r : Result (Unit {0}) SubmitFault) → result ≡ r → (fault : ServeFault) → call_fault r ≡ Some fault → RefusedFor ⊥ ⊥ b c fault
     of (Ok _) is fault e = absurd (none-some fault e)
-    of (Err f) is fault e = refused_submit ⊥ b c f (shown f is) fault e
+    of (Err f) is fault e = refused_submit ⊥ ⊥ b c f (shown f is) fault e
 
 pub stays_more : (b c d : BusinessAt) → StaysBusiness b c → StaysBusiness c d → StaysBusiness b d
 stays_more b c d x y = record {
@@ -161,13 +166,13 @@ stays_more b c d x y = record {
     later : AllStay b.count c.part d.part
     later = subst (λ k. AllStay k c.part d.part) x.count y.passes
 
-    before : (fault : ServeFault) → (b.refused ≡ Some fault) ⊎ RefusedFor ⊥ b c fault → (b.refused ≡ Some fault) ⊎ RefusedFor ⊥ b d fault
+    before : (fault : ServeFault) → (b.refused ≡ Some fault) ⊎ RefusedFor ⊥ ⊥ b c fault → (b.refused ≡ Some fault) ⊎ RefusedFor ⊥ ⊥ b d fault
     before fault (inl e) = inl e
-    before fault (inr r) = inr (refused_later b c d fault ⊥ later r)
+    before fault (inr r) = inr (refused_later b c d fault ⊥ ⊥ later r)
 
-    of : (fault : ServeFault) → (c.refused ≡ Some fault) ⊎ RefusedFor ⊥ c d fault → (b.refused ≡ Some fault) ⊎ RefusedFor ⊥ b d fault
+    of : (fault : ServeFault) → (c.refused ≡ Some fault) ⊎ RefusedFor ⊥ ⊥ c d fault → (b.refused ≡ Some fault) ⊎ RefusedFor ⊥ ⊥ b d fault
     of fault (inl e) = before fault (x.refusal fault e)
-    of fault (inr r) = inr (refused_earlier b c d fault ⊥ x.count x.passes r)
+    of fault (inr r) = inr (refused_earlier b c d fault ⊥ ⊥ x.count x.passes r)
 
 -- that an outbox was full is a business's answer where the life's is
 submit_full : (f : SubmitFault) (entries bytes : ℕ) → submit_fault f ≡ Some (faults.Full entries bytes) → f ≡ submit.Full entries bytes
@@ -189,7 +194,7 @@ resume_full : (f : ResumeFault) (entries bytes : ℕ) → resume_fault f ≡ Som
 resume_full (resuming.Fetch fetch.Broken) entries bytes e = let x : faults.Journal ≡ faults.Full entries bytes = same_Some _ _ e in absurd (cc x)
 resume_full (resuming.Fetch fetch.Memory) entries bytes e = let x : faults.Memory ≡ faults.Full entries bytes = same_Some _ _ e in absurd (cc x)
 resume_full (resuming.Fetch fetch.Fault) entries bytes e = let x : faults.Journal ≡ faults.Full entries bytes = same_Some _ _ e in absurd (cc x)
-resume_full (resuming.Fetch (fetch.Changed at)) entries bytes e = let x : faults.Journal ≡ faults.Full entries bytes = same_Some _ _ e in absurd (cc x)
+resume_full (resuming.Fetch (fetch.Changed at)) entries bytes e = let x : faults.Changed boxes.Inbox at ≡ faults.Full entries bytes = same_Some _ _ e in absurd (cc x)
 resume_full (resuming.Submit f) entries bytes e = ap resuming.Submit (submit_full f entries bytes e)
 
 -- ---- where nothing more is answered
@@ -338,14 +343,15 @@ module _ (now : BusinessAt) (b_plan : ℕ → List (List ℕ) → List (List ℕ
       }
 
 -- why it did not take its place
-module _ (unread : Type 0) (b now : BusinessAt) (result : Result (Unit {0}) ResumeFault) (shown : (f : SubmitFault) → result ≡ Err (resuming.Submit f) → f ≢ submit.Memory → ShownByOne b.count b.part now.part f)
-    (sound : result ≢ Err (resuming.Fetch fetch.Broken)) (failed : result ≡ Err (resuming.Fetch fetch.Fault) → unread) (changed : (at : ℕ) → result ≡ Err (resuming.Fetch (fetch.Changed at)) → unread) where
-  pub refused_resumed : (f : ResumeFault) → result ≡ Err f → (fault : ServeFault) → resume_fault f ≡ Some fault → RefusedFor unread b now fault
+module _ (unread otherwise : Type 0) (b now : BusinessAt) (result : Result (Unit {0}) ResumeFault) (shown : (f : SubmitFault) → result ≡ Err (resuming.Submit f) → f ≢ submit.Memory → ShownByOne b.count b.part now.part f)
+    (sound : result ≢ Err (resuming.Fetch fetch.Broken)) (failed : result ≡ Err (resuming.Fetch fetch.Fault) → unread) (changed : (at : ℕ) → result ≡ Err (resuming.Fetch (fetch.Changed at)) → otherwise) where
+  pub refused_resumed : (f : ResumeFault) → result ≡ Err f → (fault : ServeFault) → resume_fault f ≡ Some fault → RefusedFor unread otherwise b now fault
   refused_resumed (resuming.Fetch fetch.Broken) is fault e = absurd (sound is)
-  refused_resumed (resuming.Fetch fetch.Memory) is fault e = subst (λ x. RefusedFor unread b now x) (same_Some faults.Memory fault e) (refused_memory unread b now)
-  refused_resumed (resuming.Fetch fetch.Fault) is fault e = subst (λ x. RefusedFor unread b now x) (same_Some faults.Journal fault e) (record { of_sender = tt; journal = λ _. inr (failed is) })
-  refused_resumed (resuming.Fetch (fetch.Changed at)) is fault e = subst (λ x. RefusedFor unread b now x) (same_Some faults.Journal fault e) (record { of_sender = tt; journal = λ _. inr (changed at is) })
-  refused_resumed (resuming.Submit f) is fault e = refused_submit unread b now f (shown f is) fault e
+  refused_resumed (resuming.Fetch fetch.Memory) is fault e = subst (λ x. RefusedFor unread otherwise b now x) (same_Some faults.Memory fault e) (refused_memory unread otherwise b now)
+  refused_resumed (resuming.Fetch fetch.Fault) is fault e = subst (λ x. RefusedFor unread otherwise b now x) (same_Some faults.Journal fault e) (refused_journal unread otherwise b now (inr (failed is)))
+  refused_resumed (resuming.Fetch (fetch.Changed at)) is fault e = subst (λ x. RefusedFor unread otherwise b now x) (same_Some (faults.Changed boxes.Inbox at) fault e)
+      (record { of_business = tt; journal = λ j. absurd (cc j); changed = λ _ _. changed at is })
+  refused_resumed (resuming.Submit f) is fault e = refused_submit unread otherwise b now f (shown f is) fault e
 
 -- ---- with the records that an inbox holds
 

@@ -1,6 +1,6 @@
 -- A business beside the connections of a life, what it answered of the messages that the life applied, and what the life answers for it (this
 -- project's profile).
-use Rattle.std.specs.Prelude.{⊤, ◌≡◌, ◌⊎◌, ℕ, Bool, true, List, [], ◌++◌, length, Option, Some, None, Result, Ok, Err, IfErr}
+use Rattle.std.specs.Prelude.{⊤, ◌≡◌, ◌⊎◌, ℕ, Bool, true, false, List, [], ◌++◌, length, Option, Some, None, Result, Ok, Err, IfErr}
 use mathlib.Core.List.{IsPrefix}
 use Rattle.gw_outside.specs.Faults.{HasRisen}
 use Rattle.session_model.specs.Inbox.{InboxRecord, applied, payloads_of, has_peer_finished}
@@ -8,6 +8,7 @@ use Rattle.fixp_machine.specs.Machine.{State}
 use Rattle.gw_links.specs.Dialers.{DialerTold}
 use Rattle.gw_links.specs.declared.link.Link.{Ghosts as LinkGhosts}
 use Rattle.jr_boxes.specs.declared.faults.SubmitFault.{SubmitFault}
+use Rattle.jr_boxes.specs.declared.faults.Which.TheVariants as boxes
 use Rattle.jr_dated.specs.declared.journal.Journal.{Ghosts}
 use Rattle.jr_dated.specs.declared.faults.FetchFault.TheVariants as fetch
 use Rattle.jr_kept.specs.declared.inbox.Inbox.{Inbox}
@@ -45,7 +46,7 @@ abbrev pub resume_fault : ResumeFault → Option ServeFault
 resume_fault (resuming.Fetch fetch.Broken) = Some faults.Journal
 resume_fault (resuming.Fetch fetch.Memory) = Some faults.Memory
 resume_fault (resuming.Fetch fetch.Fault) = Some faults.Journal
-resume_fault (resuming.Fetch (fetch.Changed at)) = Some faults.Journal
+resume_fault (resuming.Fetch (fetch.Changed at)) = Some (faults.Changed boxes.Inbox at)
 resume_fault (resuming.Submit f) = submit_fault f
 
 -- the messages that some records apply
@@ -71,17 +72,31 @@ business_at stands plan count part a = record {
   refused = a.refused;
 }
 
--- Why a business was refused so, which is `old` before and `new` behind that: a sender may be refused so; and where a journal is to blame, a pass
--- knows that a call of the outbox's disk failed, or the inbox was not read
-pub record RefusedFor (unread : Type 0) (old new : BusinessAt) (fault : ServeFault) : Type 0 where
-  pub of_sender : IsOfSender fault
+-- the refusals of a business: those of a sender; and that a record of the inbox, which it looks at, has changed
+abbrev pub IsOfBusiness : ServeFault → Type 0
+IsOfBusiness faults.Journal = ⊤
+IsOfBusiness (faults.Changed boxes.Inbox at) = ⊤
+IsOfBusiness (faults.Full entries bytes) = ⊤
+IsOfBusiness faults.Memory = ⊤
+IsOfBusiness _ = ⊥
+
+-- the refusals of those who send: of senders, and of a business where they look at what is applied
+abbrev pub IsRefusal : (looks : Bool) → ServeFault → Type 0
+IsRefusal false fault = IsOfSender fault
+IsRefusal true fault = IsOfBusiness fault
+
+-- Why a business was refused so, which is `old` before and `new` behind that: a business may be refused so; where a journal is to blame, a pass
+-- knows that a call of the outbox's disk failed, or the inbox was not read; and where a record of the inbox has changed, it was read otherwise
+pub record RefusedFor (unread otherwise : Type 0) (old new : BusinessAt) (fault : ServeFault) : Type 0 where
+  pub of_business : IsOfBusiness fault
   pub journal : fault ≡ faults.Journal → SeesFailed old.count old.part new.part ⊎ unread
+  pub changed : (at : ℕ) → fault ≡ faults.Changed boxes.Inbox at → otherwise
 
 -- it is the same business: each of its passes is the same; and where it was refused since, an answer to it is the reason
 pub record StaysBusiness (old new : BusinessAt) : Type 0 where
   pub count : new.count ≡ old.count
   pub passes : AllStay old.count old.part new.part
-  pub refusal : (fault : ServeFault) → new.refused ≡ Some fault → (old.refused ≡ Some fault) ⊎ RefusedFor ⊥ old new fault
+  pub refusal : (fault : ServeFault) → new.refused ≡ Some fault → (old.refused ≡ Some fault) ⊎ RefusedFor ⊥ ⊥ old new fault
 
 -- What it made over these messages, from what its passes knew at first, p: each pass made messages of its plan, from there on, as far as it got;
 -- and unless a refusal was met each made all of its plan, or one of them has seen that the mark stands already. Where it was refused since an outbox
@@ -116,6 +131,11 @@ pub record AnsweringAt (J : Type 0) (G : Ghosts J) : Type 1 where
   pub box : Inbox J G
   pub business : BusinessAt
 
+-- a message of the inbox was read otherwise than it was written, which on a disk that tells its content none is, and so no connection served
+pub record ReadOtherwise (tells : Type 0) (adds : List InboxRecord) : Type 0 where
+  pub first : adds ≡ []
+  pub untold : tells → ⊥
+
 module _ {J : Type 0} {G : Ghosts J} where
   abbrev pub answering_at : Option DialerTold → (out : Option (List ℕ)) → (out_faults dialer_faults : ℕ) → Part → Inbox J G → BusinessAt → AnsweringAt J G
   answering_at dialed out out_faults dialer_faults pass box business = record {
@@ -141,11 +161,10 @@ module _ {J : Type 0} {G : Ghosts J} where
     pub answers : (p : ℕ → Part) (opening : List InboxRecord) (before : List (List ℕ)) (adds : List InboxRecord)
         → HoldsBox box (opening ++ adds) [] → Answers ⊤ old p opening before adds → Answers each new p opening before (adds ++ more)
 
-  -- a message of the inbox was not read, and so no connection served: a call of its disk failed, or it has changed, which on a disk that tells its
-  -- content none has
+  -- a message of the inbox was not read, since a call of its disk failed, and so no connection served
   pub record Unread (box box' : Inbox J G) (adds : List InboxRecord) : Type 0 where
     pub first : adds ≡ []
-    pub why : HasRisen (faults_of box) (faults_of box') ⊎ (G.tells → ⊥)
+    pub failed : HasRisen (faults_of box) (faults_of box')
 
   -- It answered, from its place behind the messages of the inbox: those that the inbox applied, where its disk tells its content; on any other
   -- disk as many messages as a read gave
@@ -165,6 +184,7 @@ module _ {J : Type 0} {G : Ghosts J} where
     pub answer : result ≡ answer_of connections new.business.refused
     pub shown : AllStay old.business.count old.business.part new.business.part
     pub refusal : (fault : ServeFault) → new.business.refused ≡ Some fault
-        → RefusedFor (Unread old.box new.box (adds_of (all_of life.life.ended life.life.given_up))) old.business new.business fault
+        → RefusedFor (Unread old.box new.box (adds_of (all_of life.life.ended life.life.given_up)))
+        (ReadOtherwise G.tells (adds_of (all_of life.life.ended life.life.given_up))) old.business new.business fault
     pub business : AnsweredLife (AnsweredEach connections) old new (adds_of (all_of life.life.ended life.life.given_up))
         ⊎ ((new.business.part ≡ old.business.part) × (connections ≡ Err faults.Memory))

@@ -1,6 +1,7 @@
 -- What the answer of a turn is to a connection, and how one that ended is to a life (this project's profile).
 use Rattle.std.specs.Prelude.{⊤, Option, Some, None, Result, Ok, Err}
 use Rattle.fixp_replies.specs.declared.act.Ending.TheVariants as endings
+use Rattle.jr_boxes.specs.declared.faults.Which.TheVariants as boxes
 use Rattle.conn_lines.specs.declared.close.Close.{Close}
 use Rattle.conn_lines.specs.declared.close.Close.TheVariants as closes
 use Rattle.conn_turns.specs.declared.answer.TurnEnd.{TurnEnd}
@@ -20,7 +21,7 @@ close_of (Err turn_faults.Link) = Ok (Some closes.LinkFault)
 close_of (Err turn_faults.Inbox) = Err faults.Journal
 close_of (Err turn_faults.Outbox) = Err faults.Journal
 close_of (Err turn_faults.Broken) = Err faults.Journal
-close_of (Err (turn_faults.Changed at)) = Err (faults.Changed at)
+close_of (Err (turn_faults.Changed at)) = Err (faults.Changed boxes.Outbox at)
 close_of (Err (turn_faults.Full entries bytes)) = Err (faults.Full entries bytes)
 close_of (Err turn_faults.Memory) = Err faults.Memory
 
@@ -37,7 +38,7 @@ end_behind closes.LinkFault = Ok None
 abbrev pub IsOfTurn : ServeFault → Type 0
 IsOfTurn faults.Output = ⊤
 IsOfTurn faults.Journal = ⊤
-IsOfTurn (faults.Changed at) = ⊤
+IsOfTurn (faults.Changed which at) = ⊤
 IsOfTurn faults.Dial = ⊥
 IsOfTurn (faults.Unfinished phase) = ⊥
 IsOfTurn (faults.Rejected template code) = ⊥
@@ -48,7 +49,7 @@ IsOfTurn faults.Memory = ⊤
 abbrev pub IsOfConnection : ServeFault → Type 0
 IsOfConnection faults.Output = ⊤
 IsOfConnection faults.Journal = ⊤
-IsOfConnection (faults.Changed at) = ⊤
+IsOfConnection (faults.Changed which at) = ⊤
 IsOfConnection faults.Dial = ⊥
 IsOfConnection (faults.Unfinished phase) = ⊥
 IsOfConnection (faults.Rejected template code) = ⊥

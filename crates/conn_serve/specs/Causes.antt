@@ -2,6 +2,9 @@
 use Rattle.std.specs.Prelude.{◌≡◌, ◌⊎◌, ℕ, ◌<◌, ◌≤◌, Bool, true, false, List, ◌++◌, length, Option, Some, None}
 use Rattle.std.specs.Io.KnownBytes.{Appends}
 use Rattle.gw_outside.specs.Faults.{HasRisen, TakesFront}
+use Rattle.session_model.specs.Journal.{History}
+use Rattle.jr_boxes.specs.declared.faults.Which.{Which}
+use Rattle.jr_boxes.specs.declared.faults.Which.TheVariants as boxes
 use Rattle.jr_dated.specs.declared.journal.Journal.{Ghosts}
 use Rattle.jr_kept.specs.declared.inbox.Inbox.{Inbox}
 use Rattle.jr_kept.specs.Inbox.{faults_of, is_broken, size_of, count_of}
@@ -17,7 +20,7 @@ use Rattle.conn_serve.specs.Moments.{FaultsAt}
 abbrev pub lacks : ServeFault → Bool
 lacks faults.Output = true
 lacks faults.Journal = false
-lacks (faults.Changed at) = false
+lacks (faults.Changed which at) = false
 lacks faults.Dial = false
 lacks (faults.Unfinished phase) = false
 lacks (faults.Rejected template code) = false
@@ -62,6 +65,12 @@ pub record TellsAll (lacking : Bool) (old new : Option (List ℕ)) (lines : List
   pub few : AreLate late
   pub told : TellsUntil lacking old new earlier late
 
+-- A record is read otherwise than it was written, which on a disk that tells its content none is: one of the outbox, of those that were seen; or one of the
+-- inbox, which only those read who look at what is applied
+abbrev pub IsChanged : (looks : Bool) (in_tells out_tells : Type 0) → History → Which → (at : ℕ) → Type 0
+IsChanged looks in_tells out_tells seen boxes.Outbox at = (at < length seen.made) × (out_tells → ⊥)
+IsChanged looks in_tells out_tells seen boxes.Inbox at = (looks ≡ true) × (in_tells → ⊥)
+
 module _ {J : Type 0} {G : Ghosts J} where
   -- a journal is to blame: the inbox's count rose, or it was broken before, or a call of the outbox's disk failed, as the count that the
   -- pass has seen shows: meanwhile, or since its opening
@@ -69,10 +78,10 @@ module _ {J : Type 0} {G : Ghosts J} where
   BlamesJournal p p' box box' =
       HasRisen (faults_of box) (faults_of box') ⊎ ((is_broken box ≡ true) ⊎ (HasFailed p.faults p'.faults ⊎ HasFailed p'.opening.faults p'.faults))
 
-  -- what a fault is to blame for; a record of the outbox, of those that the pass has seen, changes only on a disk that does not tell its content
+  -- what a fault is to blame for; a record that has changed is one of the outbox, which alone the connections read
   pub record IsBlamed (tells : Type 0) (old new : FaultsAt J G) (fault : ServeFault) : Type 0 where
     pub output : fault ≡ faults.Output → HasRisen old.out new.out
     pub journal : fault ≡ faults.Journal → BlamesJournal old.pass new.pass old.box new.box
-    pub changed : (at : ℕ) → fault ≡ faults.Changed at → (at < length new.pass.seen.made) × (tells → ⊥)
+    pub changed : (which : Which) (at : ℕ) → fault ≡ faults.Changed which at → IsChanged false G.tells tells new.pass.seen which at
     pub dial : fault ≡ faults.Dial → HasRisen old.dialer new.dialer
     pub full : (entries bytes : ℕ) → fault ≡ faults.Full entries bytes → (entries ≡ count_of new.box) × (bytes ≡ size_of new.box)

@@ -10,6 +10,7 @@ use Rattle.std.specs.Option.{option_map}
 use Rattle.gw_links.specs.Links.{Carried, CarriedNothing, HasCarried}
 use Rattle.gw_links.specs.Dialers.{DialerTold}
 use Rattle.gw_links.specs.declared.link.Link.{Ghosts as LinkGhosts}
+use Rattle.jr_boxes.specs.declared.faults.Which.{Which}
 use Rattle.jr_dated.specs.declared.journal.Journal.{Ghosts}
 use Rattle.jr_kept.specs.Inbox.{limits_of}
 use Rattle.conn_lines.specs.declared.close.Close.{Close}
@@ -68,7 +69,7 @@ IsNext carried old new (Ok (Some link)) = IsNextLink carried link old new
 IsNext carried old new (Ok None) = new ≡ old
 IsNext carried old new (Err faults.Output) = ⊥
 IsNext carried old new (Err faults.Journal) = ⊥
-IsNext carried old new (Err (faults.Changed at)) = ⊥
+IsNext carried old new (Err (faults.Changed which at)) = ⊥
 IsNext carried old new (Err faults.Dial) = new ≡ old
 IsNext carried old new (Err (faults.Unfinished phase)) = (new ≡ old) × IfSome new (λ t. t.left ≡ 0)
 IsNext carried old new (Err (faults.Rejected template code)) = ⊥
@@ -103,7 +104,7 @@ IsLifeAnswer seen seen' m dialed' ended given (Ok ends.Finished) = (given ≡ No
 IsLifeAnswer seen seen' m dialed' ended given (Ok ends.Stopped) = All IsFollowed ended
 IsLifeAnswer seen seen' m dialed' ended given (Err faults.Output) = ⊤
 IsLifeAnswer seen seen' m dialed' ended given (Err faults.Journal) = All IsFollowed ended × (c : Connection) × (given ≡ Some c) × IsSome c.leg.cut
-IsLifeAnswer seen seen' m dialed' ended given (Err (faults.Changed at)) = All IsFollowed ended × (c : Connection) × (given ≡ Some c) × IsSome c.leg.cut
+IsLifeAnswer seen seen' m dialed' ended given (Err (faults.Changed which at)) = All IsFollowed ended × (c : Connection) × (given ≡ Some c) × IsSome c.leg.cut
 IsLifeAnswer seen seen' m dialed' ended given (Err faults.Dial) = All IsFollowed ended × (given ≡ None)
 IsLifeAnswer seen seen' m dialed' ended given (Err (faults.Unfinished phase)) = All IsFollowed ended × (given ≡ None) × (phase ≡ phase_of m)
     × IfSome dialed' (λ t. t.left ≡ 0)
@@ -178,7 +179,7 @@ module _ {J : Type 0} {G : Ghosts J} where
     pub spent : why ≡ Some faults.Turns → IsSpent last connection.leg.turns connection.leg.cut
     pub cut_short : (why ≡ Some faults.Journal → IsSome connection.leg.cut)
         × ((entries bytes : ℕ) → why ≡ Some (faults.Full entries bytes) → IsSome connection.leg.cut)
-    pub cut_changed : (at : ℕ) → why ≡ Some (faults.Changed at) → IsSome connection.leg.cut
+    pub cut_changed : (which : Which) (at : ℕ) → why ≡ Some (faults.Changed which at) → IsSome connection.leg.cut
     pub past : (entries bytes : ℕ) → why ≡ Some (faults.Full entries bytes) → IsPast (limits_of new.box).bytes bytes connection.wanted
 
   -- no connection was made
@@ -198,7 +199,7 @@ module _ {J : Type 0} {G : Ghosts J} where
   IsRound told known n old new m m' (Err faults.Output) = ((close : Close) × EndedOne told known n true old new m m' close)
       ⊎ GaveOneUp told known (Some faults.Output) old new m
   IsRound told known n old new m m' (Err faults.Journal) = GaveOneUp told known (Some faults.Journal) old new m
-  IsRound told known n old new m m' (Err (faults.Changed at)) = GaveOneUp told known (Some (faults.Changed at)) old new m
+  IsRound told known n old new m m' (Err (faults.Changed which at)) = GaveOneUp told known (Some (faults.Changed which at)) old new m
   IsRound told known n old new m m' (Err faults.Dial) = MadeNone old new m m' × known None
   IsRound told known n old new m m' (Err (faults.Unfinished phase)) =
       MadeNone old new m m' × (phase ≡ phase_of m) × IfSome new.dialed (λ t. t.left ≡ 0) × known None

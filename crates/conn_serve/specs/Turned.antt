@@ -6,6 +6,7 @@ use Rattle.session_model.specs.Journal.{BeginsHistory}
 use Rattle.session_model.specs.Inbox.{InboxRecord}
 use Rattle.fixp_machine.specs.Machine.{State}
 use Rattle.gw_links.specs.Links.{Moved}
+use Rattle.jr_boxes.specs.declared.faults.Which.{Which}
 use Rattle.jr_dated.specs.declared.journal.Journal.{Ghosts}
 use Rattle.jr_kept.specs.declared.inbox.Inbox.{Inbox}
 use Rattle.jr_kept.specs.Inbox.{limits_of}
@@ -82,7 +83,7 @@ module _ {J : Type 0} {G : Ghosts J} where
     pub lines : TellsNews (lacks_at why) old.out new.out (news ++ cut_told)
     pub spent : why ≡ Some faults.Turns → IsSpent behind.line turns cut
     pub cut_short : (why ≡ Some faults.Journal → IsSome cut) × ((entries bytes : ℕ) → why ≡ Some (faults.Full entries bytes) → IsSome cut)
-    pub cut_changed : (at : ℕ) → why ≡ Some (faults.Changed at) → IsSome cut
+    pub cut_changed : (which : Which) (at : ℕ) → why ≡ Some (faults.Changed which at) → IsSome cut
     pub past : (entries bytes : ℕ) → why ≡ Some (faults.Full entries bytes) → IsPast (limits_of new.box).bytes bytes wanted
 
   -- the next connection may begin of this machine, with this pass and this inbox

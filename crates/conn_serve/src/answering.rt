@@ -9,12 +9,13 @@ ghost use Rattle.gate_senders.specs.Gate.{senders_of};
 ghost use Rattle.gate_business.specs.Business.{lock_of, AllStay};
 ghost use Rattle.conn_door.specs.declared.answer.ServeFault.{ServeFault};
 ghost use Rattle.conn_turns.specs.News.{items_of, delivered_in};
-ghost use Rattle.conn_serve.specs.Answering.{business_of, refused_in, call_fault, resume_fault, messages_of, business_at, Answers, RefusedFor, StaysBusiness, Unread};
+ghost use Rattle.conn_serve.specs.Answering.{business_of, refused_in, call_fault, resume_fault, messages_of, business_at, Answers, RefusedFor, StaysBusiness, Unread, ReadOtherwise};
 
 use conn_door::{ServeFault, refused_submit};
 use conn_turns::News;
 use gate_business::{Business, ResumeFault};
 use gate_senders::Gate;
+use jr_boxes::Which;
 use jr_dated::{FetchFault, Journal};
 use jr_kept::{Inbox, SubmitFault};
 use std::alloc::Global;
@@ -67,8 +68,12 @@ fn refused_resume(fault: ResumeFault) -> Option<ServeFault>
     ensures { result ≡ resume_fault fault }
 {
     match fault {
+        ResumeFault::Fetch(FetchFault::Fault | FetchFault::Broken) => Some(ServeFault::Journal),
+        ResumeFault::Fetch(FetchFault::Changed { at }) => Some(ServeFault::Changed {
+            which: Which::Inbox,
+            at,
+        }),
         ResumeFault::Fetch(FetchFault::Memory) => Some(ServeFault::Memory),
-        ResumeFault::Fetch(_) => Some(ServeFault::Journal),
         ResumeFault::Submit(fault) => refused_submit(fault),
     }
 }
@@ -87,7 +92,7 @@ pub(crate) fn resume_business<
     ensures same { (B.count (business_of answering.new) ≡ B.count (business_of answering.old)) × (B.plan (business_of answering.new) ≡ B.plan (business_of answering.old)) }
     ensures stays { AllStay (B.count (business_of answering.old)) (B.part (business_of answering.old)) (B.part (business_of answering.new)) }
     ensures refusal { (fault : ServeFault) → refused_in answering.new ≡ Some fault
-        → RefusedFor (Unread inbox.old inbox.new []) (business_at B.stands B.plan B.count B.part answering.old) (business_at B.stands B.plan B.count B.part answering.new) fault }
+        → RefusedFor (Unread inbox.old inbox.new []) (ReadOtherwise I.tells []) (business_at B.stands B.plan B.count B.part answering.old) (business_at B.stands B.plan B.count B.part answering.new) fault }
     ensures told { (i : List InboxRecord) → I.tells → StandsFor inbox.old i
         → Answers ⊤ (business_at B.stands B.plan B.count B.part answering.new) (B.part (business_of answering.old)) i (messages_of i) [] }
     ensures read { (i : List InboxRecord) → StandsFor inbox.old i → ∥ ((l : List (List ℕ)) × (length l ≡ length (applied i))

@@ -34,6 +34,7 @@ use gate_senders::{Gate, Kept};
 use gate_turn::Pass;
 use gw_links::{Clock, Link};
 use gw_outside::Sink;
+use jr_boxes::Which;
 use jr_dated::Journal;
 use jr_kept::Inbox;
 use std::sync::Wait;
@@ -52,7 +53,10 @@ fn close_of(answer: Result<TurnEnd, TurnFault>) -> Result<Option<Close>, ServeFa
         Ok(TurnEnd::Ended(ending)) => Ok(Some(Close::Ended(ending))),
         Err(TurnFault::Link) => Ok(Some(Close::LinkFault)),
         Err(TurnFault::Inbox | TurnFault::Outbox | TurnFault::Broken) => Err(ServeFault::Journal),
-        Err(TurnFault::Changed { at }) => Err(ServeFault::Changed { at }),
+        Err(TurnFault::Changed { at }) => Err(ServeFault::Changed {
+            which: Which::Outbox,
+            at,
+        }),
         Err(TurnFault::Full { entries, bytes }) => Err(ServeFault::Full { entries, bytes }),
         Err(TurnFault::Memory) => Err(ServeFault::Memory),
     }

@@ -8,6 +8,7 @@ use Rattle.gw_links.specs.Dialers.{DialerTold}
 use Rattle.gw_links.specs.declared.link.Link.{Ghosts as LinkGhosts}
 use Rattle.text_words.specs.Lines.{lines_in}
 use Rattle.plan_text.specs.Plans.{Gift}
+use Rattle.jr_boxes.specs.declared.faults.Which.{Which}
 use Rattle.jr_dated.specs.declared.journal.Journal.{Ghosts}
 use Rattle.jr_kept.specs.declared.inbox.Inbox.{Inbox}
 use Rattle.jr_kept.specs.Inbox.{limits_of}
@@ -29,7 +30,7 @@ use Rattle.conn_door.specs.declared.answer.ServeFault.TheVariants as faults
 use Rattle.conn_door.specs.declared.answer.LifeEnd.{LifeEnd}
 use Rattle.conn_door.specs.Answers.{answer_of, yields, IsOfSender, IsUnrefused}
 use Rattle.conn_door.proofs.Marking.{unanswered}
-use Rattle.conn_serve.specs.Causes.{BlamesJournal, IsBlamed}
+use Rattle.conn_serve.specs.Causes.{IsChanged, BlamesJournal, IsBlamed}
 use Rattle.conn_serve.specs.Connections.{wanted_of_all}
 use Rattle.conn_serve.specs.Moments.{life_at, faults_at, beside}
 use Rattle.conn_serve.specs.Served.{ServedOver}
@@ -56,7 +57,7 @@ use Rattle.fed_laws.proofs.Gifts.{plans_long}
 firm : (x : ServeFault) → IsOfSender x → yields x ≡ false
 firm faults.Output h = absurd h
 firm faults.Journal h = refl
-firm (faults.Changed at) h = absurd h
+firm (faults.Changed which at) h = absurd h
 firm faults.Dial h = absurd h
 firm (faults.Unfinished phase) h = absurd h
 firm (faults.Rejected template code) h = absurd h
@@ -307,13 +308,13 @@ module _ {J : Type 0} {G : Ghosts J} (gate : Gate J G) (a : Account) (seated cou
         (λ r. inr (sender_so (MetFull plans entries bytes) (⊎_elim (full_here entries bytes) (λ m. absurd (⊎_elim (λ x. cc x) (λ x. cc x) (mark_few (faults.Full entries bytes) m))) (by_limit end mark entries bytes r))))
         (answer_blames connections refused (faults.Full entries bytes) (λ x. cc x) e)
 
-    changed_at : (at : ℕ) → answer_of connections refused ≡ Err (faults.Changed at) → (at < length (known_at new (length plans + 1)).seen.made) × (G.tells → ⊥)
-    changed_at at e = ⊎_elim
+    changed_at : (which : Which) (at : ℕ) → answer_of connections refused ≡ Err (faults.Changed which at) → IsChanged false K.tells G.tells (known_at new (length plans + 1)).seen which at
+    changed_at which at e = ⊎_elim
         (λ c.
-        let f = (blamed_for (faults.Changed at) c).changed at refl in
-        (subst (λ (p : Part). at < length p.seen.made) (sym last_at) f.0, f.1))
-        (λ r. absurd (of_sender end mark mark_of_sender (faults.Changed at) r))
-        (answer_blames connections refused (faults.Changed at) (λ x. cc x) e)
+        let f = (blamed_for (faults.Changed which at) c).changed which at refl in
+        subst (λ (p : Part). IsChanged false K.tells G.tells p.seen which at) (sym last_at) f)
+        (λ r. absurd (of_sender end mark mark_of_sender (faults.Changed which at) r))
+        (answer_blames connections refused (faults.Changed which at) (λ x. cc x) e)
 
     marked_pass : IsUnrefused (answer_of connections refused) → 0 < length plans → SomePass (length plans + 1) SeesMark (known_at new)
     marked_pass u some = by_refusal refused refl

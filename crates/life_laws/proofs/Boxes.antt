@@ -99,7 +99,7 @@ module _ {J : Type 0} {G : Ghosts J} {O : Type 0} {H : Ghosts O} {L : Type 0} (o
     sent = λ u waits i held t. absurd (true≢false (sym waits));
     none = λ e. kept.0.none (none_of plans e);
     changed = s.changed;
-    journal = λ e. ⊎_elim (λ b. inl (inl (inbox_risen b))) (λ m. inl (inr (failed_at gate passes outbox closed o sound k (length plans) many m))) (s.journal e);
+    journal = λ e. ⊎_elim (λ b. inl (inbox_risen b)) (λ m. inr (failed_at gate passes outbox closed o sound k (length plans) many m)) (s.journal e);
     full = λ entries bytes e. ⊎_elim
         (λ b. inl b)
         (λ m. inr (λ i held looks. subst

@@ -14,6 +14,8 @@ use Rattle.session_model.specs.Lives.{Life, KeepsOutbox}
 use Rattle.session_model.proofs.Lists.{prefix_self}
 use Rattle.fixp_shake.specs.declared.config.EndConfig.{EndConfig}
 use Rattle.fixp_machine.specs.Machine.{State, fresh}
+use Rattle.jr_boxes.specs.declared.faults.Which.{Which}
+use Rattle.jr_boxes.specs.declared.faults.Which.TheVariants as boxes
 use Rattle.jr_boxes.specs.Outboxes.{outbox_of}
 use Rattle.jr_dated.specs.declared.journal.Journal.{Ghosts}
 use Rattle.jr_kept.specs.declared.inbox.Inbox.{Inbox}
@@ -32,19 +34,19 @@ use Rattle.gate_senders.specs.declared.kept.Kept.{Kept}
 use Rattle.gate_senders.proofs.Keeping.{keeps_stands, front_is}
 use Rattle.gate_business.specs.Made as made
 use Rattle.gate_business.specs.Business as business
-use Rattle.conn_door.specs.Answers.{answer_of, yields, yields_to, IsUnrefused, IsOfSender}
+use Rattle.conn_door.specs.Answers.{answer_of, yields, yields_to, IsUnrefused}
 use Rattle.conn_door.specs.declared.answer.ServeFault.{ServeFault}
 use Rattle.conn_door.specs.declared.answer.ServeFault.TheVariants as faults
 use Rattle.conn_door.specs.declared.answer.LifeEnd.{LifeEnd}
 use Rattle.conn_door.specs.declared.answer.LifeEnd.TheVariants as ends
 use Rattle.conn_turns.proofs.Delivering.{applied_payloads}
 use Rattle.conn_serve.specs.Answers.{IsOfTurn}
-use Rattle.conn_serve.specs.Causes.{BlamesJournal, IsBlamed}
+use Rattle.conn_serve.specs.Causes.{IsChanged, BlamesJournal, IsBlamed}
 use Rattle.conn_serve.specs.Connections.{AllEnded, all_of, adds_of, wanted_of_all}
 use Rattle.conn_serve.specs.Moments.{beside, life_at}
 use Rattle.conn_serve.specs.Opening.{opened_state}
 use Rattle.conn_serve.specs.Served.{ServedLife, IsLifeAnswer, WasGivenUp}
-use Rattle.conn_serve.specs.Answering.{messages_of, AnsweringAt, AnsweredTo, Answers, AnsweredLife, AnsweredEach, AnsweredSo, faults_around}
+use Rattle.conn_serve.specs.Answering.{messages_of, IsOfBusiness, RefusedFor, ReadOtherwise, Unread, AnsweringAt, AnsweredTo, Answers, AnsweredLife, AnsweredEach, AnsweredSo, faults_around}
 use Rattle.life_laws.specs.Plans.{plan_in, KeepsPlans, LosesNext, GoesOnBy, Senders, plans_at, SentAll, KeepsSenders}
 use Rattle.life_laws.specs.PlanLives.{Clocked, SomePass, SeesMark, SeesFailure, MetFull, WasFull, FillsInbox, BlamesBoxes, IsLifeOver, LivedBoxes}
 use Rattle.life_laws.proofs.Closing.{found_at, broken_at, marked_at, failed_at, order_at, full_at}
@@ -66,13 +68,14 @@ outbox_set = hlevel (ℕ_set, List-set, ⊎_set)
 made_again : (rs : List OutboxRecord) (h : History) → rs ≡ outbox_of h → h ≡ history_of rs
 made_again rs h is = sym (history_of-outbox_of h) ∙ ap (λ (xs : List OutboxRecord). history_of xs) (sym is)
 
--- a refusal of a sender is answered as such, and what is answered of the connections then does not yield
-refusal_yields : (fault : ServeFault) → IsOfSender fault → IsTrue (yields fault) → ⊥
+-- a refusal of a business is answered as such, and what is answered of the connections then does not yield
+refusal_yields : (fault : ServeFault) → IsOfBusiness fault → IsTrue (yields fault) → ⊥
 refusal_yields faults.Journal of u = true≢false (sym u)
 refusal_yields (faults.Full entries bytes) of u = true≢false (sym u)
 refusal_yields faults.Memory of u = true≢false (sym u)
 refusal_yields faults.Output of u = of
-refusal_yields (faults.Changed at) of u = of
+refusal_yields (faults.Changed boxes.Inbox at) of u = true≢false (sym u)
+refusal_yields (faults.Changed boxes.Outbox at) of u = of
 refusal_yields faults.Dial of u = of
 refusal_yields (faults.Unfinished phase) of u = of
 refusal_yields (faults.Rejected template code) of u = of
@@ -82,7 +85,7 @@ refusal_yields faults.Turns of u = of
 yields_no_turn : (fault : ServeFault) → IsTrue (yields fault) → IsOfTurn fault → ⊥
 yields_no_turn faults.Output u of = true≢false (sym u)
 yields_no_turn faults.Journal u of = true≢false (sym u)
-yields_no_turn (faults.Changed at) u of = true≢false (sym u)
+yields_no_turn (faults.Changed which at) u of = true≢false (sym u)
 yields_no_turn faults.Dial u of = true≢false (sym u)
 yields_no_turn (faults.Unfinished phase) u of = of
 yields_no_turn (faults.Rejected template code) u of = of
@@ -102,7 +105,7 @@ either_yields false r fault u = inr (u, refl)
 yields_to_each : (fault r : ServeFault) → IsTrue (yields fault) → yields_to fault r ≡ true
 yields_to_each faults.Output r u = absurd (true≢false (sym u))
 yields_to_each faults.Journal r u = absurd (true≢false (sym u))
-yields_to_each (faults.Changed at) r u = absurd (true≢false (sym u))
+yields_to_each (faults.Changed which at) r u = absurd (true≢false (sym u))
 yields_to_each faults.Dial r u = absurd (true≢false (sym u))
 yields_to_each (faults.Unfinished phase) r u = refl
 yields_to_each (faults.Rejected template code) r u = refl
@@ -110,7 +113,7 @@ yields_to_each (faults.Full entries bytes) r u = absurd (true≢false (sym u))
 yields_to_each faults.Turns r u = refl
 yields_to_each faults.Memory r u = absurd (true≢false (sym u))
 
-pub unrefused : (connections : Result LifeEnd ServeFault) (refused : Option ServeFault) → IfSome refused IsOfSender → IsUnrefused (answer_of connections refused) → Unrefused connections refused
+pub unrefused : (connections : Result LifeEnd ServeFault) (refused : Option ServeFault) → IfSome refused IsOfBusiness → IsUnrefused (answer_of connections refused) → Unrefused connections refused
 unrefused (Ok ends.Finished) None of u = record { none = refl; each = tt }
 unrefused (Ok ends.Stopped) None of u = absurd (true≢false (sym u))
 unrefused (Ok ends.Finished) (Some r) of u = absurd (refusal_yields r of u)
@@ -121,7 +124,7 @@ unrefused (Err fault) (Some r) of u = absurd (⊎_elim
     (λ y. true≢false (sym (yields_to_each fault r y.0) ∙ y.1))
     (either_yields (yields_to fault r) r fault u))
 
-where_some : (r : Option ServeFault) → ((fault : ServeFault) → r ≡ Some fault → IsOfSender fault) → IfSome r IsOfSender
+where_some : (r : Option ServeFault) → ((fault : ServeFault) → r ≡ Some fault → IsOfBusiness fault) → IfSome r IsOfBusiness
 where_some None each = tt
 where_some (Some fault) each = each fault refl
 
@@ -221,8 +224,8 @@ module _ {J : Type 0} {G : Ghosts J} {O : Type 0} {H : Ghosts O} {L : Type 0} (o
 
   -- ---- where the disk of the inbox tells its content
 
-  refusal : IfSome new.business.refused IsOfSender
-  refusal = where_some new.business.refused (λ fault e. (s.refusal fault e).of_sender)
+  refusal : IfSome new.business.refused IsOfBusiness
+  refusal = where_some new.business.refused (λ fault e. (s.refusal fault e).of_business)
 
   memory_each : Unrefused s.connections new.business.refused → s.connections ≡ Err faults.Memory → ⊥
   memory_each r e = (subst (λ c. AnsweredEach c) e r.each) tt
@@ -420,22 +423,33 @@ module _ {J : Type 0} {G : Ghosts J} {O : Type 0} {H : Ghosts O} {L : Type 0} (o
   by_blame (inr (inl broken)) = absurd (true≢false (sym broken ∙ in_sound))
   by_blame (inr (inr failed)) = inr (last_failed failed)
 
-  journal : result ≡ Err faults.Journal → BlamesBoxes old.box new.box outbox closed ⊎ ((true ≡ true) × (G.tells → ⊥))
+  journal : result ≡ Err faults.Journal → BlamesBoxes old.box new.box outbox closed
   journal e = ⊎_elim
-      (λ c. inl (by_blame ((blamed_at (IsBlamed over.tells (faults_around old) (faults_around new)) s.connections faults.Journal s.blamed c).journal refl)))
-      (λ r. ⊎_elim (λ f. inl (inr (one_failed f))) (λ b. ⊎_elim (λ risen. inl (inl risen)) (λ untold. inr (refl, untold)) b.why) ((s.refusal faults.Journal r).journal refl))
+      (λ c. by_blame ((blamed_at (IsBlamed over.tells (faults_around old) (faults_around new)) s.connections faults.Journal s.blamed c).journal refl))
+      (λ r. ⊎_elim (λ f. inr (one_failed f)) (λ b. inl b.failed) ((s.refusal faults.Journal r).journal refl))
       (answer_blames s.connections new.business.refused faults.Journal (λ x. cc) (sym s.answer ∙ e))
 
   seen_is : new.pass.seen ≡ (known (count + 1)).seen
   seen_is = ap (λ (p : Part). p.seen) u.back.connection
 
-  changed : (at : ℕ) → result ≡ Err (faults.Changed at) → (at < length (known (count + 1)).seen.made) × (over.tells → ⊥)
-  changed at e = ⊎_elim
+  -- one of the outbox has changed, whoever looks at the inbox
+  changed_looking : (which : Which) (at : ℕ) (seen : History) → IsChanged false G.tells over.tells seen which at → IsChanged true G.tells over.tells seen which at
+  changed_looking boxes.Outbox at seen c = c
+  changed_looking boxes.Inbox at seen c = absurd (true≢false (sym c.0))
+
+  -- a business is refused for one of the inbox
+  read_otherwise : (which : Which) (at : ℕ) → RefusedFor (Unread old.box new.box adds) (ReadOtherwise G.tells adds) old.business new.business (faults.Changed which at)
+      → IsChanged true G.tells over.tells (known (count + 1)).seen which at
+  read_otherwise boxes.Outbox at r = absurd r.of_business
+  read_otherwise boxes.Inbox at r = (refl, (r.changed at refl).untold)
+
+  changed : (which : Which) (at : ℕ) → result ≡ Err (faults.Changed which at) → IsChanged true G.tells over.tells (known (count + 1)).seen which at
+  changed which at e = ⊎_elim
       (λ c.
-      let b = (blamed_at (IsBlamed over.tells (faults_around old) (faults_around new)) s.connections (faults.Changed at) s.blamed c).changed at refl in
-      (subst (λ (h : History). at < length h.made) seen_is b.0, b.1))
-      (λ r. absurd (s.refusal (faults.Changed at) r).of_sender)
-      (answer_blames s.connections new.business.refused (faults.Changed at) (λ x. cc) (sym s.answer ∙ e))
+      let b = (blamed_at (IsBlamed over.tells (faults_around old) (faults_around new)) s.connections (faults.Changed which at) s.blamed c).changed which at refl in
+      subst (λ (h : History). IsChanged true G.tells over.tells h which at) seen_is (changed_looking which at new.pass.seen b))
+      (λ r. read_otherwise which at (s.refusal (faults.Changed which at) r))
+      (answer_blames s.connections new.business.refused (faults.Changed which at) (λ x. cc) (sym s.answer ∙ e))
 
   opened_is : old.pass.seen ≡ opening.history
   opened_is = ap (λ (p : Part). p.seen) u.made.connection

@@ -1,5 +1,5 @@
 -- What a life whose senders submitted plans shows once all passes are back.
-use Rattle.std.proofs.Common.{◌≡◌, ◌⊎◌, inl, inr, ⊎_elim, ℕ, suc, ◌+◌, ◌<◌, List, [], length, slice_get, slice_index_or, All, Option, Some, None, Result, Ok, Err, if◌then◌else◌, refl, sym, ap, subst, ◌∙◌, arith}
+use Rattle.std.proofs.Common.{◌≡◌, ◌⊎◌, inl, inr, ⊎_elim, ℕ, suc, ◌+◌, ◌<◌, false, List, [], length, slice_get, slice_index_or, All, Option, Some, None, Result, Ok, Err, if◌then◌else◌, refl, sym, ap, subst, ◌∙◌, arith}
 use Rattle.std.specs.Prelude.{option_to_list, IfErr, IfSome}
 use Rattle.std.proofs.lemmas.Bool.{cases_Bool}
 use Rattle.session_model.specs.Journal.{History, BeginsHistory}
@@ -8,6 +8,7 @@ use Rattle.gw_links.specs.Dialers.{DialerTold}
 use Rattle.jr_dated.specs.declared.journal.Journal.{Ghosts}
 use Rattle.jr_kept.specs.declared.inbox.Inbox.{Inbox}
 use Rattle.jr_kept.specs.Inbox.{limits_of}
+use Rattle.jr_boxes.specs.declared.faults.Which.{Which}
 use Rattle.jr_boxes.specs.declared.faults.SubmitFault.{SubmitFault}
 use Rattle.jr_boxes.specs.declared.faults.SubmitFault.TheVariants as submit
 use Rattle.gate_turn.specs.Views.{Account, HasFailed, Part, new_part}
@@ -27,7 +28,7 @@ use Rattle.conn_door.specs.declared.answer.ServeFault.TheVariants as faults
 use Rattle.conn_door.specs.declared.answer.LifeEnd.{LifeEnd}
 use Rattle.conn_door.specs.declared.answer.LifeEnd.TheVariants as ends
 use Rattle.conn_door.specs.Answers.{answer_of, yields_to, IsOfSender, IsUnrefused}
-use Rattle.conn_serve.specs.Causes.{BlamesJournal, IsBlamed}
+use Rattle.conn_serve.specs.Causes.{IsChanged, BlamesJournal, IsBlamed}
 use Rattle.conn_serve.specs.Connections.{wanted_of_all}
 use Rattle.conn_door.specs.Senders.{refusal_of, MetRefusal, IsRefusal, Finishes, FinishedFirst, SubmittedAll, SomeMarked}
 use Rattle.conn_serve.specs.Served.{ServedOver}
@@ -223,13 +224,13 @@ module _ {J : Type 0} {G : Ghosts J} (gate : Gate J G) (a : Account) (plans : Li
         (λ r. inr (by_refusal (faults.Full entries bytes) (SomePass (length plans + 1) (MetFull plans entries bytes) (known_at new)) r (λ h. refused_full_shown s.refused h entries bytes r)))
         (answer_blames s.connections s.refused (faults.Full entries bytes) (λ x. cc) (sym s.answer ∙ e))
 
-    changed_at : (at : ℕ) → result ≡ Err (faults.Changed at) → (at < length (known_at new (length plans + 1)).seen.made) × (G.tells → ⊥)
-    changed_at at e = ⊎_elim
+    changed_at : (which : Which) (at : ℕ) → result ≡ Err (faults.Changed which at) → IsChanged false K.tells G.tells (known_at new (length plans + 1)).seen which at
+    changed_at which at e = ⊎_elim
         (λ c.
-        let b = (blamed_at (IsBlamed G.tells (faults_at out_faults dial_faults first box) (faults_at now_out_faults now_dial_faults now since)) s.connections (faults.Changed at) s.blamed c).changed at refl in
-        (subst (λ (p : Part). at < length p.seen.made) (sym (last_at all_made)) b.0, b.1))
-        (λ r. absurd (by_refusal (faults.Changed at) (IsOfSender (faults.Changed at)) r (λ h. refused_of_sender s.refused h (faults.Changed at) r)))
-        (answer_blames s.connections s.refused (faults.Changed at) (λ x. cc) (sym s.answer ∙ e))
+        let b = (blamed_at (IsBlamed G.tells (faults_at out_faults dial_faults first box) (faults_at now_out_faults now_dial_faults now since)) s.connections (faults.Changed which at) s.blamed c).changed which at refl in
+        subst (λ (p : Part). IsChanged false K.tells G.tells p.seen which at) (sym (last_at all_made)) b)
+        (λ r. absurd (by_refusal (faults.Changed which at) (IsOfSender (faults.Changed which at)) r (λ h. refused_of_sender s.refused h (faults.Changed which at) r)))
+        (answer_blames s.connections s.refused (faults.Changed which at) (λ x. cc) (sym s.answer ∙ e))
 
     refusal_at : IfSome s.refused IsOfSender
     refusal_at = where_some s.refused (λ x e. by_refusal x (IsOfSender x) e (λ h. refused_of_sender s.refused h x e))

@@ -8,6 +8,7 @@ use Rattle.fixp_shake.specs.declared.config.EndConfig.{EndConfig}
 use Rattle.fixp_machine.specs.Machine.{State, fresh}
 use Rattle.gw_links.specs.declared.link.Link.{Ghosts as LinkGhosts}
 use Rattle.jr_dated.specs.declared.journal.Journal.{Ghosts}
+use Rattle.jr_boxes.specs.declared.faults.Which.{Which}
 use Rattle.jr_boxes.specs.Outboxes.{outbox_of}
 use Rattle.jr_kept.specs.declared.inbox.Inbox.{Inbox}
 use Rattle.jr_kept.specs.Inbox as inboxes
@@ -26,6 +27,8 @@ use Rattle.conn_door.specs.declared.answer.ServeFault.TheVariants as faults
 use Rattle.conn_door.specs.declared.answer.LifeEnd.{LifeEnd}
 use Rattle.conn_steps.specs.Settling.{IsPast}
 use Rattle.conn_door.specs.Answers.{answer_of, IsOfSender, IsUnrefused}
+use Rattle.conn_serve.specs.Answering.{IsRefusal}
+use Rattle.conn_serve.specs.Causes.{IsChanged}
 use Rattle.conn_serve.specs.Connections.{all_of, adds_of, wanted_of_all}
 use Rattle.conn_serve.specs.Moments.{Beside, with_seen}
 use Rattle.conn_serve.specs.Served.{ServedOver}
@@ -110,7 +113,7 @@ module _ {J : Type 0} {G : Ghosts J} where
     pub refusal : IfSome refused IsOfSender
     pub marked : IsUnrefused result → 0 < length plans → SomePass (length plans + 1) SeesMark known
     pub journal : result ≡ Err faults.Journal → BlamesInbox old.box new.box ⊎ SomePass (length plans + 1) SeesFailure known
-    pub changed : (at : ℕ) → result ≡ Err (faults.Changed at) → (at < length (known (length plans + 1)).seen.made) × (over.tells → ⊥)
+    pub changed : (which : Which) (at : ℕ) → result ≡ Err (faults.Changed which at) → IsChanged false G.tells over.tells (known (length plans + 1)).seen which at
     pub full : (entries bytes : ℕ) → result ≡ Err (faults.Full entries bytes)
         → FillsInbox new.box (wanted_of_all (option_to_list life.life.given_up)) entries bytes ⊎ SomePass (length plans + 1) (MetFull plans entries bytes) known
 
@@ -149,14 +152,14 @@ module _ {J : Type 0} {G : Ghosts J} {O : Type 0} {H : Ghosts O} where
         → IsLifeOver opening closing lost i (adds_of (all_of served.life.ended served.life.given_up)) life → KeepsOutbox senders.plan life
     pub limits : inboxes.limits_of new.box ≡ inboxes.limits_of old.box
     pub answer : result ≡ answer_of connections refused
-    pub refusal : IfSome refused IsOfSender
+    pub refusal : IfSome refused (IsRefusal senders.waits)
     pub marked : IsUnrefused result → 0 < senders.count → (i : List InboxRecord) → inboxes.HoldsBox old.box i []
         → (senders.waits ≡ true → has_peer_finished (i ++ adds_of (all_of served.life.ended served.life.given_up)) ≡ true) → closing.finished ≡ true
     pub sent : IsUnrefused result → senders.waits ≡ true → (i : List InboxRecord) → inboxes.HoldsBox old.box i [] → G.tells
         → (closing.finished ≡ true) ⊎ SentAll senders opening closing (i ++ adds_of (all_of served.life.ended served.life.given_up))
     pub none : senders.count ≡ 0 → closing.finished ≡ opening.finished
-    pub journal : result ≡ Err faults.Journal → BlamesBoxes old.box new.box outbox outbox' ⊎ ((senders.waits ≡ true) × (G.tells → ⊥))
-    pub changed : (at : ℕ) → result ≡ Err (faults.Changed at) → (at < length seen.made) × (over.tells → ⊥)
+    pub journal : result ≡ Err faults.Journal → BlamesBoxes old.box new.box outbox outbox'
+    pub changed : (which : Which) (at : ℕ) → result ≡ Err (faults.Changed which at) → IsChanged senders.waits G.tells over.tells seen which at
     pub full : (entries bytes : ℕ) → result ≡ Err (faults.Full entries bytes)
         → FillsInbox new.box (wanted_of_all (option_to_list served.life.given_up)) entries bytes
         ⊎ ((i : List InboxRecord) (held : inboxes.HoldsBox old.box i []) (looks : senders.waits ≡ true → G.tells)

@@ -22,7 +22,7 @@ use Rattle.cmd_session.specs.declared.outside.SessionOutside.{SessionOutside}
 use Rattle.cmd_session.proofs.Reading.{many_plans}
 use Rattle.run_laws.specs.Completeness.{NoneRose, TellsPlans, IsSetUp, IsSetUpWithDesks, EndsAs, IsBehindFinish, IsOfConnections, WantsMemory, CompletedBy, Completed, CompletedWithDesks, RunCompletes, DesksComplete}
 use Rattle.run_laws.proofs.Refusing.{some_of, config_memory, box_memory, input_memory, plans_memory}
-use Rattle.run_laws.proofs.Ending.{BlamesNone, ends_as, behind_finish, unrefused, full_is}
+use Rattle.run_laws.proofs.Ending.{BlamesNone, of_business, ends_as, behind_finish, unrefused, full_is}
 
 -- a text has a plan for each of its senders
 as_many : (senders : ℕ) (text : List ℕ) (plans : List (List (List ℕ))) → HasPlans senders text plans → length plans ≡ senders
@@ -62,8 +62,9 @@ module _ {S K D N C J : Type 0} (G : Ghosts J) (sees : Sees S K D N C)
       (h : HasLivedOver G sees (end_of role c.link) senders before after status) where
     blames_none : BlamesNone h.result
     blames_none faults.Output of e = none.out (output (h.status_is ∙ ap status_of e))
-    blames_none faults.Journal of e = ⊎_elim none.out_disk none.in_disk (h.over.journal e (λ waits. told))
-    blames_none (faults.Changed at) of e = (h.over.changed at e).1 told
+    blames_none faults.Journal of e = ⊎_elim none.out_disk none.in_disk (h.over.journal e)
+    blames_none (faults.Changed Outbox at) of e = (h.over.changed Outbox at e).1 told
+    blames_none (faults.Changed Inbox at) of e = (h.over.changed Inbox at e).1 told
     blames_none faults.Dial of e = none.dialer (dial (h.status_is ∙ ap status_of e))
     blames_none _ of e = of
 
@@ -77,9 +78,9 @@ module _ {S K D N C J : Type 0} (G : Ghosts J) (sees : Sees S K D N C)
     completed_by = record {
       lived = h;
       ends = subst (EndsAs h.over.served.life.behind h.over.seen h.over.served.life.mid (sees.carried after.dialer) h.over.served.life.ended h.over.served.life.given_up) status_is
-          (ends_as h.over.served.life.behind h.over.seen h.over.served.life.mid (sees.carried after.dialer) h.over.served.life.ended h.over.served.life.given_up h.over.connections h.over.refused h.over.refusal answer_blames_none h.over.served.life.answer);
+          (ends_as h.over.served.life.behind h.over.seen h.over.served.life.mid (sees.carried after.dialer) h.over.served.life.ended h.over.served.life.given_up h.over.connections h.over.refused (of_business senders.waits h.over.refused h.over.refusal) answer_blames_none h.over.served.life.answer);
       finished = λ one. subst (IsBehindFinish h.over.refused) status_is
-          (behind_finish h.over.served.life.behind h.over.seen h.over.served.life.mid (sees.carried after.dialer) h.over.served.life.ended h.over.served.life.given_up h.over.connections h.over.refused h.over.refusal answer_blames_none h.over.served.life.answer one);
+          (behind_finish h.over.served.life.behind h.over.seen h.over.served.life.mid (sees.carried after.dialer) h.over.served.life.ended h.over.served.life.given_up h.over.connections h.over.refused (of_business senders.waits h.over.refused h.over.refusal) answer_blames_none h.over.served.life.answer one);
       full = λ entries bytes e. full_is h.result entries bytes (sym h.status_is ∙ e);
     }
 

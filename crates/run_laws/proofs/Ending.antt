@@ -1,5 +1,5 @@
 -- What a life answers where no call of a device failed.
-use Rattle.std.proofs.Common.{◌≡◌, ⊎_elim, ℕ, All, Contains, List, Option, Some, None, IfSome, Result, Ok, Err, refl, sym, ap, subst, ◌∙◌}
+use Rattle.std.proofs.Common.{◌≡◌, ⊎_elim, ℕ, Bool, true, false, All, Contains, List, Option, Some, None, IfSome, Result, Ok, Err, refl, sym, ap, subst, ◌∙◌}
 use Rattle.std.specs.Prelude.{⊤}
 use Rattle.std.proofs.lemmas.Option.{same_Some}
 use Rattle.std.proofs.lemmas.List.Elements.{All-contains, Contains-push_cases}
@@ -9,12 +9,14 @@ use Rattle.fixp_machine.specs.Machine.{State}
 use Rattle.gw_links.specs.Dialers.{DialerTold}
 use Rattle.conn_lines.specs.declared.close.Close.{Close}
 use Rattle.conn_lines.specs.declared.close.Close.TheVariants as closes
+use Rattle.jr_boxes.specs.declared.faults.Which.TheVariants as boxes
 use Rattle.cmd_base.specs.declared.status.Status.TheVariants.{Full}
 use Rattle.conn_door.specs.declared.answer.ServeFault.{ServeFault}
 use Rattle.conn_door.specs.declared.answer.ServeFault.TheVariants as faults
 use Rattle.conn_door.specs.declared.answer.LifeEnd.{LifeEnd}
 use Rattle.conn_door.specs.declared.answer.LifeEnd.TheVariants as ends
 use Rattle.conn_door.specs.Answers.{answer_of, IsOfSender, IsUnrefused}
+use Rattle.conn_serve.specs.Answering.{IsOfBusiness, IsRefusal}
 use Rattle.conn_serve.specs.Connections.{Connection, Follows, IsFollowed}
 use Rattle.conn_serve.specs.Served.{EndsWith, IsLifeAnswer}
 use Rattle.cmd_session.specs.Lived.{status_of}
@@ -24,7 +26,7 @@ use Rattle.run_laws.specs.Completeness.{OneFinished, EndsAs, IsBehindFinish, IsO
 abbrev pub IsOfDevice : ServeFault → Type 0
 IsOfDevice faults.Output = ⊤
 IsOfDevice faults.Journal = ⊤
-IsOfDevice (faults.Changed at) = ⊤
+IsOfDevice (faults.Changed which at) = ⊤
 IsOfDevice faults.Dial = ⊤
 IsOfDevice _ = ⊥
 
@@ -46,22 +48,36 @@ last_finished close ended e one = ⊎_elim
 not_rejected : (template code : ℕ) (ended : List Connection) → EndsWith (closes.Ended (endings.Rejected template code)) ended → OneFinished ended → ⊥
 not_rejected template code ended e one = let same : closes.Ended (endings.Rejected template code) ≡ closes.Ended endings.Finished = last_finished _ ended e one in cc
 
+-- a refusal of those who send is one of a business
+sender_of : (x : ServeFault) → IsOfSender x → IsOfBusiness x
+sender_of faults.Journal of = tt
+sender_of (faults.Full entries bytes) of = tt
+sender_of faults.Memory of = tt
+sender_of _ of = absurd of
+
+pub of_business : (looks : Bool) (refused : Option ServeFault) → IfSome refused (IsRefusal looks) → IfSome refused IsOfBusiness
+of_business looks None of = tt
+of_business true (Some x) of = of
+of_business false (Some x) of = sender_of x of
+
 -- a failed dialer is the answer, or the failed journal that comes before it
-dial_blames : (x : ServeFault) → IsOfSender x → BlamesNone (answer_of (Err faults.Dial) (Some x)) → ⊥
+dial_blames : (x : ServeFault) → IsOfBusiness x → BlamesNone (answer_of (Err faults.Dial) (Some x)) → ⊥
 dial_blames faults.Journal of none = none faults.Journal tt refl
+dial_blames (faults.Changed boxes.Inbox at) of none = none faults.Dial tt refl
 dial_blames (faults.Full entries bytes) of none = none faults.Dial tt refl
 dial_blames faults.Memory of none = none faults.Dial tt refl
 dial_blames _ of none = of
 
 module _ (behind seen : History) (m : State) (later : Option DialerTold) (ended : List Connection) (given_up : Option Connection) where
-  -- a refusal of a sender that blames no device is a limit, or want of memory
-  refusal_ends : (x : ServeFault) → IsOfSender x → BlamesNone (Err x) → EndsAs behind seen m later ended given_up (status_of (Err x))
+  -- a refusal of a business that blames no device is a limit, or want of memory
+  refusal_ends : (x : ServeFault) → IsOfBusiness x → BlamesNone (Err x) → EndsAs behind seen m later ended given_up (status_of (Err x))
   refusal_ends faults.Journal of none = absurd (none faults.Journal tt refl)
+  refusal_ends (faults.Changed boxes.Inbox at) of none = absurd (none (faults.Changed boxes.Inbox at) tt refl)
   refusal_ends (faults.Full entries bytes) of none = tt
   refusal_ends faults.Memory of none = tt
   refusal_ends _ of none = absurd of
 
-  pub ends_as : (connections : Result LifeEnd ServeFault) (refused : Option ServeFault) → IfSome refused IsOfSender → BlamesNone (answer_of connections refused) → IsLifeAnswer behind seen m later ended given_up connections
+  pub ends_as : (connections : Result LifeEnd ServeFault) (refused : Option ServeFault) → IfSome refused IsOfBusiness → BlamesNone (answer_of connections refused) → IsLifeAnswer behind seen m later ended given_up connections
       → EndsAs behind seen m later ended given_up (status_of (answer_of connections refused))
   ends_as (Ok ends.Finished) None of none answer = answer
   ends_as (Ok ends.Finished) (Some x) of none answer = refusal_ends x of none
@@ -71,8 +87,8 @@ module _ (behind seen : History) (m : State) (later : Option DialerTold) (ended 
   ends_as (Err faults.Output) (Some x) of none answer = absurd (none faults.Output tt refl)
   ends_as (Err faults.Journal) None of none answer = absurd (none faults.Journal tt refl)
   ends_as (Err faults.Journal) (Some x) of none answer = absurd (none faults.Journal tt refl)
-  ends_as (Err (faults.Changed at)) None of none answer = absurd (none (faults.Changed at) tt refl)
-  ends_as (Err (faults.Changed at)) (Some x) of none answer = absurd (none (faults.Changed at) tt refl)
+  ends_as (Err (faults.Changed which at)) None of none answer = absurd (none (faults.Changed which at) tt refl)
+  ends_as (Err (faults.Changed which at)) (Some x) of none answer = absurd (none (faults.Changed which at) tt refl)
   ends_as (Err faults.Dial) None of none answer = absurd (none faults.Dial tt refl)
   ends_as (Err faults.Dial) (Some x) of none answer = absurd (dial_blames x of none)
   ends_as (Err (faults.Unfinished phase)) None of none answer = answer
@@ -86,13 +102,14 @@ module _ (behind seen : History) (m : State) (later : Option DialerTold) (ended 
   ends_as (Err faults.Memory) None of none answer = tt
   ends_as (Err faults.Memory) (Some x) of none answer = tt
 
-  refusal_finishes : (x : ServeFault) → IsOfSender x → BlamesNone (Err x) → IsBehindFinish (Some x) (status_of (Err x))
+  refusal_finishes : (x : ServeFault) → IsOfBusiness x → BlamesNone (Err x) → IsBehindFinish (Some x) (status_of (Err x))
   refusal_finishes faults.Journal of none = absurd (none faults.Journal tt refl)
+  refusal_finishes (faults.Changed boxes.Inbox at) of none = absurd (none (faults.Changed boxes.Inbox at) tt refl)
   refusal_finishes (faults.Full entries bytes) of none = refl
   refusal_finishes faults.Memory of none = tt
   refusal_finishes _ of none = absurd of
 
-  pub behind_finish : (connections : Result LifeEnd ServeFault) (refused : Option ServeFault) → IfSome refused IsOfSender → BlamesNone (answer_of connections refused) → IsLifeAnswer behind seen m later ended given_up connections
+  pub behind_finish : (connections : Result LifeEnd ServeFault) (refused : Option ServeFault) → IfSome refused IsOfBusiness → BlamesNone (answer_of connections refused) → IsLifeAnswer behind seen m later ended given_up connections
       → OneFinished ended → IsBehindFinish refused (status_of (answer_of connections refused))
   behind_finish (Ok ends.Finished) None of none answer one = tt
   behind_finish (Ok ends.Finished) (Some x) of none answer one = refusal_finishes x of none
@@ -101,7 +118,7 @@ module _ (behind seen : History) (m : State) (later : Option DialerTold) (ended 
   behind_finish (Err faults.Output) None of none answer one = absurd (none faults.Output tt refl)
   behind_finish (Err faults.Output) (Some x) of none answer one = absurd (none faults.Output tt refl)
   behind_finish (Err faults.Journal) refused of none answer one = absurd (none_finished ended answer.0 one)
-  behind_finish (Err (faults.Changed at)) refused of none answer one = absurd (none_finished ended answer.0 one)
+  behind_finish (Err (faults.Changed which at)) refused of none answer one = absurd (none_finished ended answer.0 one)
   behind_finish (Err faults.Dial) refused of none answer one = absurd (none_finished ended answer.0 one)
   behind_finish (Err (faults.Unfinished phase)) refused of none answer one = absurd (none_finished ended answer.0 one)
   behind_finish (Err (faults.Rejected template code)) refused of none answer one = absurd (not_rejected template code ended answer.1 one)
@@ -115,7 +132,7 @@ pub unrefused : (result : Result (Unit {0}) ServeFault) → IsOfConnections (sta
 unrefused (Ok done) of = tt
 unrefused (Err faults.Output) of = absurd of
 unrefused (Err faults.Journal) of = absurd of
-unrefused (Err (faults.Changed at)) of = absurd of
+unrefused (Err (faults.Changed which at)) of = absurd of
 unrefused (Err faults.Dial) of = absurd of
 unrefused (Err (faults.Unfinished phase)) of = refl
 unrefused (Err (faults.Rejected template code)) of = refl
@@ -128,7 +145,7 @@ pub full_is : (result : Result (Unit {0}) ServeFault) (entries bytes : ℕ) → 
 full_is (Ok done) entries bytes e = cc
 full_is (Err faults.Output) entries bytes e = cc
 full_is (Err faults.Journal) entries bytes e = cc
-full_is (Err (faults.Changed at)) entries bytes e = cc
+full_is (Err (faults.Changed which at)) entries bytes e = cc
 full_is (Err faults.Dial) entries bytes e = cc
 full_is (Err (faults.Unfinished phase)) entries bytes e = cc
 full_is (Err (faults.Rejected template code)) entries bytes e = cc

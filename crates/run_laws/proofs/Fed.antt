@@ -123,12 +123,12 @@ module _ {S I K A D N C J : Type 0} (G : Ghosts J) (sees : FeedSees S I K A D N 
     marked = l.lived.over.marked;
     sent = l.lived.over.sent;
     none = l.lived.over.none;
-    journal = λ is looks. ⊎_elim
+    journal = λ is. ⊎_elim
         (λ (risen : HasRisen (sees.session.disk before.out_disk) (sees.session.disk after.out_disk)). inl risen)
         (λ (risen : HasRisen (sees.session.disk l.on.opened) (sees.session.disk after.in_disk)).
         inr (risen_before sees.session.told sees.session.may_leave sees.session.disk (end_of role l.configuration.link).peer_flow before.in_disk l.on.opened l.on.boxes.inbox l.on.is_opened tells
         (sees.session.disk after.in_disk) risen))
-        (l.lived.over.journal is looks);
+        (l.lived.over.journal is);
     changed = l.lived.over.changed;
     full = l.lived.over.full;
   }

@@ -22,7 +22,8 @@ use Rattle.conn_door.specs.declared.answer.ServeFault.{ServeFault}
 use Rattle.conn_door.specs.declared.answer.ServeFault.TheVariants as faults
 use Rattle.conn_door.specs.declared.answer.LifeEnd.{LifeEnd}
 use Rattle.conn_door.specs.declared.answer.LifeEnd.TheVariants as ends
-use Rattle.conn_door.specs.Answers.{answer_of, IsOfSender, IsUnrefused, yields}
+use Rattle.conn_door.specs.Answers.{answer_of, IsUnrefused, yields}
+use Rattle.conn_serve.specs.Answering.{IsOfBusiness}
 use Rattle.conn_serve.specs.Answering.{messages_of}
 use Rattle.conn_serve.specs.Connections.{Connection, CutAt, all_of, adds_of, refused_of_all}
 use Rattle.conn_serve.specs.Served.{IsLifeAnswer}
@@ -126,27 +127,28 @@ begin_both (x ∷ xs) (y ∷ ys) p q =
 
 -- ---- the answer of a life that was not refused
 
-sender_refuses : (x : ServeFault) → IsOfSender x → IsTrue (yields x) → ⊥
-sender_refuses faults.Journal of y = true≢false (sym y)
-sender_refuses (faults.Full entries bytes) of y = true≢false (sym y)
-sender_refuses faults.Memory of y = true≢false (sym y)
-sender_refuses _ of y = of
+business_refuses : (x : ServeFault) → IsOfBusiness x → IsTrue (yields x) → ⊥
+business_refuses faults.Journal of y = true≢false (sym y)
+business_refuses (faults.Changed Inbox at) of y = true≢false (sym y)
+business_refuses (faults.Full entries bytes) of y = true≢false (sym y)
+business_refuses faults.Memory of y = true≢false (sym y)
+business_refuses _ of y = of
 
 none_given : (given : Option Connection) → given ≡ None → refused_of_all (option_to_list given) ≡ []
 none_given given none = ap (λ (o : Option Connection). refused_of_all (option_to_list o)) none
 
 -- no record was refused: no call of the inbox's disk failed
 no_record_refused : (behind seen : History) (m : State) (later : Option DialerTold) (ended : List Connection) (given : Option Connection) (connections : Result LifeEnd ServeFault) (refused : Option ServeFault)
-    → IfSome refused IsOfSender → IsUnrefused (answer_of connections refused) → IsLifeAnswer behind seen m later ended given connections → refused_of_all (option_to_list given) ≡ []
+    → IfSome refused IsOfBusiness → IsUnrefused (answer_of connections refused) → IsLifeAnswer behind seen m later ended given connections → refused_of_all (option_to_list given) ≡ []
 no_record_refused behind seen m later ended given (Ok ends.Finished) refused of un answer = none_given given answer.0
 no_record_refused behind seen m later ended given (Ok ends.Stopped) None of un answer = absurd (true≢false (sym un))
-no_record_refused behind seen m later ended given (Ok ends.Stopped) (Some x) of un answer = absurd (sender_refuses x of un)
+no_record_refused behind seen m later ended given (Ok ends.Stopped) (Some x) of un answer = absurd (business_refuses x of un)
 no_record_refused behind seen m later ended given (Err faults.Output) None of un answer = absurd (true≢false (sym un))
 no_record_refused behind seen m later ended given (Err faults.Output) (Some x) of un answer = absurd (true≢false (sym un))
 no_record_refused behind seen m later ended given (Err faults.Journal) None of un answer = absurd (true≢false (sym un))
 no_record_refused behind seen m later ended given (Err faults.Journal) (Some x) of un answer = absurd (true≢false (sym un))
-no_record_refused behind seen m later ended given (Err (faults.Changed at)) None of un answer = absurd (true≢false (sym un))
-no_record_refused behind seen m later ended given (Err (faults.Changed at)) (Some x) of un answer = absurd (true≢false (sym un))
+no_record_refused behind seen m later ended given (Err (faults.Changed which at)) None of un answer = absurd (true≢false (sym un))
+no_record_refused behind seen m later ended given (Err (faults.Changed which at)) (Some x) of un answer = absurd (true≢false (sym un))
 no_record_refused behind seen m later ended given (Err faults.Dial) refused of un answer = none_given given answer.1
 no_record_refused behind seen m later ended given (Err (faults.Unfinished phase)) refused of un answer = none_given given answer.1
 no_record_refused behind seen m later ended given (Err (faults.Rejected template code)) refused of un answer = none_given given answer.0

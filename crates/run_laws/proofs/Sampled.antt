@@ -42,6 +42,7 @@ use Rattle.cmd_session.specs.Journals.{IsJournal}
 use Rattle.cmd_session.proofs.Histories.{same_history}
 use Rattle.cmd_session.proofs.Verdicts.{at_most_one_verdict}
 use Rattle.jr_boxes.specs.Outboxes.{IsOutbox, record_of, outbox_of, records_of_history}
+use Rattle.jr_boxes.specs.declared.faults.Which.{Which}
 use Rattle.jr_boxes.specs.declared.faults.Which.TheVariants.{Outbox, Inbox as InboxBox}
 use Rattle.jr_kept.specs.declared.inbox.Inbox.{Inbox}
 use Rattle.jr_kept.specs.Inbox.{HoldsBox, next_of, is_negotiated}
@@ -191,7 +192,7 @@ module _ {J : Type 0} {G : Ghosts J} (box : Inbox J G) (held : HoldsBox box [] [
     (out_whole : (HasRisen (memory.disk before.out_disk) (memory.disk after.out_disk) → ⊥) → lost ≡ [])
     (marked : IsUnrefused result → 0 < length plans → h.finished ≡ true)
     (journal : result ≡ Err faults.Journal → HasRisen (memory.disk before.out_disk) (memory.disk after.out_disk) ⊎ HasRisen (memory.disk before.in_disk) (memory.disk after.in_disk))
-    (not_changed : (at : ℕ) → result ≡ Err (faults.Changed at) → ⊥) (not_full : (es bytes : ℕ) → result ≡ Err (faults.Full es bytes) → ⊥) where
+    (not_changed : (which : Which) (at : ℕ) → result ≡ Err (faults.Changed which at) → ⊥) (not_full : (es bytes : ℕ) → result ≡ Err (faults.Full es bytes) → ⊥) where
   abbrev machine : State
   machine = fresh config (opened_state h box) (2 ^ 26)
 
@@ -260,8 +261,8 @@ module _ {J : Type 0} {G : Ghosts J} (box : Inbox J G) (held : HoldsBox box [] [
     marked = λ u some waits. marked u some;
     sent = λ u waits t. absurd (true≢false (sym waits));
     none = λ e. refl;
-    journal = λ e looks. journal e;
-    changed = λ at e. absurd (not_changed at e);
+    journal = λ e. journal e;
+    changed = λ which at e. absurd (not_changed which at e);
     full = λ es bytes e. absurd (not_full es bytes e);
   }
 
@@ -271,11 +272,11 @@ journal_not_full es bytes e = cc
 pub cut_not_full : (es bytes : ℕ) → (◌≡◌ {A = Result (Unit {0}) ServeFault} (Err (faults.Unfinished Ended)) (Err (faults.Full es bytes))) → ⊥
 cut_not_full es bytes e = cc
 
-pub journal_not_changed : (at : ℕ) → (◌≡◌ {A = Result (Unit {0}) ServeFault} (Err faults.Journal) (Err (faults.Changed at))) → ⊥
-journal_not_changed at e = cc
+pub journal_not_changed : (which : Which) (at : ℕ) → (◌≡◌ {A = Result (Unit {0}) ServeFault} (Err faults.Journal) (Err (faults.Changed which at))) → ⊥
+journal_not_changed which at e = cc
 
-pub cut_not_changed : (at : ℕ) → (◌≡◌ {A = Result (Unit {0}) ServeFault} (Err (faults.Unfinished Ended)) (Err (faults.Changed at))) → ⊥
-cut_not_changed at e = cc
+pub cut_not_changed : (which : Which) (at : ℕ) → (◌≡◌ {A = Result (Unit {0}) ServeFault} (Err (faults.Unfinished Ended)) (Err (faults.Changed which at))) → ⊥
+cut_not_changed which at e = cc
 
 pub cut_no_journal : (◌≡◌ {A = Result (Unit {0}) ServeFault} (Err (faults.Unfinished Ended)) (Err faults.Journal)) → ⊥
 cut_no_journal e = cc
@@ -821,8 +822,8 @@ module _ {J : Type 0} {G : Ghosts J} (box : Inbox J G) (held : HoldsBox box [] [
     marked = λ u some waits. absurd (true≢false (sym (waits refl)));
     sent = λ u waits t. inr (λ s. record { behind = nothing_due s });
     none = λ e. absurd (omega (arith, e));
-    journal = λ e looks. absurd (cut_no_journal e);
-    changed = λ at e. absurd (cut_not_changed at e);
+    journal = λ e. absurd (cut_no_journal e);
+    changed = λ which at e. absurd (cut_not_changed which at e);
     full = λ es bytes e. absurd (cut_not_full es bytes e);
   }
 

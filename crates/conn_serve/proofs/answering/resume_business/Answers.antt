@@ -1,7 +1,7 @@
 use Rattle.std.proofs.Common.{◌≡◌, inl, inr, [], Ok, Err, refl, sym, ap, ◌∙◌}
 use Rattle.std.proofs.Math.Logic.{∥∥₁_map}
 use Rattle.std.proofs.lemmas.Option.{none-some}
-use Rattle.conn_serve.specs.Answering.{messages_of, resume_fault, business_at, Unread}
+use Rattle.conn_serve.specs.Answering.{messages_of, resume_fault, business_at, Unread, ReadOtherwise}
 use Rattle.conn_serve.proofs.Upto.{refused_resumed, answers_resumed}
 use Rattle.conn_serve.proofs.answering.resume_business.Goals as goal
 
@@ -25,8 +25,8 @@ returns-in-Ok-clause-read g c = λ i stands.
 pub returns-in-Err-clause-refusal : goal.returns-in-Err-clause-refusal
 returns-in-Err-clause-refusal g c = λ fault e.
     let took = c.resume.ensures in
-    refused_resumed (Unread c.args.inbox.now c.resume.new.inbox []) (business_at g.B.Business.stands g.B.Business.plan g.B.Business.count g.B.Business.part c.args.answering.now) _ c.resume.result took.refused took.sound
-    (λ is. record { first = refl; why = inl (took.fetch is) }) (λ at is. record { first = refl; why = inr (λ tells. took.changed at is tells) })
+    refused_resumed (Unread c.args.inbox.now c.resume.new.inbox []) (ReadOtherwise g.I.Journal.tells []) (business_at g.B.Business.stands g.B.Business.plan g.B.Business.count g.B.Business.part c.args.answering.now) _ c.resume.result took.refused took.sound
+    (λ is. record { first = refl; failed = took.fetch is }) (λ at is. record { first = refl; untold = λ tells. took.changed at is tells })
     c.in-Err.fault c.in-Err.is fault (sym c.refused_resume-answering.ensures ∙ e)
 
 pub returns-in-Err-clause-told : goal.returns-in-Err-clause-told

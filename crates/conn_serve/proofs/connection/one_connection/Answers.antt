@@ -36,7 +36,7 @@ returns-then-must_stop-clause-stopped g c = λ e.
     let cut = c.cut.ensures in
     given_first (λ adds. AnswersMore ⊤ (business_at g.B.Business.stands g.B.Business.plan g.B.Business.count g.B.Business.part c.args.answering.now) (business_at g.B.Business.stands g.B.Business.plan g.B.Business.count g.B.Business.part c.loop.answering) c.args.end.now.inbox.now adds) _ _ (connection_in _ _ _ c.args.end.now) (connection_in _ _ _ c.cut.new.self) (line_in c.begin.new.self) _ _ c.begin.ensures.begun (record { time = c.begin.ensures.limit; is = refl; later = c.begin.ensures.stays.ticks })
     (given_in_cut (λ adds. AnswersMore ⊤ (business_at g.B.Business.stands g.B.Business.plan g.B.Business.count g.B.Business.part c.args.answering.now) (business_at g.B.Business.stands g.B.Business.plan g.B.Business.count g.B.Business.part c.loop.answering) c.args.end.now.inbox.now adds) _ _ _ _ _ _ c.loop.end c.cut.new.self cut.pass cut.inbox cut.clock
-    (whole_adding (λ adds. AnswersMore ⊤ (business_at g.B.Business.stands g.B.Business.plan g.B.Business.count g.B.Business.part c.args.answering.now) (business_at g.B.Business.stands g.B.Business.plan g.B.Business.count g.B.Business.part c.loop.answering) c.args.end.now.inbox.now adds) _ _ _ (connection_in _ _ _ c.loop.end) _ c.loop.invariant.turned (λ x. cc) (λ x. cc) (λ n x. cc) (λ n k x. cc)))
+    (whole_adding (λ adds. AnswersMore ⊤ (business_at g.B.Business.stands g.B.Business.plan g.B.Business.count g.B.Business.part c.args.answering.now) (business_at g.B.Business.stands g.B.Business.plan g.B.Business.count g.B.Business.part c.loop.answering) c.args.end.now.inbox.now adds) _ _ _ (connection_in _ _ _ c.loop.end) _ c.loop.invariant.turned (λ x. cc) (λ x. cc) (λ which n x. cc) (λ n k x. cc)))
 
 pub turn_once-requires-clause-place : goal.turn_once-requires-clause-place
 turn_once-requires-clause-place g c =
@@ -99,4 +99,4 @@ returns-clause-given_up g c =
     (given_in_cut (λ adds. AnswersMore (IsOfTurn faults.Turns → ⊥) (business_at g.B.Business.stands g.B.Business.plan g.B.Business.count g.B.Business.part c.args.answering.now) (business_at g.B.Business.stands g.B.Business.plan g.B.Business.count g.B.Business.part c.loop.answering) c.args.end.now.inbox.now adds) _ _ _ _ _ _ c.loop.end c.cut-2.new.self cut.pass cut.inbox cut.clock
     (whole_adding (λ adds. AnswersMore (IsOfTurn faults.Turns → ⊥) (business_at g.B.Business.stands g.B.Business.plan g.B.Business.count g.B.Business.part c.args.answering.now) (business_at g.B.Business.stands g.B.Business.plan g.B.Business.count g.B.Business.part c.loop.answering) c.args.end.now.inbox.now adds) _ _ _ (connection_in _ _ _ c.loop.end) _
     (c.loop.invariant.turned.0, more_weaker (business_at g.B.Business.stands g.B.Business.plan g.B.Business.count g.B.Business.part c.args.answering.now) (business_at g.B.Business.stands g.B.Business.plan g.B.Business.count g.B.Business.part c.loop.answering) c.args.end.now.inbox.now ⊤ (IsOfTurn faults.Turns → ⊥) c.loop.invariant.turned.0.adds (λ _. tt) c.loop.invariant.turned.1)
-    (λ e. (omega (arith, c.loop-test.false, c.loop.auto.counter-end), c.loop.invariant.may.goes.unended)) (λ x. cc) (λ n x. cc) (λ n k x. cc)))
+    (λ e. (omega (arith, c.loop-test.false, c.loop.auto.counter-end), c.loop.invariant.may.goes.unended)) (λ x. cc) (λ which n x. cc) (λ n k x. cc)))

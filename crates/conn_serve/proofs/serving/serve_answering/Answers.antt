@@ -10,7 +10,7 @@ use Rattle.conn_turns.specs.Lines.{Line}
 use Rattle.conn_door.specs.Answers.{answer_of}
 use Rattle.conn_door.specs.declared.answer.LifeEnd.TheVariants as ends
 use Rattle.conn_door.specs.declared.answer.ServeFault.TheVariants as faults
-use Rattle.conn_serve.specs.Answering.{business_at, answering_at, AnsweredLife, AnsweredEach, Unread}
+use Rattle.conn_serve.specs.Answering.{business_at, answering_at, AnsweredLife, AnsweredEach, Unread, ReadOtherwise}
 use Rattle.conn_serve.specs.Moments.{life_at, faults_at}
 use Rattle.conn_serve.proofs.Upto.{refused_any, refused_earlier, life_resumed, life_more}
 use Rattle.conn_serve.proofs.Living.{nothing_served}
@@ -48,7 +48,8 @@ returns-in-Some-clause-through g c =
       blamed = tt;
       answer = ap (answer_of (Ok ends.Stopped)) (sym c.in-Some.is ∙ c.refused.ensures);
       shown = took.stays;
-      refusal = λ fault e. refused_any old.business new.business fault _ _ (λ (u : Unread c.args.inbox.now c.resume_business.new.inbox []). record { first = none.1.1; why = u.why }) (took.refusal fault e);
+      refusal = λ fault e. refused_any old.business new.business fault _ _ _ _ (λ (u : Unread c.args.inbox.now c.resume_business.new.inbox []). record { first = none.1.1; failed = u.failed })
+          (λ (u : ReadOtherwise g.I.Journal.tells []). record { first = none.1.1; untold = u.untold }) (took.refusal fault e);
       business = inl none.1.0;
     }
 
@@ -72,7 +73,7 @@ returns-clause-through g c =
           (subst (λ k. AllStay k mid.business.part new.business.part) took.same.0 one.served.1.stays.passes);
       refusal = λ fault e. ⊎_elim
           (λ early. absurd (none-some fault (sym (sym c.refused.ensures ∙ c.in_default-refused.is) ∙ early)))
-          (λ r. refused_earlier old.business mid.business new.business fault _ took.same.0 took.stays r)
+          (λ r. refused_earlier old.business mid.business new.business fault _ _ took.same.0 took.stays r)
           (one.served.1.stays.refusal fault e);
       business = inl served.1;
     }
