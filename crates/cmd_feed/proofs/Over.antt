@@ -196,6 +196,7 @@ module _ {S K D N C J : Type 0} {H : Ghosts J} (outbox : Outbox J H) (sees : See
       room = room;
       marked = λ u some waits. l.marked u some i.inbox i.holds waits;
       sent = λ u waits t. l.sent u waits i.inbox i.holds t;
+      all = λ none u some looks. l.all none u some i.inbox i.holds looks;
       none = l.none;
       journal = λ e. ⊎_elim
           (λ risen. inr (risen_over (sees.disk before.in_disk) (sees.disk after.in_disk) (inboxes.faults_of box) (inboxes.faults_of since) in_least (sym in_count) risen))

@@ -200,6 +200,7 @@ module _ {J : Type 0} {G : Ghosts J} (taken : Option (List ℕ)) (old new : Besi
     refusal = l.refusal;
     marked = l.marked;
     sent = l.sent;
+    all = l.all;
     none = l.none;
     journal = l.journal;
     changed = l.changed;

@@ -1,5 +1,5 @@
 -- One life of a session over both journals: what they held, what was served, and what they hold behind it (this project's profile).
-use Rattle.std.specs.Prelude.{◌≡◌, ◌⊎◌, ℕ, ◌^◌, ◌<◌, true, false, List, [], ◌++◌, length, map, Option, IfSome, option_to_list, Result, Ok, Err, IsSomeAnd}
+use Rattle.std.specs.Prelude.{◌≡◌, ◌⊎◌, ℕ, ◌^◌, ◌<◌, true, false, List, [], ◌++◌, length, map, Option, None, IfSome, option_to_list, Result, Ok, Err, IsSomeAnd}
 use Rattle.std.specs.Option.{ForSome}
 use Rattle.std.specs.Io.KnownBytes.{Keeps}
 use Rattle.gw_outside.specs.Faults.{HasRisen}
@@ -42,7 +42,7 @@ use Rattle.conn_serve.specs.Served.{ServedOver}
 use Rattle.conn_serve.specs.Opening.{opened_state}
 use Rattle.life_laws.specs.Lives.{LifeOfLoop}
 use Rattle.life_laws.specs.Plans.{Senders, submitting, plans_at, SentAll, KeepsSenders}
-use Rattle.life_laws.specs.PlanLives.{clocked, LivedBoxes, WasFull}
+use Rattle.life_laws.specs.PlanLives.{clocked, AreUnhindered, HaveSent, LivedBoxes, WasFull}
 use Rattle.plan_outbox.specs.Behind.{GoesOnFrom}
 use Rattle.cmd_session.specs.Inputs.{ArePlanned}
 use Rattle.cmd_session.specs.Outsides.{Sees, Hears, heard, live_of, disks_of}
@@ -134,7 +134,8 @@ module _ {J : Type 0} {G : Ghosts J} where
     -- the plans of these senders. A record of OUTBOX or INBOX changes only where they do not. What is left are the records of the closing history and list, and
     -- behind them a beginning of those refused by a failed call: in the outbox of what the plans have next, if its disk failed, with all of which the
     -- closing history is one history in order, which keeps the plans too. Of senders that look at what is applied this is so where the disks tell.
-    -- Every record that the life added to its inbox had room, and so had the one whose append the disk failed. Where the connections came to
+    -- Where no sender was refused, and nothing else hindered them, they came to the end of what they were to send, whatever the status. Every record that
+    -- the life added to its inbox had room, and so had the one whose append the disk failed. Where the connections came to
     -- both finishes, as at status 0, the own one stands in the closing history and the peer's in the inbox, but for an absent flow. Why it
     -- answers so: the connections and the refusal say it (`IsLifeAnswer`, `answer_of`), and the counts
     pub record LivedOver (sees : Sees S K D N C) (config : EndConfig) (senders : Senders)
@@ -177,6 +178,8 @@ module _ {J : Type 0} {G : Ghosts J} where
           → (senders.waits ≡ true → has_peer_finished (inbox ++ adds_of (all_of served.life.ended served.life.given_up)) ≡ true) → closing.finished ≡ true
       pub sent : IsUnrefused result → senders.waits ≡ true → G.tells
           → (closing.finished ≡ true) ⊎ SentAll senders opening closing (inbox ++ adds_of (all_of served.life.ended served.life.given_up))
+      pub all : refused ≡ None → AreUnhindered senders.waits config.own_flow connections → 0 < senders.count → (senders.waits ≡ true → G.tells)
+          → HaveSent senders opening closing (inbox ++ adds_of (all_of served.life.ended served.life.given_up))
       pub none : senders.count ≡ 0 → closing.finished ≡ opening.finished
       pub journal : result ≡ Err faults.Journal
           → HasRisen (sees.disk before.out_disk) (sees.disk after.out_disk) ⊎ HasRisen (sees.disk before.in_disk) (sees.disk after.in_disk)

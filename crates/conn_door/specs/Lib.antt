@@ -1,2 +1,4 @@
 pub mod Answers
+pub mod Flows
+pub mod Doors
 pub mod Senders

@@ -1,7 +1,7 @@
 //! What is left of the senders' plans once the connections are over.
 
 ghost use Rattle.std.specs.Prelude.{◌≡◌, All, List};
-ghost use Rattle.gate_plans.specs.Runs.{IsReady};
+ghost use Rattle.gate_plans.specs.Runs.{IsReady, IsAdmitted};
 ghost use Rattle.gate_plans.specs.declared.sender.Sender.{Sender};
 ghost use Rattle.conn_door.specs.Answers.{answer_of, IsUnrefused};
 ghost use Rattle.conn_door.specs.Senders.{SubmittedAll, EndedSo};
@@ -24,6 +24,7 @@ pub fn submit_behind<O: Journal + Send, R: Threads + Wait + Sync>(
 ) -> Result<(), ServeFault>
     requires ready { All (λ s. IsReady gate.now s) senders.old }
     ensures ready { All (λ s. IsReady gate.now s) senders.new }
+    ensures same { All IsAdmitted senders.old → senders.new ≡ senders.old }
     ensures kept { (IsUnrefused answer → ⊥) → (senders.new ≡ senders.old) × (result ≡ answer) }
     ensures behind { (before : List (Sender _ _)) (connections : _) (refused : _) → SubmittedAll gate.now before senders.old refused → answer ≡ answer_of connections refused → EndedSo gate.now before senders.new connections result }
 {

@@ -1,6 +1,7 @@
 //! The door of a life as its senders come to it: what they add wakes the connection that waits.
 
-ghost use Rattle.std.specs.Prelude.{true};
+ghost use Rattle.std.specs.Prelude.{◌≡◌, true, false, None};
+ghost use Rattle.conn_door.specs.Doors.{is_open};
 
 use crate::signals::Signals;
 use gate_plans::Door;
@@ -18,8 +19,20 @@ pub struct Entrance<'s, W> {
 
 impl<'s, W: Wake> Entrance<'s, W> {
     /// The entrance to connections that have these signals and wait until this wakes them.
-    pub fn new(signals: &'s Signals, waker: W) -> Entrance<'s, W> {
+    pub fn new(signals: &'s Signals, waker: W) -> Entrance<'s, W>
+        ensures { is_open result ≡ signals.now }
+    {
         Entrance { signals, waker }
+    }
+
+    /// The door of this entrance where it lets all messages in at once.
+    pub(crate) fn wide(&self) -> Option<OpenEntrance<'_, W>>
+        ensures none { result ≡ None → is_open self.now ≡ false }
+    {
+        if self.signals.is_open() {
+            return Some(OpenEntrance { waker: &self.waker });
+        }
+        None
     }
 
     /// Tells the connections to stop.
@@ -51,4 +64,28 @@ impl<W: Wake> Door for Entrance<'_, W> {
     fn refused<R: Wait>(&self, fault: SubmitFault, rt: &R) {
         self.signals.refused(fault, rt);
     }
+}
+
+/// The door of an entrance that lets all messages in at once, and turns nobody away.
+#[derive(Drop)]
+pub(crate) struct OpenEntrance<'e, W> {
+    waker: &'e W,
+}
+
+impl<W: Wake> Door for OpenEntrance<'_, W> {
+    ghost turns = { false };
+
+    fn before<R: Wait>(&self, _sender: u16, _k: u64, _rt: &R) -> bool {
+        true
+    }
+
+    fn with_it<R: Wait>(&self, _sender: u16, _k: u64, _rt: &R) -> bool {
+        true
+    }
+
+    fn accepted(&self) {
+        self.waker.wake();
+    }
+
+    fn refused<R: Wait>(&self, _fault: SubmitFault, _rt: &R) {}
 }

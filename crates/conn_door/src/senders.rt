@@ -1,11 +1,12 @@
 //! The senders of a life: all plans at once, and the Finish behind them.
 
-ghost use Rattle.std.specs.Prelude.{◌≡◌, ◌<◌, All, List, length, None, Ok, Err, IfOk, IfErr, IsTrue, IsFalse};
+ghost use Rattle.std.specs.Prelude.{◌≡◌, ◌<◌, true, All, List, length, None, Ok, Err, IfOk, IfErr, IsTrue, IsFalse};
 ghost use Rattle.gate_turn.specs.Places.{known};
 ghost use Rattle.gate_turn.specs.Calls.{IsFree};
 ghost use Rattle.gate_senders.specs.Gate.{IsPassAt};
 ghost use Rattle.gate_plans.specs.Runs.{IsReady, RanEach, IsAdmitted, IsLowest};
 ghost use Rattle.gate_plans.specs.declared.sender.Sender.{Sender};
+ghost use Rattle.conn_door.specs.Doors.{is_open};
 ghost use Rattle.conn_door.specs.Senders.{refusal_of, Finishes, IsRefusal, FinishedFirst, SubmittedAll};
 
 use crate::answer::{ServeFault, refused_finish, refused_submit};
@@ -97,8 +98,12 @@ fn submit_plans<O: Journal + Send, W: Wake + Sync, R: Threads + Wait + Sync>(
     ensures each { RanEach gate.now senders.old senders.new }
     ensures lowest { IsLowest senders.new result }
     ensures ready { All (λ s. IsReady gate.now s) senders.new }
+    ensures admitted { is_open entrance.now ≡ true → All IsAdmitted senders.new }
 {
-    run_senders(gate, senders, entrance, rt)
+    match entrance.wide() {
+        Some(door) => run_senders(gate, senders, &door, rt),
+        None => run_senders(gate, senders, entrance, rt),
+    }
 }
 
 /// Submits all plans, and adds the Finish where all are submitted and there are senders. Answers the refusal that was met, if one
@@ -111,6 +116,7 @@ fn submit_and_finish<O: Journal + Send, W: Wake + Sync, R: Threads + Wait + Sync
 ) -> Option<ServeFault>
     requires ready { All (λ s. IsReady gate.now s) senders.old }
     ensures submitted { SubmittedAll gate.now senders.old senders.new result }
+    ensures admitted { is_open entrance.now ≡ true → All IsAdmitted senders.new }
 {
     match submit_plans(gate, senders, entrance, rt) {
         Ok(()) if !senders.is_empty() && !any_turned(senders) => finish(gate, senders, rt),
@@ -128,6 +134,7 @@ pub fn submit_all<O: Journal + Send, W: Wake + Sync, R: Threads + Wait + Sync>(
     requires ready { All (λ s. IsReady gate.now s) senders.old }
     ensures ready { All (λ s. IsReady gate.now s) senders.new }
     ensures submitted { SubmittedAll gate.now senders.old senders.new result }
+    ensures admitted { is_open entrance.now ≡ true → All IsAdmitted senders.new }
 {
     let refused = submit_and_finish(gate, senders, entrance, rt);
     if refused.is_some() {
@@ -150,6 +157,7 @@ pub(crate) fn submit_turned<O: Journal + Send, R: Threads + Wait + Sync>(
     ensures ready { All (λ s. IsReady gate.now s) senders.new }
     ensures one_run { (before : List (Sender _ _)) → SubmittedAll gate.now before senders.old refused → SubmittedAll gate.now before senders.new result }
     ensures admitted { result ≡ None → All IsAdmitted senders.new }
+    ensures same { All IsAdmitted senders.old → senders.new ≡ senders.old }
 {
     if refused.is_some() || !any_turned(senders) {
         return refused;

@@ -2,6 +2,7 @@
 //! nothing is sent again, the connections let the senders' messages into the outbox, a few at a time. Relies on std's locks.
 
 ghost use Rattle.std.specs.Prelude.{◌≡◌, ℕ, ◌+◌, ◌-◌, ◌<◌, ◌≤◌, true, false, IsTrue, IsFalse};
+ghost use Rattle.conn_door.specs.Flows.{is_sent_again};
 
 use fixp_end::{End, Flow, Phase};
 use gate_plans::Door;
@@ -61,20 +62,24 @@ pub struct Signals {
     /// Set where a sender or the Finish was refused: the connections are to stop.
     stop: AtomicBool,
     /// Whether all messages are let in at once.
-    open: bool,
+    at_once: bool,
     progress: Mutex<Progress>,
     moved: Condvar,
 }
 
-/// Contracts see nothing in it: what one side tells is no fact of the other.
+/// Contracts see of it whether all messages are let in at once. What one side tells is no fact of the other.
 impl Model for Signals {
-    ghost Value = { Unit {0} };
+    ghost use Rattle.std.specs.Prelude.{Bool};
 
-    ghost view = { λ s. tt };
+    ghost Value = { Bool };
+
+    ghost view = { λ s. s.at_once };
 }
 
 /// Whether what is lost on the way is sent again.
-fn is_sent_again(flow: Flow) -> bool {
+fn is_sent_again(flow: Flow) -> bool
+    ensures { result ≡ is_sent_again flow }
+{
     match flow {
         Flow::Recoverable | Flow::None => true,
         Flow::Idempotent | Flow::Unsequenced => false,
@@ -83,11 +88,13 @@ fn is_sent_again(flow: Flow) -> bool {
 
 impl Signals {
     /// The signals of a life that opens with this end. Where its own flow is sent again, all messages are let in at once.
-    pub fn new(end: &End) -> Signals {
+    pub fn new(end: &End) -> Signals
+        ensures { result ≡ is_sent_again end.now.config.own_flow }
+    {
         let sent = end.sent();
         Signals {
             stop: AtomicBool::new(false),
-            open: is_sent_again(end.config().own_flow),
+            at_once: is_sent_again(end.config().own_flow),
             progress: Mutex::new(begun(sent)),
             moved: Condvar::new(),
         }
@@ -98,9 +105,16 @@ impl Signals {
         &self.stop
     }
 
+    /// Whether all messages are let in at once.
+    pub(crate) fn is_open(&self) -> bool
+        ensures { result ≡ self.now }
+    {
+        self.at_once
+    }
+
     /// A turn was made, behind which the end stands so.
     pub fn turned<R: Wait>(&self, end: &End, rt: &R) {
-        if !self.open {
+        if !self.at_once {
             let established = matches!(end.phase(), Phase::Established);
             self.progress.lock(rt).reach(end.sent(), established);
             self.moved.notify_all();
@@ -109,14 +123,14 @@ impl Signals {
 
     /// The connection is over.
     pub fn lost<R: Wait>(&self, end: &End, rt: &R) {
-        if !self.open {
+        if !self.at_once {
             self.progress.lock(rt).reach(end.sent(), false);
         }
     }
 
     /// No message is let in any more: no connection follows, or none would help.
     pub fn shut<R: Wait>(&self, rt: &R) {
-        if !self.open {
+        if !self.at_once {
             self.progress.lock(rt).shut = true;
             self.moved.notify_all();
         }
@@ -137,7 +151,7 @@ impl Door for Signals {
     ghost turns = { true };
 
     fn before<R: Wait>(&self, _sender: u16, _k: u64, rt: &R) -> bool {
-        if self.open {
+        if self.at_once {
             return true;
         }
         let progress = self.progress.lock(rt);
@@ -146,7 +160,7 @@ impl Door for Signals {
     }
 
     fn with_it<R: Wait>(&self, _sender: u16, _k: u64, rt: &R) -> bool {
-        if self.open {
+        if self.at_once {
             return true;
         }
         let mut progress = self.progress.lock(rt);

@@ -1,5 +1,5 @@
 -- Where no refusal of the senders of a life is answered, the pass of one of them has seen the mark.
-use Rattle.std.proofs.Common.{◌≡◌, ◌⊎◌, inl, inr, ℕ, ◌<◌, List, length, All, Option, Some, None, Result, Err, refl, sym, ap, subst, ◌∙◌}
+use Rattle.std.proofs.Common.{◌≡◌, ◌≢◌, ◌⊎◌, inl, inr, ℕ, ◌<◌, true, List, length, All, Option, Some, None, Result, Err, refl, sym, ap, subst, ◌∙◌}
 use Rattle.std.proofs.lemmas.Bool.{false≢true}
 use Rattle.jr_dated.specs.declared.journal.Journal.{Ghosts}
 use Rattle.fixp_machine.specs.Machine.{State}
@@ -11,6 +11,7 @@ use Rattle.conn_door.specs.declared.answer.ServeFault.{ServeFault}
 use Rattle.conn_door.specs.declared.answer.ServeFault.TheVariants as faults
 use Rattle.conn_door.specs.declared.answer.LifeEnd.{LifeEnd}
 use Rattle.conn_door.specs.Answers.{answer_of, IsUnrefused}
+use Rattle.conn_door.specs.Flows.{is_sent_again}
 use Rattle.conn_door.specs.Senders.{SubmittedAll, SomeMarked, EndedSo}
 use Rattle.conn_door.proofs.Marking.{marked_of, firm_of, seated_after, unanswered}
 use Rattle.gw_links.specs.declared.link.Link.{Ghosts as LinkGhosts}
@@ -45,18 +46,21 @@ module _ {J : Type 0} {G : Ghosts J} {O : Type 0} {H : Ghosts O} where
 
   -- a life whose senders went on behind it, where it was to
   pub went_on : {L : Type 0} {links : LinkGhosts L} {first last : ℕ} (gate : Gate O H) (old mid : ServingAt J G O H) (after : List (Sender O H)) (m : State) (answer result : Result (Unit {0}) ServeFault)
-      → ServedThrough links first last gate old mid m answer → ((IsUnrefused answer → ⊥) → (after ≡ mid.senders) × (result ≡ answer))
+      → ServedThrough links first last gate old mid m answer → (All IsAdmitted mid.senders → after ≡ mid.senders) → ((IsUnrefused answer → ⊥) → (after ≡ mid.senders) × (result ≡ answer))
       → ((connections : Result LifeEnd ServeFault) (refused : Option ServeFault) → SubmittedAll gate old.senders mid.senders refused → answer ≡ answer_of connections refused → EndedSo gate old.senders after connections result)
       → ServedThrough links first last gate old (record mid { senders = after }) m result
-  went_on {links = links} {first = first} {last = last} gate old mid after m answer result s kept behind = by_kind s.senders
+  went_on {links = links} {first = first} {last = last} gate old mid after m answer result s same kept behind = by_kind s.senders
     where
+      admitted : is_sent_again m.config.own_flow ≡ true → s.connections ≢ Err faults.Memory → All IsAdmitted after
+      admitted again never = let all = s.admitted again never in subst (All IsAdmitted) (sym (same all)) all
+
       by_kind : SubmittedAll gate old.senders mid.senders s.refused ⊎ ((mid.senders ≡ old.senders) × (s.refused ≡ None) × (s.connections ≡ Err faults.Memory)) → ServedThrough links first last gate old (record mid { senders = after }) m result
       by_kind (inl x) =
           let e = behind s.connections s.refused x s.answer in
-          record { connections = s.connections; refused = e.refused; life = s.life; blamed = s.blamed; senders = inl e.submitted; answer = e.answer }
+          record { connections = s.connections; refused = e.refused; life = s.life; blamed = s.blamed; senders = inl e.submitted; answer = e.answer; admitted = admitted }
       by_kind (inr x) =
           let k = kept (not_memory s.connections s.refused answer x.1 x.2 s.answer) in
-          record { connections = s.connections; refused = s.refused; life = s.life; blamed = s.blamed; senders = inr (k.0 ∙ x.0, x.1, x.2); answer = k.1 ∙ s.answer }
+          record { connections = s.connections; refused = s.refused; life = s.life; blamed = s.blamed; senders = inr (k.0 ∙ x.0, x.1, x.2); answer = k.1 ∙ s.answer; admitted = admitted }
 
   pub all_admitted : {L : Type 0} {links : LinkGhosts L} {first last : ℕ} (gate : Gate O H) (old mid : ServingAt J G O H) (after : List (Sender O H)) (m : State) (answer result : Result (Unit {0}) ServeFault)
       → ServedThrough links first last gate old mid m answer → ((IsUnrefused answer → ⊥) → (after ≡ mid.senders) × (result ≡ answer))

@@ -53,4 +53,5 @@ module _ {J : Type 0} {G : Ghosts J} {O : Type 0} {H : Ghosts O} where
     blamed = s.blamed;
     senders = s.senders;
     answer = s.answer;
+    admitted = s.admitted;
   }

@@ -11,6 +11,7 @@ ghost use Rattle.gate_senders.specs.Gate.{IsPassAt, opening_of, senders_of};
 ghost use Rattle.gate_business.specs.Business.{lock_of};
 ghost use Rattle.gate_plans.specs.Runs.{IsReady, IsAdmitted};
 ghost use Rattle.conn_door.specs.Answers.{IsUnrefused};
+ghost use Rattle.conn_door.specs.Flows.{is_sent_again};
 ghost use Rattle.gate_plans.specs.Seats.{Seated};
 ghost use Rattle.conn_steps.specs.Settling.{SameKind};
 ghost use Rattle.conn_loop.specs.Conn.{line_of, new_line, Looks};
@@ -96,6 +97,7 @@ fn serve_beside<
     requires may { MayBegin (line_of conn.old).machine (known pass.old) inbox.old }
     requires lent { N.lent dialer.old ≡ false }
     requires ready { All (λ s. IsReady gate.now s) senders.old }
+    requires door { signals.now ≡ is_sent_again (line_of conn.old).machine.config.own_flow }
     ensures own { IsPassAt gate.now pass.new }
     ensures free { IsFree pass.new }
     ensures ready { All (λ s. IsReady gate.now s) senders.new }

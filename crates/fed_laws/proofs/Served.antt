@@ -333,6 +333,7 @@ module _ {J : Type 0} {G : Ghosts J} (gate : Gate J G) (a : Account) (seated cou
       answer = refl;
       refusal = where_some refused (λ x is. of_sender end mark mark_of_sender x is);
       marked = marked_pass;
+      all = λ none u some. sender_so SeesMark (sees_mark none (omega (arith, some, plans_many)));
       journal = journal_at;
       changed = changed_at;
       full = full_at;

@@ -97,6 +97,7 @@ module _ {J : Type 0} {G : Ghosts J} {O : Type 0} {H : Ghosts O} {L : Type 0} (o
     refusal = s.refusal;
     marked = λ u some i held waits. marked_at gate passes outbox closed o sound k (length plans) many (s.marked u some);
     sent = λ u waits i held t. absurd (true≢false (sym waits));
+    all = λ none u some i held looks. inl (marked_at gate passes outbox closed o sound k (length plans) many (s.all none u some));
     none = λ e. kept.0.none (none_of plans e);
     changed = s.changed;
     journal = λ e. ⊎_elim (λ b. inl (inbox_risen b)) (λ m. inr (failed_at gate passes outbox closed o sound k (length plans) many m)) (s.journal e);

@@ -282,7 +282,7 @@ module _ {J : Type 0} {G : Ghosts J} {O : Type 0} {H : Ghosts O} {L : Type 0} (o
     by : PassesAnswered opening plan count known (i ++ answered)
     full : (entries bytes : ℕ) → result ≡ Err (faults.Full entries bytes) → new.business.refused ≡ Some (faults.Full entries bytes)
         → made.MetFull (λ n. plan n (messages_of (i ++ answered))) count new.business.part entries bytes
-    sent : IsUnrefused result → SentOver (i ++ adds)
+    sent : Unrefused s.connections new.business.refused → SentOver (i ++ adds)
 
   met_full : (messages : List (List ℕ)) (finished : Bool) → AnsweredTo new.business old.business.part messages finished → (entries bytes : ℕ) → new.business.refused ≡ Some (faults.Full entries bytes)
       → made.MetFull (λ n. plan n messages) count new.business.part entries bytes
@@ -294,9 +294,8 @@ module _ {J : Type 0} {G : Ghosts J} {O : Type 0} {H : Ghosts O} {L : Type 0} (o
   told i holds t = ⊎_elim by_life by_none s.business
     where
       sent_by_life : (x : Answers (AnsweredEach s.connections) new.business old.business.part i (messages_of i) adds) → messages_of i ++ messages_of x.answered ≡ messages_of (i ++ x.answered)
-          → PassesOver opening plan count known (messages_of i ++ messages_of x.answered) (has_peer_finished (i ++ x.answered)) → IsUnrefused result → SentOver (i ++ adds)
-      sent_by_life x same p un =
-          let r : Unrefused s.connections new.business.refused = unrefused s.connections new.business.refused refusal (subst IsUnrefused s.answer un) in
+          → PassesOver opening plan count known (messages_of i ++ messages_of x.answered) (has_peer_finished (i ++ x.answered)) → Unrefused s.connections new.business.refused → SentOver (i ++ adds)
+      sent_by_life x same p r =
           let messages : List (List ℕ) = messages_of i ++ messages_of x.answered in
           let finished = has_peer_finished (i ++ x.answered) in
           let w = whole_over messages finished r.none x.to in
@@ -332,7 +331,7 @@ module _ {J : Type 0} {G : Ghosts J} {O : Type 0} {H : Ghosts O} {L : Type 0} (o
         full = λ entries bytes e r.
             let never : Err faults.Memory ≡ Err (faults.Full entries bytes) = sym (begun_memory new.business.refused) ∙ (ap (λ c. answer_of c new.business.refused) (sym b.1) ∙ (sym s.answer ∙ e)) in
             absurd cc;
-        sent = λ un. absurd (memory_each (unrefused s.connections new.business.refused refusal (subst IsUnrefused s.answer un)) b.1);
+        sent = λ r. absurd (memory_each r b.1);
       }
 
   module _ (i : List InboxRecord) (holds : inboxes.HoldsBox old.box i []) (t : G.tells) where
@@ -507,7 +506,8 @@ module _ {J : Type 0} {G : Ghosts J} {O : Type 0} {H : Ghosts O} {L : Type 0} (o
     answer = s.answer;
     refusal = refusal;
     marked = λ un some i holds waits. marked un some i holds (waits refl);
-    sent = λ un waits i holds t. (told i holds t).sent un;
+    sent = λ un waits i holds t. (told i holds t).sent (unrefused s.connections new.business.refused refusal (subst IsUnrefused s.answer un));
+    all = λ none each some i holds looks. ⊎_elim (λ m. inl m) (λ sent. inr (refl, sent)) ((told i holds (looks refl)).sent (record { none = none; each = each }));
     none = none;
     journal = journal;
     changed = changed;

@@ -31,10 +31,11 @@ use Rattle.conn_door.specs.Answers.{answer_of, yields_to, IsOfSender, IsUnrefuse
 use Rattle.conn_serve.specs.Causes.{IsChanged, BlamesJournal, IsBlamed}
 use Rattle.conn_serve.specs.Connections.{wanted_of_all}
 use Rattle.conn_door.specs.Senders.{refusal_of, MetRefusal, IsRefusal, Finishes, FinishedFirst, SubmittedAll, SomeMarked}
+use Rattle.conn_door.proofs.Marking.{marked_of}
 use Rattle.conn_serve.specs.Served.{ServedOver}
 use Rattle.conn_serve.specs.Opening.{ServedThrough}
 use Rattle.life_laws.specs.Plans.{plan_in, PlansMade}
-use Rattle.life_laws.specs.PlanLives.{Clocked, clocked, SomePass, SeesMark, SeesFailure, MetFull, BlamesInbox, FillsInbox, ServedAt}
+use Rattle.life_laws.specs.PlanLives.{AreUnhindered, Clocked, clocked, SomePass, SeesMark, SeesFailure, MetFull, BlamesInbox, FillsInbox, ServedAt}
 use Rattle.life_laws.proofs.Back as back
 use Rattle.life_laws.proofs.Back.{at_place}
 use Rattle.life_laws.proofs.Senders.{PartMade, AllFresh, SendersMade, senders_made, ran_part, ran_at, ran_next_at, ran_seen_at}
@@ -232,6 +233,12 @@ module _ {J : Type 0} {G : Ghosts J} (gate : Gate J G) (a : Account) (plans : Li
         (λ r. absurd (by_refusal (faults.Changed which at) (IsOfSender (faults.Changed which at)) r (λ h. refused_of_sender s.refused h (faults.Changed which at) r)))
         (answer_blames s.connections s.refused (faults.Changed which at) (λ x. cc) (sym s.answer ∙ e))
 
+    all_at : s.refused ≡ None → AreUnhindered false m.config.own_flow s.connections → 0 < length plans → SomePass (length plans + 1) SeesMark (known_at new)
+    all_at none u some = ⊎_elim
+        (λ x. marked_at all_made (marked_of gate counted after (subst (λ (r : Option ServeFault). SubmittedAll gate counted after r) none x) (s.admitted u.0 u.1) (omega (arith, some, count.long, fresh.long))))
+        (λ x. absurd (u.1 x.2))
+        s.senders
+
     refusal_at : IfSome s.refused IsOfSender
     refusal_at = where_some s.refused (λ x e. by_refusal x (IsOfSender x) e (λ h. refused_of_sender s.refused h x e))
       where
@@ -249,6 +256,7 @@ module _ {J : Type 0} {G : Ghosts J} (gate : Gate J G) (a : Account) (plans : Li
       answer = s.answer;
       refusal = refusal_at;
       marked = λ u many. marked_at all_made (marked u (omega (arith, many, count.long, fresh.long)));
+      all = all_at;
       journal = journal_at;
       changed = changed_at;
       full = full_at;

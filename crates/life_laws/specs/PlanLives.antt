@@ -1,9 +1,10 @@
 -- What a life of connections and senders left, of a gate's passes, and of the boxes once the gate is closed (this project's profile).
-use Rattle.std.specs.Prelude.{◌≡◌, ◌⊎◌, ℕ, ◌+◌, ◌^◌, ◌<◌, true, false, List, [], ◌++◌, length, slice_get, Option, Some, IfSome, option_to_list, Result, Err}
+use Rattle.std.specs.Prelude.{◌≡◌, ◌≢◌, ◌⊎◌, ℕ, ◌+◌, ◌^◌, ◌<◌, Bool, true, false, List, [], ◌++◌, length, slice_get, Option, Some, None, IfSome, option_to_list, Result, Err}
 use Rattle.gw_outside.specs.Faults.{HasRisen}
 use Rattle.session_model.specs.Journal.{History, OutboxRecord, BeginsHistory, InOrder, entries_of}
 use Rattle.session_model.specs.Inbox.{InboxRecord, has_peer_finished}
 use Rattle.session_model.specs.Lives.{Life, KeepsOutbox}
+use Rattle.fixp_msgs.specs.declared.flow.Flow.{Flow}
 use Rattle.fixp_shake.specs.declared.config.EndConfig.{EndConfig}
 use Rattle.fixp_machine.specs.Machine.{State, fresh}
 use Rattle.gw_links.specs.declared.link.Link.{Ghosts as LinkGhosts}
@@ -27,7 +28,8 @@ use Rattle.conn_door.specs.declared.answer.ServeFault.TheVariants as faults
 use Rattle.conn_door.specs.declared.answer.LifeEnd.{LifeEnd}
 use Rattle.conn_steps.specs.Settling.{IsPast}
 use Rattle.conn_door.specs.Answers.{answer_of, IsOfSender, IsUnrefused}
-use Rattle.conn_serve.specs.Answering.{IsRefusal}
+use Rattle.conn_door.specs.Flows.{is_sent_again}
+use Rattle.conn_serve.specs.Answering.{IsRefusal, AnsweredEach}
 use Rattle.conn_serve.specs.Causes.{IsChanged}
 use Rattle.conn_serve.specs.Connections.{all_of, adds_of, wanted_of_all}
 use Rattle.conn_serve.specs.Moments.{Beside, with_seen}
@@ -88,6 +90,16 @@ pub record IsLifeOver (opening closing : History) (lost : List OutboxRecord) (in
   pub refused : life.refused_outbox ≡ lost
   pub inbox_is : (life.served.opening_inbox ≡ inbox) × (life.served.closing_inbox ≡ inbox ++ adds)
 
+-- Nothing but a refusal kept those who send from the end of what they were to send: senders by plans, where their flow sends again what is lost, so that
+-- they wait for no connection, and there was memory to begin; and those who look at what is applied, where each turn was answered
+abbrev pub AreUnhindered : (looks : Bool) → Flow → Result LifeEnd ServeFault → Type 0
+AreUnhindered false flow connections = (is_sent_again flow ≡ true) × (connections ≢ Err faults.Memory)
+AreUnhindered true flow connections = AnsweredEach connections
+
+-- the mark stands; or, where they look at what is applied, each sent all of its plan over what these records apply
+abbrev pub HaveSent : Senders → (opening closing : History) → List InboxRecord → Type 0
+HaveSent senders opening closing inbox = (closing.finished ≡ true) ⊎ ((senders.waits ≡ true) × SentAll senders opening closing inbox)
+
 module _ {J : Type 0} {G : Ghosts J} where
   -- a call of the disk of the inbox failed, or one had failed before
   abbrev pub BlamesInbox : (box box' : Inbox J G) → Type 0
@@ -112,6 +124,7 @@ module _ {J : Type 0} {G : Ghosts J} where
     pub answer : result ≡ answer_of connections refused
     pub refusal : IfSome refused IsOfSender
     pub marked : IsUnrefused result → 0 < length plans → SomePass (length plans + 1) SeesMark known
+    pub all : refused ≡ None → AreUnhindered false m.config.own_flow connections → 0 < length plans → SomePass (length plans + 1) SeesMark known
     pub journal : result ≡ Err faults.Journal → BlamesInbox old.box new.box ⊎ SomePass (length plans + 1) SeesFailure known
     pub changed : (which : Which) (at : ℕ) → result ≡ Err (faults.Changed which at) → IsChanged false G.tells over.tells (known (length plans + 1)).seen which at
     pub full : (entries bytes : ℕ) → result ≡ Err (faults.Full entries bytes)
@@ -157,6 +170,8 @@ module _ {J : Type 0} {G : Ghosts J} {O : Type 0} {H : Ghosts O} where
         → (senders.waits ≡ true → has_peer_finished (i ++ adds_of (all_of served.life.ended served.life.given_up)) ≡ true) → closing.finished ≡ true
     pub sent : IsUnrefused result → senders.waits ≡ true → (i : List InboxRecord) → inboxes.HoldsBox old.box i [] → G.tells
         → (closing.finished ≡ true) ⊎ SentAll senders opening closing (i ++ adds_of (all_of served.life.ended served.life.given_up))
+    pub all : refused ≡ None → AreUnhindered senders.waits config.own_flow connections → 0 < senders.count → (i : List InboxRecord) → inboxes.HoldsBox old.box i []
+        → (senders.waits ≡ true → G.tells) → HaveSent senders opening closing (i ++ adds_of (all_of served.life.ended served.life.given_up))
     pub none : senders.count ≡ 0 → closing.finished ≡ opening.finished
     pub journal : result ≡ Err faults.Journal → BlamesBoxes old.box new.box outbox outbox'
     pub changed : (which : Which) (at : ℕ) → result ≡ Err (faults.Changed which at) → IsChanged senders.waits G.tells over.tells seen which at

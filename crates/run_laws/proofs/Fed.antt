@@ -122,6 +122,7 @@ module _ {S I K A D N C J : Type 0} (G : Ghosts J) (sees : FeedSees S I K A D N 
     room = l.lived.over.room;
     marked = l.lived.over.marked;
     sent = l.lived.over.sent;
+    all = l.lived.over.all;
     none = l.lived.over.none;
     journal = λ is. ⊎_elim
         (λ (risen : HasRisen (sees.session.disk before.out_disk) (sees.session.disk after.out_disk)). inl risen)

@@ -190,7 +190,7 @@ module _ {J : Type 0} {G : Ghosts J} (box : Inbox J G) (held : HoldsBox box [] [
     (adds : adds_of (all_of served.life.ended served.life.given_up) ≡ []) (none : refused_of_all (option_to_list served.life.given_up) ≡ [])
     (out_left : ∥ LeavesImages (memory.may_leave after.out_disk) (records_of_history h) (map record_of lost) ∥₁)
     (out_whole : (HasRisen (memory.disk before.out_disk) (memory.disk after.out_disk) → ⊥) → lost ≡ [])
-    (marked : IsUnrefused result → 0 < length plans → h.finished ≡ true)
+    (marked : IsUnrefused result → 0 < length plans → h.finished ≡ true) (all : refused ≡ None → 0 < length plans → h.finished ≡ true)
     (journal : result ≡ Err faults.Journal → HasRisen (memory.disk before.out_disk) (memory.disk after.out_disk) ⊎ HasRisen (memory.disk before.in_disk) (memory.disk after.in_disk))
     (not_changed : (which : Which) (at : ℕ) → result ≡ Err (faults.Changed which at) → ⊥) (not_full : (es bytes : ℕ) → result ≡ Err (faults.Full es bytes) → ⊥) where
   abbrev machine : State
@@ -260,6 +260,7 @@ module _ {J : Type 0} {G : Ghosts J} (box : Inbox J G) (held : HoldsBox box [] [
         (subst (λ (rs : List InboxRecord). HaveRoom (2 ^ 33) (journal_size []) rs) (sym none) tt);
     marked = λ u some waits. marked u some;
     sent = λ u waits t. absurd (true≢false (sym waits));
+    all = λ unmet u some looks. inl (all unmet some);
     none = λ e. refl;
     journal = λ e. journal e;
     changed = λ which at e. absurd (not_changed which at e);
@@ -320,7 +321,7 @@ module _ {J : Type 0} {G : Ghosts J} (box : Inbox J G) (held : HoldsBox box [] [
 
   abbrev first_lived : LivedOver memory (end_of role configured.link) (submitting first_plans) first.before first.after box box (Err faults.Journal)
   first_lived = quiet box held (end_of role configured.link) first_plans nothing (entry submitted ∷ []) loses_first (λ s. refl) refl (omega arith) journal_nothing first.before first.after refl refl refl
-      (Ok ends.Stopped) (Some faults.Journal) tt (Err faults.Journal) refl (λ e. cc e) (record { life = none_served; links = tt; clock = omega arith }) refl refl ∣ torn_leaves ∣₁ (λ never. absurd (never (omega arith))) (λ unrefused some. absurd (true≢false (sym unrefused)))
+      (Ok ends.Stopped) (Some faults.Journal) tt (Err faults.Journal) refl (λ e. cc e) (record { life = none_served; links = tt; clock = omega arith }) refl refl ∣ torn_leaves ∣₁ (λ never. absurd (never (omega arith))) (λ unrefused some. absurd (true≢false (sym unrefused))) (λ unmet some. cc unmet)
       (λ e. inl (omega arith)) journal_not_changed journal_not_full
 
 -- no plan goes on from anything
@@ -372,7 +373,7 @@ module _ {J : Type 0} {G : Ghosts J} (box : Inbox J G) (held : HoldsBox box [] [
 
     abbrev second_lived : LivedOver memory (end_of role configured.link) (submitting []) second.before second.after box box (Err (faults.Unfinished Ended))
     second_lived = quiet box held (end_of role configured.link) [] h [] (inl refl) order unmarked few j second.before second.after refl refl refl (Err (faults.Unfinished Ended)) None tt (Err (faults.Unfinished Ended)) refl (λ e. cc e)
-        (record { life = cut_served ended phase timely faithful; links = (over, tt); clock = by_clock }) refl refl ∣ settled_leaves h j ∣₁ (λ never. refl) (λ unrefused some. absurd (omega (arith, some))) (λ e. absurd (cut_no_journal e)) cut_not_changed cut_not_full
+        (record { life = cut_served ended phase timely faithful; links = (over, tt); clock = by_clock }) refl refl ∣ settled_leaves h j ∣₁ (λ never. refl) (λ unrefused some. absurd (omega (arith, some))) (λ unmet some. absurd (omega (arith, some))) (λ e. absurd (cut_no_journal e)) cut_not_changed cut_not_full
 
 -- what is recorded as a life opens on an inbox without records
 abbrev found_state : History → EndState
@@ -821,6 +822,7 @@ module _ {J : Type 0} {G : Ghosts J} (box : Inbox J G) (held : HoldsBox box [] [
     room = alike.room;
     marked = λ u some waits. absurd (true≢false (sym (waits refl)));
     sent = λ u waits t. inr (λ s. record { behind = nothing_due s });
+    all = λ unmet u some looks. inr (refl, λ s. record { behind = nothing_due s });
     none = λ e. absurd (omega (arith, e));
     journal = λ e. absurd (cut_no_journal e);
     changed = λ which at e. absurd (cut_not_changed which at e);

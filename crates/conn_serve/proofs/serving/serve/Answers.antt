@@ -18,6 +18,7 @@ returns-in_default-clause-through g c = record {
   blamed = blamed_none (faults_at _ _ _ c.args.inbox.now) (faults_at _ _ _ c.args.inbox.now);
   senders = inr (refl, refl, refl);
   answer = refl;
+  admitted = λ again never. absurd (never refl);
 }
 
 pub returns-in_default-clause-served : goal.returns-in_default-clause-served
@@ -37,7 +38,7 @@ returns-clause-through g c =
     let gate = c.args.gate.now in
     let late = c.submit_behind.ensures in
     served_at g.N.Link.Link _ _ gate (serving_at _ _ _ _ _ c.args.inbox.now _) (serving_at _ _ _ _ _ c.serve_beside-answer.new.inbox _) _ _ _ (ap (λ (l : Line). l.machine) c.in-Ok.ensures)
-    (went_on gate (serving_at _ _ _ _ _ c.args.inbox.now _) (serving_at _ _ _ _ _ c.serve_beside-answer.new.inbox _) c.submit_behind.new.senders _ c.serve_beside-answer.result c.submit_behind.result c.serve_beside-answer.ensures.served late.kept (late.behind c.args.senders.now))
+    (went_on gate (serving_at _ _ _ _ _ c.args.inbox.now _) (serving_at _ _ _ _ _ c.serve_beside-answer.new.inbox _) c.submit_behind.new.senders _ c.serve_beside-answer.result c.submit_behind.result c.serve_beside-answer.ensures.served late.same late.kept (late.behind c.args.senders.now))
 
 pub returns-clause-served : goal.returns-clause-served
 returns-clause-served g c = served_by g.N.Link.Link _ _ c.args.gate.now (serving_at _ _ _ _ _ c.args.inbox.now _) (serving_at _ _ _ _ _ c.serve_beside-answer.new.inbox _) _ _ (returns-clause-through g c)
