@@ -1,0 +1,3 @@
+mod Texts
+mod Telling
+mod Rounds
