@@ -1,4 +1,5 @@
 mod Fronts
 mod Returns
 pub mod Steps
+pub mod Streams
 mod TextLines

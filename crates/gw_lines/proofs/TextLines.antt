@@ -1,20 +1,11 @@
 -- Lines with their feeds are the lines of a text.
-use Rattle.std.proofs.Common.{◌≡◌, ℕ, suc, ◌==◌, true, false, List, [], ◌∷◌, refl, ap, ◌∙◌, arith}
-use Rattle.std.proofs.lemmas.Bool.Decides.{nat_tests}
+use Rattle.std.proofs.Common.{◌≡◌, ℕ, List, [], ◌∷◌, refl, ap, ◌∙◌}
 use Rattle.std.proofs.lemmas.List.Elements.{All-head, All-tail}
 use Rattle.text_words.specs.Lines.{lines_in, unreturned}
-use Rattle.text_words.proofs.Feeds.{no_feeds, first_of_lines, last_of_lines}
+use Rattle.text_words.proofs.Feeds.{first_of_lines, last_of_lines}
 use Rattle.gw_lines.specs.Lines.{IsFeedless, with_feeds}
 use Rattle.gw_lines.specs.Laws.{last_line, LinesOfAText}
-
-none_is : (bytes : List ℕ) → IsFeedless bytes → no_feeds bytes ≡ true
-none_is [] h = refl
-none_is (b ∷ bs) h =
-    let other : (b == 10) ≡ false = differs b (h 0 (omega arith)) in
-    rw other (none_is bs (λ k l. h (suc k) (omega arith)))
-  where
-    differs : (b : ℕ) → (b ≡ 10 → ⊥) → (b == 10) ≡ false
-    differs b h = grind (arith, nat_tests)
+use Rattle.gw_lines.proofs.Streams.{none_is}
 
 last_is : (rest : List ℕ) → IsFeedless rest → lines_in rest ≡ last_line rest
 last_is [] h = refl
