@@ -16,7 +16,7 @@ use Rattle.conn_told.specs.declared.end.ToldEnd.{ToldEnd}
 use Rattle.conn_told.specs.declared.end.ToldEnd.TheVariants as ends
 use Rattle.conn_told.specs.Told.{Say, Front, Gave, GaveFirst, GaveFront, GaveRefused}
 use Rattle.conn_told.specs.Progress.{HasSaid, StopsSo, Reads, Stops, StopsLast, Streams, Told, StandsSo, KeepsTo, GoesOn, AfterRound, Pushes, said}
-use Rattle.conn_told.proofs.Texts.{first_lines, told, at_end, front_behind}
+use Rattle.gw_lines.proofs.Streams.{first_lines, told, at_end, front_behind}
 
 -- the lines of a text that begins with what was read
 all_lines : (read left : List ℕ) (reader : Reading) (raw : List (List ℕ)) (given : HasGiven read raw reader)

@@ -10,7 +10,8 @@ use Rattle.conn_told.specs.declared.end.Wrong.{Wrong}
 use Rattle.conn_told.specs.declared.end.Stop.{Stop}
 use Rattle.conn_told.specs.declared.end.Stop.TheVariants as stops
 use Rattle.conn_told.specs.Progress.{AddsLine, HasSaid, StopsSo, Reads, Stops, StopsLast, said}
-use Rattle.conn_told.proofs.Texts.{unreturned_long, said_long, said_more, no_rest, some_rest, has_more}
+use Rattle.gw_lines.proofs.Streams.{unreturned_long, said_long, said_more, no_rest, some_rest}
+use Rattle.conn_told.proofs.Texts.{has_more}
 
 -- ---- the next line
 

@@ -1,8 +1,8 @@
 -- What a line of OUT says by a schema: the text of the message that was applied (this project's profile).
 use Rattle.std.specs.Prelude.{◌≡◌, ◌⊎◌, ℕ, ◌^◌, ◌<◌, ◌≤◌, List, [], ◌∷◌, ◌++◌, length, codes, decimal, Result, Ok, Err}
-use Rattle.std.specs.Int.{w16, to_be_bytes}
 use Rattle.hex.specs.Hex.{decode_of}
-use Rattle.sofh_frame.specs.Framing.{encoding_of}
+use Rattle.sofh_frame.specs.Framing.{Frame}
+use Rattle.fixp_msgs.specs.Numbering.{payload_of}
 use Rattle.sbe_value.specs.declared.message.Message.{Message}
 use Rattle.sbe_layout.specs.declared.plan.Plan.{Plan}
 use Rattle.sbe_grammar.specs.Reading.{message_in}
@@ -26,15 +26,15 @@ pub record Begins (line word : List ℕ) : Type 0 where
 abbrev pub TellsOther : List ℕ → Type 0
 TellsOther line = Begins line (codes "notapplied ") ⊎ (Begins line (codes "connection ") ⊎ Begins line (codes "status "))
 
--- the encoding type of a schema's byte order, and a message (Simple Open Framing Header, "Encoding Type")
-abbrev pub payload_of : Plan → List ℕ → List ℕ
-payload_of plan message = to_be_bytes w16 (encoding_of plan.order) ++ message
+-- a message in the byte order of a schema
+abbrev pub framed : Plan → List ℕ → Frame
+framed plan message = record { order = plan.order; message = message }
 
 -- a line tells that this message was applied
 pub record DeliversMessage (plan : Plan) (line message : List ℕ) : Type 0 where
   pub digits : List ℕ
   pub delivers : Delivers line digits
-  pub spelled : decode_of digits ≡ Ok (payload_of plan message)
+  pub spelled : decode_of digits ≡ Ok (payload_of (framed plan message))
 
 -- the text of the message that a line tells of
 pub record SaysMessage (plan : Plan) (line text : List ℕ) : Type 0 where
@@ -56,7 +56,7 @@ pub record HasOtherEncoding (plan : Plan) (line : List ℕ) : Type 0 where
   pub delivers : Delivers line digits
   pub payload : List ℕ
   pub spelled : decode_of digits ≡ Ok payload
-  pub other : (message : List ℕ) → payload ≡ payload_of plan message → ⊥
+  pub other : (message : List ℕ) → payload ≡ payload_of (framed plan message) → ⊥
 
 -- the message has this fault
 pub record HasFault (plan : Plan) (line : List ℕ) (fault : DecodeFault) : Type 0 where

@@ -40,28 +40,15 @@ fn digits_of(line: &[u8]) -> Option<&[u8]>
     }
 }
 
-/// Whether a line tells what a peer did not apply.
-fn is_not_applied(line: &[u8]) -> bool
-    ensures yes { result ≡ true → Begins line.now (codes "notapplied ") }
-    ensures no { result ≡ false → Begins line.now (codes "notapplied ") → ⊥ }
+/// Whether a line begins with a word.
+fn begins_with(line: &[u8], word: &[u8]) -> bool
+    ensures yes { result ≡ true → Begins line.now word.now }
+    ensures no { result ≡ false → Begins line.now word.now → ⊥ }
 {
-    line.strip_prefix(b"notapplied ").is_some()
-}
-
-/// Whether a line tells how a connection ended.
-fn is_connection(line: &[u8]) -> bool
-    ensures yes { result ≡ true → Begins line.now (codes "connection ") }
-    ensures no { result ≡ false → Begins line.now (codes "connection ") → ⊥ }
-{
-    line.strip_prefix(b"connection ").is_some()
-}
-
-/// Whether a line tells how a run ended.
-fn is_status(line: &[u8]) -> bool
-    ensures yes { result ≡ true → Begins line.now (codes "status ") }
-    ensures no { result ≡ false → Begins line.now (codes "status ") → ⊥ }
-{
-    line.strip_prefix(b"status ").is_some()
+    match line.strip_prefix(word) {
+        Some(_behind) => true,
+        None => false,
+    }
 }
 
 /// Whether a line of OUT tells of something else than a message.
@@ -69,13 +56,13 @@ fn tells_other(line: &[u8]) -> bool
     ensures yes { result ≡ true → TellsOther line.now }
     ensures no { result ≡ false → TellsOther line.now → ⊥ }
 {
-    if is_not_applied(line) {
+    if begins_with(line, b"notapplied ") {
         return true;
     }
-    if is_connection(line) {
+    if begins_with(line, b"connection ") {
         return true;
     }
-    is_status(line)
+    begins_with(line, b"status ")
 }
 
 /// The bytes that digits spell in hexadecimal.
