@@ -5,10 +5,12 @@
 mod datagrams;
 mod extending;
 mod feeding;
+mod piped;
 mod progress;
 mod rehearsals;
 mod sessions;
 mod soaks;
+mod telling;
 
 use cmd_files::{Report, VERSION, asked, finish, run_over_files, usage_fault};
 use cmd_run::{Status, command_of};
@@ -29,6 +31,7 @@ use std::sync::Wait;
 use std::sync::atomic::AtomicBool;
 use std::thread::Threads;
 use std::time::Clock;
+use telling::{DeliveredFiles, tell_over_files};
 
 /// The words behind the program's name.
 fn words_of<R: Env + AllocGlobal>(rt: &R) -> io::Result<Vec<String>> {
@@ -88,6 +91,9 @@ fn run_words<R: Threads + Wait + Sync + Clock + Files<File = File> + Print + Epr
     }
     if let Some(files) = ExtendsFiles::of(words) {
         return extends_over_files(rt, files);
+    }
+    if let Some(files) = DeliveredFiles::of(words) {
+        return tell_over_files(rt, files);
     }
     let report = if command_of(words).is_some() {
         run_over_files(rt, words)

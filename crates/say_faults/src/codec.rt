@@ -46,6 +46,7 @@ const SESSION_SCHEMA: u16 = 0xF011;
 fn push_known(
     line: &mut String,
     plan: Option<&Plan>,
+    role: &str,
     fault: DecodeFault,
 ) -> Result<(), AllocError> {
     match (fault, plan) {
@@ -54,7 +55,7 @@ fn push_known(
         }
         (DecodeFault::OtherSchema { .. }, Some(plan)) => {
             let id = plan.id;
-            write!(line, ", and CONFIG has {id}")
+            write!(line, ", and {role} has {id}")
         }
         (DecodeFault::UnknownTemplate { .. }, Some(plan)) => {
             line.push_str(": it has ")?;
@@ -80,8 +81,18 @@ pub fn push_decode_fault(
         Some(place) => write!(line, "frame {frame} at byte {place}: ")?,
         None => write!(line, "frame {frame}: ")?,
     }
+    push_fault_of_message(line, plan, "CONFIG", fault)
+}
+
+/// Adds what is wrong with the bytes of a message, by the layout of the messages if that is at hand, which the file of this role gives.
+pub(crate) fn push_fault_of_message(
+    line: &mut String,
+    plan: Option<&Plan>,
+    role: &str,
+    fault: DecodeFault,
+) -> Result<(), AllocError> {
     decode_fault(fault).push(line)?;
-    push_known(line, plan, fault)
+    push_known(line, plan, role, fault)
 }
 
 /// What stands behind the first message of a text.

@@ -8,6 +8,7 @@ mod frame;
 mod plan;
 mod reject;
 mod session;
+mod told;
 mod walk;
 
 pub use codec::{push_decode_fault, push_encode_fault, push_text_fault};
@@ -15,3 +16,4 @@ pub use frame::{push_malformed, push_refused};
 pub use plan::push_plan_fault;
 pub use reject::push_rejected;
 pub use session::push_broken_rule;
+pub use told::push_told_fault;
