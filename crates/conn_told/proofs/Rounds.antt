@@ -1,6 +1,7 @@
 -- What a round of telling leaves, and the end of it.
 use Rattle.std.proofs.Common.{◌≡◌, ℕ, zero, suc, ◌+◌, ◌-◌, ◌^◌, ◌≤◌, min, Bool, false, List, [], ◌∷◌, ◌++◌, length, refl, ap, sym, subst, ◌∙◌, append_assoc, append-nil, arith}
 use Rattle.std.specs.Prelude.{nat_lt, Option, Some, Result, Ok, Err, OnOk, IfErr}
+use Rattle.std.proofs.lemmas.Bool.Decides.{nat_tests}
 use Rattle.std.specs.Io.KnownBytes.{Appends, Consumes, IsAtEnd, Keeps}
 use Rattle.std.proofs.KnownBytes.{Appends-nil, Appends-trans, Consumes-nil, Consumes-trans, Consumes-kept}
 use Rattle.gw_outside.specs.Faults.{TakesFront}
@@ -252,5 +253,4 @@ pushed_ok X before after waits line (Err (stops.Wrong wrong)) x pushes = absurd 
 pushed_ok X before after waits line (Err stops.Memory) x pushes = absurd pushes
 
 pub none_read : (count : ℕ) → nat_lt 0 count ≡ false → count ≡ 0
-none_read zero e = refl
-none_read (suc count) e = absurd (cc e)
+none_read count e = grind (arith, nat_tests)

@@ -40,13 +40,59 @@ fn digits_of(line: &[u8]) -> Option<&[u8]>
     }
 }
 
-/// Whether a line begins with a word.
-fn begins_with(line: &[u8], word: &[u8]) -> bool
-    ensures yes { result ≡ true → Begins line.now word.now }
-    ensures no { result ≡ false → Begins line.now word.now → ⊥ }
+/// What stands behind the first word of a line that tells what a peer did not apply.
+fn behind_not_applied(line: &[u8]) -> Option<&[u8]>
+    ensures found { IfSome result (λ behind. line.now ≡ codes "notapplied " ++ behind.now) }
+    ensures none { IfNone result ((behind : List ℕ) → line.now ≡ codes "notapplied " ++ behind → ⊥) }
 {
-    match line.strip_prefix(word) {
-        Some(_behind) => true,
+    line.strip_prefix(b"notapplied ")
+}
+
+/// What stands behind the first word of a line that tells how a connection ended.
+fn behind_connection(line: &[u8]) -> Option<&[u8]>
+    ensures found { IfSome result (λ behind. line.now ≡ codes "connection " ++ behind.now) }
+    ensures none { IfNone result ((behind : List ℕ) → line.now ≡ codes "connection " ++ behind → ⊥) }
+{
+    line.strip_prefix(b"connection ")
+}
+
+/// What stands behind the first word of a line that tells how a run ended.
+fn behind_status(line: &[u8]) -> Option<&[u8]>
+    ensures found { IfSome result (λ behind. line.now ≡ codes "status " ++ behind.now) }
+    ensures none { IfNone result ((behind : List ℕ) → line.now ≡ codes "status " ++ behind → ⊥) }
+{
+    line.strip_prefix(b"status ")
+}
+
+/// Whether a line tells what a peer did not apply.
+fn is_not_applied(line: &[u8]) -> bool
+    ensures yes { result ≡ true → Begins line.now (codes "notapplied ") }
+    ensures no { result ≡ false → Begins line.now (codes "notapplied ") → ⊥ }
+{
+    match behind_not_applied(line) {
+        Some(_) => true,
+        None => false,
+    }
+}
+
+/// Whether a line tells how a connection ended.
+fn is_connection(line: &[u8]) -> bool
+    ensures yes { result ≡ true → Begins line.now (codes "connection ") }
+    ensures no { result ≡ false → Begins line.now (codes "connection ") → ⊥ }
+{
+    match behind_connection(line) {
+        Some(_) => true,
+        None => false,
+    }
+}
+
+/// Whether a line tells how a run ended.
+fn is_status(line: &[u8]) -> bool
+    ensures yes { result ≡ true → Begins line.now (codes "status ") }
+    ensures no { result ≡ false → Begins line.now (codes "status ") → ⊥ }
+{
+    match behind_status(line) {
+        Some(_) => true,
         None => false,
     }
 }
@@ -56,13 +102,13 @@ fn tells_other(line: &[u8]) -> bool
     ensures yes { result ≡ true → TellsOther line.now }
     ensures no { result ≡ false → TellsOther line.now → ⊥ }
 {
-    if begins_with(line, b"notapplied ") {
+    if is_not_applied(line) {
         return true;
     }
-    if begins_with(line, b"connection ") {
+    if is_connection(line) {
         return true;
     }
-    begins_with(line, b"status ")
+    is_status(line)
 }
 
 /// The bytes that digits spell in hexadecimal.

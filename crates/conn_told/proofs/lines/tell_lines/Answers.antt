@@ -9,7 +9,7 @@ returns-in_default-clause-told g c = unmade c.args.plan.now (record { input = g.
 pub loop-init : goal.loop-init
 loop-init g c = record {
   waiting = c.in-Ok.ensures.waiting;
-  empty = refl;
+  empty = c.new-text.ensures.items;
   stands = begins c.args.plan.now (record { input = g.S.Source.left c.args.input.now; out = g.K.Sink.taken c.args.out.now }) c.in-Ok.reader c.in-Ok.ensures.given;
   input_counted = omega arith;
   out_counted = omega arith;
