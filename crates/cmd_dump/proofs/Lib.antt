@@ -1,0 +1,4 @@
+pub mod Giving
+pub mod Going
+pub mod Streaming
+pub mod Judging

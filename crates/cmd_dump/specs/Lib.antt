@@ -1,0 +1,4 @@
+pub mod Frames
+pub mod Dumped
+pub mod Promise
+pub mod Progress
