@@ -20,6 +20,7 @@ const USAGE: &str =
   fixpgw check CONFIG OUT               checks the schema in CONFIG, and prints its layout to OUT
   fixpgw decode CONFIG INPUT OUT        prints the messages in the frames of INPUT as text to OUT
   fixpgw delivered SCHEMA LINES OUT     prints the messages that the lines of a session's OUT tell of as text to OUT
+  fixpgw dump SCHEMA INPUT OUT          prints every frame of INPUT, session messages too, as text to OUT
   fixpgw encode CONFIG INPUT WIRE       writes the messages in the text of INPUT as frames to WIRE
   fixpgw extends NEW OLD OUT            says whether the schema in NEW is a later version of that in OLD
   fixpgw format OUTBOX INBOX            makes the two journals of a new session
@@ -34,8 +35,8 @@ const USAGE: &str =
   fixpgw --quiet COMMAND ..             accept and connect say on standard error only what is refused, broken or lost
 
 OUT may be -, which is standard output; so may ACCEPTED, where OUT is not. The last line on standard output is `status N NAME`, but where OUT of
-delivered or extends is -, then it is on standard error. N is the exit status: 0 done, 1 words, 2 config, 3 input-fault, 4 output-fault, 5 journal-fault, 6 journal-bad,
-7 dial-fault, 8 unfinished, 9 rejected, 10 full, 11 turns, 12 message, 13 undrained, 14 memory.";
+delivered, dump or extends is -, then it is on standard error. N is the exit status: 0 done, 1 words, 2 config, 3 input-fault, 4 output-fault,
+5 journal-fault, 6 journal-bad, 7 dial-fault, 8 unfinished, 9 rejected, 10 full, 11 turns, 12 message, 13 undrained, 14 memory.";
 
 const ACCEPT: &str = "usage: fixpgw accept ADDRESS N CONFIG INPUT OUTBOX INBOX OUT [ACCEPTED]
 
@@ -106,6 +107,15 @@ as its line is there, so that `tail -F told.txt | fixpgw delivered SCHEMA - -` f
   SCHEMA   the schema of the messages, as TOML (read); - is standard input
   LINES    lines `deliver N HEX`; the others of a session's OUT say nothing (read); - is standard input, where SCHEMA is not
   OUT      the lines of each message (written); - is standard output, and then the status goes to standard error";
+
+const DUMP: &str = "usage: fixpgw dump SCHEMA INPUT OUT
+
+Prints every frame that one end of a connection wrote: where it stands, and the session message or the message of the schema that it holds. A
+frame that holds neither is shown as its bytes with what is wrong with it, and the next one follows.
+
+  SCHEMA   the schema of the application messages, as TOML (read); - is standard input
+  INPUT    the recorded bytes (read); - is standard input, where SCHEMA is not
+  OUT      the lines of each frame (written); - is standard output, and then the status goes to standard error";
 
 const ENCODE: &str = "usage: fixpgw encode CONFIG INPUT WIRE
 
@@ -184,6 +194,7 @@ fn usage_of(command: &str) -> Option<&'static str> {
         "connect" => Some(CONNECT),
         "decode" => Some(DECODE),
         "delivered" => Some(DELIVERED),
+        "dump" => Some(DUMP),
         "encode" => Some(ENCODE),
         "extends" => Some(EXTENDS),
         "format" => Some(FORMAT),

@@ -3,6 +3,7 @@
 #![tactic(auto)]
 
 mod datagrams;
+mod dumping;
 mod extending;
 mod feeding;
 mod piped;
@@ -15,6 +16,7 @@ mod telling;
 use cmd_files::{Report, VERSION, asked, finish, run_over_files, usage_fault};
 use cmd_run::{Status, command_of};
 use datagrams::{DatagramFiles, deliver_over_files};
+use dumping::{DumpFiles, dump_over_files};
 use extending::{ExtendsFiles, extends_over_files};
 use feeding::{AcceptedFile, Feeds, feed_over_sockets};
 use gw_fed_files::ComingFile;
@@ -94,6 +96,9 @@ fn run_words<R: Threads + Wait + Sync + Clock + Files<File = File> + Print + Epr
     }
     if let Some(files) = DeliveredFiles::of(words) {
         return tell_over_files(rt, files);
+    }
+    if let Some(files) = DumpFiles::of(words) {
+        return dump_over_files(rt, files);
     }
     let report = if command_of(words).is_some() {
         run_over_files(rt, words)
