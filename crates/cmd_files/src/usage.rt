@@ -17,6 +17,8 @@ const USAGE: &str =
                                         a session as the initiator: makes up to N connections to ADDRESS
   fixpgw accept|connect .. OUT ACCEPTED the same, with INPUT sent as it comes, and told on ACCEPTED line by line
   fixpgw answer CONFIG INPUT WIRE OUT   answers the recorded client in INPUT: replies to WIRE, messages to OUT
+  fixpgw muxanswer CONFIG INPUT WIRE OUT
+                                        answers the recorded client of several sessions in INPUT, each as answer would
   fixpgw check CONFIG OUT               checks the schema in CONFIG, and prints its layout to OUT
   fixpgw decode CONFIG INPUT OUT        prints the messages in the frames of INPUT as text to OUT
   fixpgw delivered SCHEMA LINES OUT     prints the messages that the lines of a session's OUT tell of as text to OUT
@@ -83,6 +85,17 @@ The acceptor's session over the recorded bytes of a client.
   INPUT    the bytes that the client sent (read)
   WIRE     the acceptor's replies (written)
   OUT      a line `deliver N HEX` for each message applied (written); - is standard output";
+
+const MUXANSWER: &str = "usage: fixpgw muxanswer CONFIG INPUT WIRE OUT
+
+Several acceptors' sessions over the recorded bytes of one client, each of whose frames belongs to the session that the last Context before
+it names. Each session is answered as answer would answer its own frames.
+
+  CONFIG   the sessions, as TOML: a list `session` of 1 to 64 tables, each with the keys of answer (read)
+  INPUT    the bytes that the client sent (read)
+  WIRE     the replies, each behind a Context where another session wrote before (written)
+  OUT      `S deliver N HEX` for each message applied by session S, which counts from 1 in CONFIG, and `S violation V` where S broke rule V
+           (written); - is standard output";
 
 const CHECK: &str = "usage: fixpgw check CONFIG OUT
 
@@ -200,6 +213,7 @@ fn usage_of(command: &str) -> Option<&'static str> {
         "format" => Some(FORMAT),
         "journal" => Some(JOURNAL),
         "migrate" => Some(MIGRATE),
+        "muxanswer" => Some(MUXANSWER),
         "datagram" => Some(DATAGRAM),
         "rehearse" => Some(REHEARSE),
         "soak" => Some(SOAK),

@@ -1,4 +1,4 @@
 mod Apart
-mod Partings
+pub mod Partings
 mod Sampled
-mod Spelling
+pub mod Spelling

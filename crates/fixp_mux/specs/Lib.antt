@@ -4,3 +4,4 @@ pub mod Laws
 pub mod Parts
 pub mod Samples
 pub mod State
+pub mod Saying

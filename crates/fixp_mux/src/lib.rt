@@ -2,9 +2,11 @@
 //! frames. It stands on frames and on the header of session messages.
 #![tactic(auto)]
 
+mod context;
 mod laws;
 mod samples;
 
+pub use context::{CONTEXT_SIZE, Saying, context_bytes, read_saying};
 pub use laws::{
     belongs_to_one, context_is_spelled, context_names, part_by_last_context, sessions_apart,
 };
