@@ -1,12 +1,12 @@
 -- What a frame, less than a frame, and bytes that no frame begins with leave.
-use Rattle.std.proofs.Common.{◌≡◌, ℕ, ◌<◌, ◌≤◌, List, [], ◌∷◌, ◌++◌, length, drop, Option, refl, sym, ◌∙◌, ap, subst, arith, append_assoc, append-nil}
+use Rattle.std.proofs.Common.{◌≡◌, ℕ, ◌<◌, ◌≤◌, List, [], ◌∷◌, ◌++◌, length, drop, Option, refl, sym, ◌∙◌, ap, subst, arith, append_assoc}
 use Rattle.std.proofs.lemmas.List.{drop-append-le, length-drop}
 use Rattle.sbe_prim.specs.declared.Order.{Order}
-use Rattle.sofh_frame.specs.Framing.{Frame, spelled, First, frame, rest, bad_length, bad_encoding, first_of}
+use Rattle.sofh_frame.specs.Framing.{Frame, First, frame, rest, bad_length, bad_encoding, first_of}
 use Rattle.sofh_frame.specs.Splits.{IsNoFrame, frames_of, tail_of}
 use Rattle.sofh_frame.proofs.FramingLemmas.{parts-frame, frame-append, bad_length-append, bad_encoding-append}
 use Rattle.session_model.specs.Events.{standing}
-use Rattle.fixp_msgs.specs.Numbering.{events_of, fitting}
+use Rattle.fixp_msgs.specs.Numbering.{events_of}
 use Rattle.sbe_layout.specs.declared.plan.Plan.{Plan}
 use Rattle.cmd_codec.specs.Decoded.{next_number, next_place}
 use Rattle.cmd_codec.proofs.Splitting.{frames-frame, tail-frame, size-spelled, no-frames, all-tail}
@@ -15,8 +15,8 @@ use Rattle.cmd_dump.specs.declared.first_line.Head.{Head}
 use Rattle.cmd_dump.specs.declared.outcome.Outcome.TheVariants as outcomes
 use Rattle.frame_text.specs.Held.{held_lines}
 use Rattle.cmd_dump.specs.Frames.{head_line, implied_by}
-use Rattle.cmd_dump.specs.Dumped.{Dumped, Spot, behind, lines_of_frame, spot_behind, broken_line, ended, frames_dumped, dumped_from}
-use Rattle.cmd_dump.specs.Progress.{PrintedFrame, spot_of, goes_on, Follows, Keeps, Stops, Took}
+use Rattle.cmd_dump.specs.Dumped.{Dumped, Spot, behind, broken_line, ended, frames_dumped, dumped_from}
+use Rattle.cmd_dump.specs.Progress.{PrintedFrame, spot_of, Keeps, Stops, Took}
 
 -- what a frame adds, part by part
 pub printed-lines : (old head told mid new held : List ℕ) → mid ≡ old ++ head → head ≡ told → new ≡ mid ++ held → new ≡ old ++ (told ++ held)

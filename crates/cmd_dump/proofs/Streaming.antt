@@ -1,12 +1,11 @@
 -- What a round leaves of the promise.
-use Rattle.std.proofs.Common.{◌≡◌, ℕ, ◌+◌, ◌<◌, ◌≤◌, List, [], ◌∷◌, ◌++◌, length, take, Bool, true, false, Option, Some, None, Ok, refl, sym, ◌∙◌, ap, subst, arith, append_assoc, append-nil}
+use Rattle.std.proofs.Common.{◌≡◌, ℕ, ◌+◌, List, [], ◌∷◌, ◌++◌, length, take, Bool, true, false, Option, Some, None, refl, sym, ◌∙◌, ap, subst, append_assoc, append-nil}
 use Rattle.std.specs.Io.KnownBytes.{Appends, Consumes, IsAtEnd}
 use Rattle.std.proofs.KnownBytes.{Appends-nil, Appends-trans, Consumes-nil, Consumes-trans}
 use Rattle.gw_outside.specs.Faults.{TakesFront}
-use Rattle.sofh_frame.specs.Framing.{First, rest, first_of}
+use Rattle.sofh_frame.specs.Framing.{First, rest}
 use Rattle.sofh_frame.specs.Buffered.{written_over}
 use Rattle.sofh_frame.specs.Splits.{IsNoFrame}
-use Rattle.fixp_msgs.specs.Numbering.{fitting}
 use Rattle.sbe_layout.specs.declared.plan.Plan.{Plan}
 use Rattle.cmd_codec.proofs.Streaming.{told, written_over-same}
 use Rattle.cmd_dump.specs.declared.dumper.Dumper.{Dumper}
@@ -14,7 +13,7 @@ use Rattle.cmd_dump.specs.declared.outcome.Outcome.{Outcome}
 use Rattle.cmd_dump.specs.declared.outcome.Outcome.TheVariants as outcomes
 use Rattle.cmd_dump.specs.declared.outcome.Origin.TheVariants.{Input}
 use Rattle.cmd_dump.specs.Dumped.{Dumped, behind, cut_line, ended, dumped_from, dumped}
-use Rattle.cmd_dump.specs.Promise.{GaveDumped, Gave}
+use Rattle.cmd_dump.specs.Promise.{Gave}
 use Rattle.cmd_dump.specs.Progress.{spot_of, goes_on, Keeps, Stops, Waiting, IsNew, Streams, KeepsPromise, Stands, IsIdle}
 use Rattle.cmd_dump.proofs.Giving.{gave-behind, gave-front, no-front}
 use Rattle.cmd_dump.proofs.Going.{behind-behind, from-none}

@@ -1,7 +1,6 @@
 -- How far `dump` has come in the middle of its input.
 use Rattle.std.specs.Prelude.{◌≡◌, ⊤, ℕ, ◌<◌, Bool, true, false, Option, Some, None, Result, Ok, Err, List, [], ◌∷◌, ◌++◌, length}
 use Rattle.std.specs.Io.KnownBytes.{Appends, Consumes}
-use Rattle.gw_outside.specs.Faults.{TakesFront}
 use Rattle.sofh_frame.specs.Framing.{Frame, rest, first_of}
 use Rattle.session_model.specs.Events.{standing}
 use Rattle.fixp_msgs.specs.Numbering.{events_of, fitting}

@@ -1,12 +1,11 @@
 -- What `dump` promises of OUT, and what its outcome says of SCHEMA (this project's profile).
-use Rattle.std.specs.Prelude.{◌≡◌, ⊤, ℕ, List, codes, Option, Some, Result, Ok, Err, IsOk}
+use Rattle.std.specs.Prelude.{◌≡◌, ⊤, ℕ, List, codes, Option, Result, Ok, Err, IsOk}
 use Rattle.std.specs.Io.KnownBytes.{Appends, Keeps}
 use Rattle.gw_outside.specs.Faults.{TakesFront}
 use Rattle.schema_toml.specs.declared.fault.ConfigFault.{ConfigFault}
 use Rattle.sbe_layout.specs.declared.plan.Plan.{Plan}
 use Rattle.cmd_dump.specs.declared.outcome.Outcome.{Outcome}
 use Rattle.cmd_dump.specs.declared.outcome.Outcome.TheVariants as outcomes
-use Rattle.cmd_dump.specs.declared.outcome.Origin.{Origin}
 use Rattle.cmd_dump.specs.declared.outcome.Origin.TheVariants.{Schema, Input}
 use Rattle.cmd_dump.specs.Dumped.{Dumped, dumped}
 

@@ -2,7 +2,6 @@
 
 ghost use Rattle.std.specs.Prelude.{◌≡◌, ◌≤◌, ◌⊎◌, ◌+◌, ℕ, List, Some, Ok, IfOk, IfErr, IsErrOf};
 ghost use Rattle.gw_outside.specs.Faults.{HasRisen};
-ghost use Rattle.sbe_layout.specs.Legal.{LegalPlan};
 ghost use Rattle.schema_toml.specs.Faults.{text_limit};
 ghost use Rattle.schema_load.specs.Load.{plan_of_text};
 ghost use Rattle.cmd_base.specs.Order.{HasGiven};
@@ -30,7 +29,6 @@ pub struct DumpDevices<S, K> {
 /// # Errors
 /// `Config` with the fault of the text, `InputFault` where the source failed, and `Memory`.
 fn plan_from<S: Source>(alloc: Global, schema: &mut S) -> Result<Plan, Outcome>
-    ensures legal { IfOk result LegalPlan }
     ensures ok { IfOk result (λ plan. (text : List ℕ) → S.left schema.old ≡ Some text → plan_of_text text ≡ Ok plan) }
     ensures refused { IfErr result (λ outcome. (text : List ℕ) → S.left schema.old ≡ Some text → Judges outcome (plan_of_text text)) }
     ensures within { ReadsWithin (S.left schema.old) (S.left schema.new) (text_limit + 1) }

@@ -1,7 +1,6 @@
 //! The frames of a stream, printed one after another as far as they are there.
 
 ghost use Rattle.std.specs.Prelude.{◌≡◌, ◌≤◌, ◌++◌, length, drop, OnOk};
-ghost use Rattle.sbe_layout.specs.Legal.{LegalPlan};
 ghost use Rattle.cmd_codec.specs.Decoded.{next_number, next_place};
 ghost use Rattle.cmd_dump.specs.Dumped.{broken_line};
 ghost use Rattle.cmd_dump.specs.Progress.{PrintedFrame, Takes, TakesAll};
@@ -10,6 +9,7 @@ use crate::first_line::{Head, push_head};
 use fixp_msgs::Counter;
 use frame_text::{Held, push_held};
 use sbe_layout::Plan;
+use sbe_text::Draft;
 use sofh_frame::{FirstFrame, Framer};
 use std::alloc::{AllocError, Global};
 use text_words::push_number;
@@ -32,6 +32,8 @@ pub struct Dumper {
     pub framer: Framer,
     /// The lines not pushed.
     pub lines: Vec<u8>,
+    /// Room for those of one message.
+    pub draft: Draft,
     /// The number of the next frame, from 1.
     pub number: u64,
     /// The place of the next frame in the input, in bytes from 0.
@@ -55,16 +57,16 @@ fn push_frame(
     counter: &mut Counter,
     head: Head,
     held: Held<'_>,
+    draft: &mut Draft,
     lines: &mut Vec<u8>,
 ) -> Result<(), AllocError>
-    requires legal { LegalPlan plan.now }
     requires least { 8 ≤ length held.message.now }
     requires most { length held.message.now ≤ 16384 }
     ensures { OnOk result (PrintedFrame plan.now (record { order = held.entry.order; message = held.entry.message.now }) head counter.old counter.new lines.old.items lines.new.items) }
 {
     let implied = counter.see(held.order, held.message);
     push_head(lines, head, implied)?;
-    push_held(alloc, plan, held, lines)?;
+    push_held(alloc, plan, held, draft, lines)?;
     Ok(())
 }
 
@@ -79,6 +81,7 @@ impl Dumper {
         Ok(Dumper {
             framer: Framer::new(alloc)?,
             lines: Vec::new(alloc),
+            draft: Draft::new(alloc),
             number: 1,
             place: 0,
             counter: Counter::new(),
@@ -87,7 +90,6 @@ impl Dumper {
 
     // Prints the frame at the front of the bytes held.
     fn take_frame(&mut self, alloc: Global, plan: &Plan) -> Result<Front, AllocError>
-        requires { LegalPlan plan.now }
         ensures { Takes plan.now self.old self.new result }
     {
         match self.framer.peek() {
@@ -102,7 +104,15 @@ impl Dumper {
                     size: size as u64,
                 };
                 let held = Held { order, message };
-                push_frame(alloc, plan, &mut self.counter, head, held, &mut self.lines)?;
+                push_frame(
+                    alloc,
+                    plan,
+                    &mut self.counter,
+                    head,
+                    held,
+                    &mut self.draft,
+                    &mut self.lines,
+                )?;
                 self.pass(size);
                 Ok(Front::Taken)
             }
@@ -137,7 +147,6 @@ impl Dumper {
     /// # Errors
     /// Want of memory.
     pub fn take_frames(&mut self, alloc: Global, plan: &Plan) -> Result<bool, AllocError>
-        requires { LegalPlan plan.now }
         ensures { TakesAll plan.now self.old self.new result }
     {
         loop {

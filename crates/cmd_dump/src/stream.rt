@@ -3,7 +3,6 @@
 ghost use Rattle.std.specs.Prelude.{◌≡◌, ◌≤◌, ◌⊎◌, ◌++◌, ℕ, true, false, Ok, Some, Option, List, [], IfSome, IfErr, OnOk, OnErr};
 ghost use Rattle.std.specs.Io.KnownBytes.{Appends, Consumes, IsAtEnd, Keeps};
 ghost use Rattle.gw_outside.specs.Faults.{HasCause, HasRisen, TakesFront};
-ghost use Rattle.sbe_layout.specs.Legal.{LegalPlan};
 ghost use Rattle.sbe_layout.specs.declared.plan.Plan.{Plan};
 ghost use Rattle.cmd_base.specs.Order.{HasGiven};
 ghost use Rattle.cmd_dump.specs.Dumped.{cut_line, ended};
@@ -98,7 +97,6 @@ impl Dumper {
         plan: &Plan,
         out: &mut K,
     ) -> Result<(), Outcome>
-        requires { LegalPlan plan.now }
         ensures idle { OnOk result (IsIdle self.new) }
         ensures stands { OnOk result ((before : Streams) (input : Option (List ℕ)) →
             Stands plan.now before (record { input = input; out = K.taken out.old }) self.old → Stands plan.now before (record { input = input; out = K.taken out.new }) self.new) }
@@ -129,7 +127,6 @@ impl Dumper {
         input: &mut S,
         out: &mut K,
     ) -> Option<Outcome>
-        requires { LegalPlan plan.now }
         ensures after { (before : Streams) →
             Stands plan.now before (record { input = S.left input.old; out = K.taken out.old }) self.old →
             AfterRound plan.now before (record { input = S.left input.new; out = K.taken out.new }) self.new result }
@@ -163,7 +160,6 @@ pub fn print_frames<R: Wait, S: Source, K: Sink>(
     input: &mut S,
     out: &mut K,
 ) -> Outcome
-    requires { LegalPlan plan.now }
     ensures promise { KeepsPromise plan.now
         (record { input = S.left input.old; out = K.taken out.old })
         (record { input = S.left input.new; out = K.taken out.new }) result }

@@ -1,7 +1,6 @@
 //! The lines of what a frame holds: a session message, or an application message by a schema.
 
 ghost use Rattle.std.specs.Prelude.{◌≡◌, ◌≤◌, ◌^◌, ◌++◌, length, OnOk};
-ghost use Rattle.sbe_layout.specs.Legal.{LegalPlan};
 ghost use Rattle.sbe_prim.specs.declared.Order.TheVariants.{Little};
 ghost use Rattle.fixp_msgs.specs.declared.frames.FrameKind.TheVariants.{Session};
 ghost use Rattle.fixp_msgs.specs.Header.{kind_of, version_in};
@@ -10,10 +9,9 @@ ghost use Rattle.frame_text.specs.Held.{application_lines, held_lines, session_l
 use crate::unread::{Held, push_faulty, push_no_template, push_unread};
 use fixp_msgs::{FrameKind, MsgFault, kind, read, spelled_is_found};
 use fixp_text::push_session;
-use sbe_decode::{DecodeError, decode};
-use sbe_grammar::read_fits;
+use sbe_decode::DecodeError;
 use sbe_layout::Plan;
-use sbe_text::write_named_lines;
+use sbe_text::{Draft, print_named_wire};
 use std::alloc::{AllocError, Global};
 
 /// Adds the lines of an application message.
@@ -21,13 +19,12 @@ fn push_application(
     alloc: Global,
     plan: &Plan,
     held: Held<'_>,
+    draft: &mut Draft,
     lines: &mut Vec<u8>,
 ) -> Result<(), AllocError>
-    requires legal { LegalPlan plan.now }
-    requires short { length held.message.now ≤ 2 ^ 20 }
+    requires { length held.message.now ≤ 2 ^ 20 }
     ensures { OnOk result (lines.new.items ≡ lines.old.items ++ application_lines plan.now (record { order = held.entry.order; message = held.entry.message.now })) }
 {
-    read_fits();
     if held.order != plan.order {
         return push_unread(
             lines,
@@ -35,8 +32,8 @@ fn push_application(
             b"it is in the other byte order than the schema",
         );
     }
-    match decode(alloc, plan, held.message) {
-        Ok(message) => write_named_lines(alloc, plan, &message, lines),
+    match print_named_wire(alloc, plan, held.message, draft, lines) {
+        Ok(()) => Ok(()),
         Err(DecodeError::Fault(fault)) => push_faulty(lines, held, fault),
         Err(DecodeError::Memory) => Err(AllocError),
     }
@@ -70,7 +67,7 @@ fn push_session_message(lines: &mut Vec<u8>, held: Held<'_>) -> Result<(), Alloc
     }
 }
 
-/// Adds the lines of what a frame holds.
+/// Adds the lines of what a frame holds. What the room of the draft has kept makes no difference.
 ///
 /// # Errors
 /// Want of memory.
@@ -79,15 +76,15 @@ pub fn push_held(
     alloc: Global,
     plan: &Plan,
     held: Held<'_>,
+    draft: &mut Draft,
     lines: &mut Vec<u8>,
 ) -> Result<(), AllocError>
-    requires legal { LegalPlan plan.now }
     requires header { 8 ≤ length held.message.now }
     requires short { length held.message.now ≤ 2 ^ 20 }
     ensures { OnOk result (lines.new.items ≡ lines.old.items ++ held_lines plan.now (record { order = held.entry.order; message = held.entry.message.now })) }
 {
     match kind(held.order, held.message) {
-        FrameKind::App => push_application(alloc, plan, held, lines),
+        FrameKind::App => push_application(alloc, plan, held, draft, lines),
         FrameKind::Session => push_session_message(lines, held),
         FrameKind::Wrong => push_unread(
             lines,

@@ -20,4 +20,4 @@ pub use parse::{first_message, next_message, parse_message, refused_line};
 pub use path::names_begin;
 pub use print::{print_message, write_lines, write_named_lines};
 pub use spare::Spare;
-pub use wire::{Draft, print_wire};
+pub use wire::{Draft, print_named_wire, print_wire};

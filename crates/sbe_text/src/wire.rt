@@ -64,11 +64,45 @@ pub fn print_wire(
     draft: &mut Draft,
     lines: &mut Vec<u8>,
 ) -> Result<(), DecodeError>
-    ensures lines { OnOk result (HasAdded plan.now message.now lines.old.items lines.new.items) }
+    ensures lines { OnOk result (HasAdded [] plan.now message.now lines.old.items lines.new.items) }
     ensures fault { (f : DecodeFault) → result ≡ Err (Fault f) → message_in plan.now message.now ≡ Err f }
     ensures kept { OnErr result (lines.new.items ≡ lines.old.items) }
 {
-    print_message(alloc, &[], plan, message, draft)?;
+    add_message(alloc, &[], plan, message, draft, lines)
+}
+
+/// Adds these lines with names: ` NAME` behind the number of an enum, and behind that of a set one for each bit that is set.
+///
+/// # Errors
+/// Those of `print_wire`.
+pub fn print_named_wire(
+    alloc: Global,
+    plan: &Plan,
+    message: &[u8],
+    draft: &mut Draft,
+    lines: &mut Vec<u8>,
+) -> Result<(), DecodeError>
+    ensures lines { OnOk result (HasAdded plan.now.listings plan.now message.now lines.old.items lines.new.items) }
+    ensures fault { (f : DecodeFault) → result ≡ Err (Fault f) → message_in plan.now message.now ≡ Err f }
+    ensures kept { OnErr result (lines.new.items ≡ lines.old.items) }
+{
+    add_message(alloc, plan.listings.as_slice(), plan, message, draft, lines)
+}
+
+// Adds the lines of a message, with names by listings.
+fn add_message(
+    alloc: Global,
+    listings: &[Listing],
+    plan: &Plan,
+    message: &[u8],
+    draft: &mut Draft,
+    lines: &mut Vec<u8>,
+) -> Result<(), DecodeError>
+    ensures lines { OnOk result (HasAdded listings.now plan.now message.now lines.old.items lines.new.items) }
+    ensures fault { (f : DecodeFault) → result ≡ Err (Fault f) → message_in plan.now message.now ≡ Err f }
+    ensures kept { OnErr result (lines.new.items ≡ lines.old.items) }
+{
+    print_message(alloc, listings, plan, message, draft)?;
     lines.extend_from_slice(draft.lines.as_slice())?;
     Ok(())
 }
