@@ -226,14 +226,14 @@ module _ {J : Type 0} {G : Ghosts J} where
 
   -- so does the connection that was made of them, if one was
   pub conn_rests : {E : Type 0} (config : EndConfig) (most : ℕ) (state : EndState) (h : History) (box : Inbox J G) (r : Result Conn E) (o : Option Conn) → o ≡ result_ok r
-      → IfOk r (λ conn. line_of conn ≡ new_line (fresh config state most)) → state.sent ≡ length h.made → state.sent < 2 ^ 40 → state.finish ≡ (if h.finished then Some (length h.made) else None)
+      → IfOk r (λ conn. line_of conn ≡ new_line (fresh config state most) 16) → state.sent ≡ length h.made → state.sent < 2 ^ 40 → state.finish ≡ (if h.finished then Some (length h.made) else None)
       → length config.credentials ≤ 2048 → flow_of box ≡ config.peer_flow → most ≤ (limits_of box).entries
       → next_of box ≡ state.inbox_next → is_negotiated box ≡ state.negotiated → peer_last_of box ≡ state.peer_last
       → IfSome o (λ conn. (p : Part) → BeginsHistory h p.seen → Rests (line_of conn).machine p box)
   conn_rests {E} config most state h box r o is made sent few finish credentials flow within next negotiated last =
       subst (λ (x : Option Conn). IfSome x (λ conn. (p : Part) → BeginsHistory h p.seen → Rests (line_of conn).machine p box)) (sym is) (of_result r made)
     where
-      of_result : (r : Result Conn E) → IfOk r (λ conn. line_of conn ≡ new_line (fresh config state most)) → IfSome (result_ok r) (λ conn. (p : Part) → BeginsHistory h p.seen → Rests (line_of conn).machine p box)
+      of_result : (r : Result Conn E) → IfOk r (λ conn. line_of conn ≡ new_line (fresh config state most) 16) → IfSome (result_ok r) (λ conn. (p : Part) → BeginsHistory h p.seen → Rests (line_of conn).machine p box)
       of_result (Ok conn) made = λ p begins. opened_rests config most state h (line_of conn).machine p box (ap (λ (l : Line). l.machine) made) begins sent few finish credentials flow within next negotiated last
       of_result (Err e) made = tt
 

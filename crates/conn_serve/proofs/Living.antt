@@ -288,10 +288,10 @@ module _ {J : Type 0} {G : Ghosts J} {tells : Type 0} where
   ended_one P G' first last n lacking dialed between later out mid_out now_out before seen clock ticked l new box since close next turned_on back closed lost lines =
       let on = turned_on.0 in
       let t = on.turned in
-      let leg : TurnedLeg = record { moment = on.moment; turns = t.turns; cut = None } in
+      let leg : TurnedLeg = record { per_turn = l.per_turn; moment = on.moment; turns = t.turns; cut = None } in
       let given : given_on leg ≡ flat_map given_in t.turns = ap (flat_map given_in) (append-nil t.turns) in
       let sent : sent_on leg ≡ flat_map sent_in t.turns = ap (flat_map sent_in) (append-nil t.turns) in
-      let began : TurnAt = record { told = G'.told first; carried = G'.carried first; seen = before; clock = on.clock; line = first_line l.machine on.moment } in
+      let began : TurnAt = record { told = G'.told first; carried = G'.carried first; seen = before; clock = on.clock; line = first_line l.per_turn l.machine on.moment } in
       let behind : TurnAt = record { told = G'.told last; carried = G'.carried last; seen = seen; clock = ticked; line = new } in
       record {
         connection = record {
@@ -304,7 +304,7 @@ module _ {J : Type 0} {G : Ghosts J} {tells : Type 0} where
           close = Some close;
           carried = G'.carried last;
         };
-        is_known = ((over_these G' first last before seen on.clock ticked (first_line l.machine on.moment) new, on.began.later, omega arith), turned_on.1);
+        is_known = ((over_these G' first last before seen on.clock ticked (first_line l.per_turn l.machine on.moment) new, on.began.later, omega arith), turned_on.1);
         closed = refl;
         ended = record {
           last = new;
@@ -345,12 +345,12 @@ module _ {J : Type 0} {G : Ghosts J} {tells : Type 0} where
   gave_one P G' first last why dialed between later out now_out before seen clock ticked l new box since next given_on back =
       let on = given_on.0 in
       let g = on.given_up in
-      let began : TurnAt = record { told = G'.told first; carried = G'.carried first; seen = before; clock = on.clock; line = first_line l.machine on.moment } in
+      let began : TurnAt = record { told = G'.told first; carried = G'.carried first; seen = before; clock = on.clock; line = first_line l.per_turn l.machine on.moment } in
       let behind : TurnAt = record { told = G'.told last; carried = G'.carried last; seen = seen; clock = ticked; line = new } in
       record {
         connection = record {
           link = record { eager = G'.eager; first = began; end = behind; faults_before = G'.faults first; faults_behind = G'.faults last };
-          leg = record { moment = on.moment; turns = g.turns; cut = g.cut };
+          leg = record { per_turn = l.per_turn; moment = on.moment; turns = g.turns; cut = g.cut };
           news = g.news ++ g.cut_told;
           adds = g.adds ++ g.cut_added;
           refused = g.refused;
@@ -358,7 +358,7 @@ module _ {J : Type 0} {G : Ghosts J} {tells : Type 0} where
           close = None;
           carried = G'.carried last;
         };
-        is_known = ((over_these G' first last before seen on.clock ticked (first_line l.machine on.moment) new, on.began.later, omega arith), given_on.1);
+        is_known = ((over_these G' first last before seen on.clock ticked (first_line l.per_turn l.machine on.moment) new, on.began.later, omega arith), given_on.1);
         unclosed = refl;
         last = g.behind.line;
         is = record {

@@ -81,7 +81,7 @@ abbrev pub course_at : Side → Course
 course_at s = beginning s.state s.inbox s.leg.moment
 
 abbrev pub line_at : Side → Line
-line_at s = first_line s.state s.leg.moment
+line_at s = first_line s.leg.per_turn s.state s.leg.moment
 
 pub writes_legal : (s : Side) → IsReady s.outbox s.state s.inbox → IsInTime s.leg.moment → s.state.facts.recorded.sent ≤ length s.outbox.made → WritesLegal s.outbox (course_at s)
 writes_legal s k time enough cs may fits = (written_is_legal s.outbox.made s.state s.inbox s.leg.moment cs k.range enough k.entries time may fits).legal

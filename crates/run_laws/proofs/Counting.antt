@@ -120,7 +120,7 @@ counted_on s tried kept rest k enough w all = record {
     c = course_after b whole
 
     stands : StandsAt h c last
-    stands = (turns_stand h k.turns.before k.turns.after (first_line s.state s.leg.moment) last s.leg.turns b (begin_stands h s.state s.inbox s.leg.moment k.ready.awaits enough) k.turns.has k.turns.turns k.turns.faithful).after
+    stands = (turns_stand h k.turns.before k.turns.after (first_line s.leg.per_turn s.state s.leg.moment) last s.leg.turns b (begin_stands h s.leg.per_turn s.state s.inbox s.leg.moment k.ready.awaits enough) k.turns.has k.turns.turns k.turns.faithful).after
 
     -- the inbox behind its whole turns and this one
     inbox_with : Option Turn → List InboxRecord

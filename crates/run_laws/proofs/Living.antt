@@ -152,9 +152,9 @@ module _ {J : Type 0} {G : Ghosts J} {tells : Type 0} (at behind : LifeAt J G) (
   led_to c g t moment same = record {
     before = k.behind;
     after = g.1.behind.seen;
-    turns = subst (λ (s : State). AreTurns k.behind g.1.behind.seen (first_line s t.moment) g.0 t.turns) (sym there)
-        (subst (λ (n : ℕ). AreTurns k.behind g.1.behind.seen (first_line k.mid n) g.0 t.turns) (sym moment)
-        (subst (λ (ts : List Turn). AreTurns k.behind g.1.behind.seen (first_line k.mid c.leg.moment) g.0 ts) (sym same) (turns_of k.behind behind.seen k.mid g.0 c g.1)));
+    turns = subst (λ (s : State). AreTurns k.behind g.1.behind.seen (first_line t.per_turn s t.moment) g.0 t.turns) (sym there)
+        (subst (λ (n : ℕ). AreTurns k.behind g.1.behind.seen (first_line c.leg.per_turn k.mid n) g.0 t.turns) (sym moment)
+        (subst (λ (ts : List Turn). AreTurns k.behind g.1.behind.seen (first_line c.leg.per_turn k.mid c.leg.moment) g.0 ts) (sym same) (turns_of k.behind behind.seen k.mid g.0 c g.1)));
   }
 
   left_by : (t : TurnedLeg) (ts : List TurnedLeg) (o : Option Connection) (g : WasGivenUp k.behind behind.seen k.mid o) (x : Line) → line_given k.behind behind.seen k.mid o g ≡ Some x
