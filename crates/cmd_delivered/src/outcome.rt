@@ -26,18 +26,13 @@ pub enum Outcome {
     Config(ConfigFault),
     /// A text could not be read.
     #[error("input: SCHEMA or LINES could not be read")]
-    InputFault {
-        text: Text,
-    },
+    InputFault { text: Text },
     /// OUT could not be written.
     #[error("output: OUT could not be written")]
     OutputFault,
     /// The line of this number, from 1 on, is refused; the text of those before it was written.
     #[error("message: a line of LINES is refused")]
-    Refused {
-        line: u64,
-        wrong: Wrong,
-    },
+    Refused { line: u64, wrong: Wrong },
     /// Want of memory.
     #[error("out of memory")]
     Memory,

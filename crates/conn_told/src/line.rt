@@ -135,12 +135,7 @@ fn message_of(order: Order, payload: &[u8]) -> Option<&[u8]>
 }
 
 /// Adds the text of a message.
-fn add_message(
-    alloc: Global,
-    plan: &Plan,
-    message: &[u8],
-    text: &mut Vec<u8>,
-) -> Result<(), Stop>
+fn add_message(alloc: Global, plan: &Plan, message: &[u8], text: &mut Vec<u8>) -> Result<(), Stop>
     requires { LegalPlan plan.now }
     ensures { AddsMessage plan.now message.now text.old.items text.new.items result }
 {

@@ -7,6 +7,7 @@ mod dumping;
 mod extending;
 mod feeding;
 mod piped;
+mod planning;
 mod progress;
 mod rehearsals;
 mod sessions;
@@ -21,6 +22,7 @@ use extending::{ExtendsFiles, extends_over_files};
 use feeding::{AcceptedFile, Feeds, feed_over_sockets};
 use gw_fed_files::ComingFile;
 use gw_real::{FileDisk, Opening};
+use planning::{PlanFiles, plan_over_files};
 use rehearsals::{RehearsalFiles, rehearse_over_files};
 use session_files::Session;
 use sessions::{SessionFiles, hold_stream, run_over_sockets};
@@ -93,6 +95,9 @@ fn run_words<R: Threads + Wait + Sync + Clock + Files<File = File> + Print + Epr
     }
     if let Some(files) = ExtendsFiles::of(words) {
         return extends_over_files(rt, files);
+    }
+    if let Some(files) = PlanFiles::of(words) {
+        return plan_over_files(rt, files);
     }
     if let Some(files) = DeliveredFiles::of(words) {
         return tell_over_files(rt, files);

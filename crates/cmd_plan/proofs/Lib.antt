@@ -1,0 +1,7 @@
+mod Giving
+mod Entries
+mod Texts
+mod Taking
+mod Reading
+mod Rounds
+mod Running

@@ -1,0 +1,5 @@
+pub mod Entries
+pub mod Lines
+pub mod Planned
+pub mod Promise
+pub mod Progress
