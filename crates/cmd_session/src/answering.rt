@@ -32,7 +32,7 @@ use crate::life::{made_gate, status_of};
 use crate::outside::Live;
 use cmd_base::Status;
 use cmd_config::Trade;
-use conn_serve::{Answering, ServeFault, serve_answering};
+use conn_serve::{Answering, Lent, Opening, ServeFault, answer_lent};
 use fixp_shake::EndConfig;
 use gate_business::{Business, give_connection, take_connection};
 use gate_plans::OpenDoor;
@@ -124,6 +124,14 @@ fn desk_sends<O: Journal + Send>()
     sends::<Desk<O>>();
 }
 
+/// What a life of those who answer came to: its answer, what it was lived on, and all passes.
+pub struct Answered<K, N, O: Journal, I: Journal, C> {
+    pub answer: Result<(), ServeFault>,
+    pub devices: Live<K, N, C>,
+    pub inbox: Inbox<I>,
+    pub passes: Passes<Kept<O>>,
+}
+
 /// Serves the connections of the dialer, with a business of so many desks that answers what they apply. All passes come back.
 fn serve_business<
     O: Journal + Send,
@@ -139,55 +147,46 @@ fn serve_business<
     config: EndConfig,
     business: B,
     desks: u16,
-    devices: &mut Live<K, N, C>,
     gate: &Gate<O>,
-    pass: Pass<Kept<O>>,
-    inbox: &mut Inbox<I>,
-) -> (Result<(), ServeFault>, Passes<Kept<O>>)
-    requires count { B.count business ≡ desks }
-    requires senders { senders_of gate.now ≡ desks }
-    requires some { 0 < desks }
-    requires few { desks ≤ 16 }
+    lent: Lent<K, N, O, I, C>,
+) -> Answered<K, N, O, I, C>
+    requires count { (B.count business ≡ desks) × (senders_of gate.now ≡ desks) × (0 < desks) × (desks ≤ 16) }
     requires has { B.has business (lock_of gate.now) }
     requires parts { (n : ℕ) → In desks n → B.part business n ≡ made_part (desks + 1) (opening_of gate.now) n }
-    requires last { known pass ≡ made_part (desks + 1) (opening_of gate.now) (desks + 1) }
-    requires own { IsPassAt gate.now pass }
-    requires free { IsFree pass }
-    requires sent { length (opening_of gate.now).history.made < 2 ^ 40 }
-    requires in_sound { inboxes.is_broken inbox.old ≡ false }
-    requires held { ∥ ((i : List InboxRecord) × inboxes.HoldsBox inbox.old i []) ∥₁ }
-    requires lent { N.lent devices.old.dialer ≡ false }
-    requires flow { inboxes.flow_of inbox.old ≡ config.peer_flow }
-    requires limit { (inboxes.limits_of inbox.old).entries ≡ 2 ^ 26 }
-    requires numbered { inboxes.flow_of inbox.old ≡ flows.Recoverable → inboxes.next_of inbox.old + 1 < 2 ^ 64 }
-    requires least { 100 ≤ config.keepalive }
-    requires greatest { config.keepalive ≤ 60000 }
-    requires credentials { length config.credentials ≤ 2048 }
-    ensures back { AllBackAt gate.now result.1 }
-    ensures lived { LivesOnceClosed (clocked O.tells N.Link.Link (C.last devices.old.clock) (C.last devices.new.clock)) config (answering (B.plan business) (B.count business)) (beside (N.told devices.old.dialer) (K.taken devices.old.out) inbox.old) (beside (N.told devices.new.dialer) (K.taken devices.new.out) inbox.new) gate.now result.1 result.0 }
-    ensures output { result.0 ≡ Err faults.Output → HasRisen (K.faults devices.old.out) (K.faults devices.new.out) }
-    ensures dial { result.0 ≡ Err faults.Dial → HasRisen (N.faults devices.old.dialer) (N.faults devices.new.dialer) }
-    ensures lent { N.lent devices.new.dialer ≡ false }
-    ensures never_falls { (inboxes.faults_of inbox.old ≤ inboxes.faults_of inbox.new) × (K.faults devices.old.out ≤ K.faults devices.new.out) × (N.faults devices.old.dialer ≤ N.faults devices.new.dialer) }
+    requires last { known lent.pass ≡ made_part (desks + 1) (opening_of gate.now) (desks + 1) }
+    requires in_sound { inboxes.is_broken lent.inbox ≡ false }
+    requires held { ∥ ((i : List InboxRecord) × inboxes.HoldsBox lent.inbox i []) ∥₁ }
+    requires may { MayOpen (hears K.Sink N.Dialer N.Link.Link C.Clock) gate.now config (2 ^ 26) lent }
+    ensures back { AllBackAt gate.now result.passes }
+    ensures lived { LivesOnceClosed (clocked O.tells N.Link.Link (C.last lent.clock) (C.last result.devices.clock)) config (answering (B.plan business) (B.count business)) (beside (N.told lent.dialer) (K.taken lent.out) lent.inbox) (beside (N.told result.devices.dialer) (K.taken result.devices.out) result.inbox) gate.now result.passes result.answer }
+    ensures output { result.answer ≡ Err faults.Output → HasRisen (K.faults lent.out) (K.faults result.devices.out) }
+    ensures dial { result.answer ≡ Err faults.Dial → HasRisen (N.faults lent.dialer) (N.faults result.devices.dialer) }
+    ensures unlent { N.lent result.devices.dialer ≡ false }
+    ensures never_falls { (inboxes.faults_of lent.inbox ≤ inboxes.faults_of result.inbox) × (K.faults lent.out ≤ K.faults result.devices.out) × (N.faults lent.dialer ≤ N.faults result.devices.dialer) }
 {
-    let mut pass = pass;
     let mut answering = Answering::new(alloc, business);
-    let answer = serve_answering(
+    let opening = Opening {
         alloc,
-        &mut devices.dialer,
-        &mut devices.out,
         gate,
-        &mut pass,
-        inbox,
-        &mut devices.clock,
         config,
-        MOST,
-        &mut answering,
-        rt,
-    );
+        most: MOST,
+    };
+    let (answer, lent) = answer_lent(opening, lent, &mut answering, rt);
     let mut passes = answering.end().end();
+    let Lent {
+        out,
+        dialer,
+        clock,
+        pass,
+        inbox,
+    } = lent;
     give_connection(gate, &mut passes, desks, pass);
-    (answer, passes)
+    Answered {
+        answer,
+        devices: Live { out, dialer, clock },
+        inbox,
+        passes,
+    }
 }
 
 /// All passes of so many desks and of the connection, where there was no memory for those who answer.

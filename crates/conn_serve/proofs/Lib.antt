@@ -2,7 +2,8 @@ pub mod Fewness
 pub mod Making
 pub mod Turning
 pub mod Cutting
-pub mod Living
+pub mod Lasting
+mod Living
 pub mod Opening
 pub mod Marking
 pub mod Following
