@@ -1,7 +1,7 @@
 //! The items of a block, each at its offset.
 
 ghost use Rattle.std.specs.Prelude.{◌≡◌, ◌++◌, ◌-◌, ◌≤◌, length, IsTrue, OnOk};
-ghost use Rattle.sbe_grammar.specs.Canonical.{item_bytes, block_bytes, is_written};
+ghost use Rattle.sbe_grammar.specs.Canonical.{item_bytes, block_bytes, is_written, zeros};
 ghost use Rattle.sbe_encode.specs.Faults.{item_fault, items_fault};
 ghost use Rattle.sbe_encode.specs.Writes.{Writes};
 
@@ -66,6 +66,15 @@ pub struct Extent {
     pub size: u128,
 }
 
+// Writes zeros up to the end of a block.
+fn end_block(block: Extent, out: &mut Vec<u8>) -> Result<(), AllocError>
+    requires { block.start ≤ length out.old.items }
+    ensures { OnOk result (out.new.items ≡ out.old.items ++ zeros (block.size - (length out.old.items - block.start))) }
+{
+    let at = (out.len() - block.start) as u128;
+    write_zeros(block.size.saturating_sub(at), out)
+}
+
 /// Writes the items of a block, and zeros wherever no item stands.
 pub fn write_items(
     alloc: Global,
@@ -79,14 +88,15 @@ pub fn write_items(
     requires { block.start ≤ length out.old.items }
     ensures { Writes result out.old.items out.new.items (block_bytes order block.size (length out.old.items - block.start) plans.now items.now) (items_fault listings.now plans.now items.now) }
 {
-    let at = (out.len() - block.start) as u128;
-    match (plans, items) {
-        ([plan, plans @ ..], [item, items @ ..]) => {
-            write_zeros(plan.offset.saturating_sub(at), out)?;
-            write_item(alloc, order, listings, plan, item, out)?;
-            write_items(alloc, order, listings, block, plans, items, out)
-        }
-        ([], _) => Ok(write_zeros(block.size.saturating_sub(at), out)?),
-        ([_plan, _plans @ ..], []) => Ok(write_zeros(block.size.saturating_sub(at), out)?),
+    let mut left = items;
+    for plan in plans {
+        let [item, others @ ..] = left else {
+            return Ok(end_block(block, out)?);
+        };
+        let at = (out.len() - block.start) as u128;
+        write_zeros(plan.offset.saturating_sub(at), out)?;
+        write_item(alloc, order, listings, plan, item, out)?;
+        left = others;
     }
+    Ok(end_block(block, out)?)
 }

@@ -1,9 +1,9 @@
 -- Decimal digits, one after another.
 use Rattle.std.proofs.Common.{◌≡◌, ℕ, zero, suc, ◌+◌, ◌-◌, ◌*◌, ◌<◌, ◌≤◌, true, List, [], ◌∷◌, length, drop, get_or, refl, ap, arith, add-one}
-use Rattle.std.specs.Prelude.{nat_le, Some, None, if◌then◌else◌}
+use Rattle.std.specs.Prelude.{◌&&◌, nat_le, Some, None, if◌then◌else◌}
 use Rattle.std.proofs.lemmas.Bool.Decides.{nat_tests}
 use Rattle.std.specs.Char.{digit_value}
-use Rattle.std.specs.Str.Parse.{digits_value_after}
+use Rattle.std.specs.Str.Parse.{digits_value, digits_value_after}
 use Rattle.sbe_text.specs.Tokens.{is_digit, are_digits}
 
 -- digits behind a number make it no smaller
@@ -36,6 +36,29 @@ digits_left ds i p h = rw add-one (left ds i p h)
     left (d ∷ ds) zero p h = digits_rest d ds h
     left (d ∷ ds) (suc i) p h = left ds i (omega arith) h
 
+-- one digit more
+pub digits_step : (ds : List ℕ) (i n : ℕ) → i < length ds → is_digit (get_or ds i 0) ≡ true → digits_value_after 10 n (drop i ds) ≡ digits_value_after 10 (n * 10 + (get_or ds i 0 - 48)) (drop (i + 1) ds)
+digits_step ds i n p h = rw add-one (step ds i n p h)
+  where
+    step : (ds : List ℕ) (i n : ℕ) → i < length ds → is_digit (get_or ds i 0) ≡ true → digits_value_after 10 n (drop i ds) ≡ digits_value_after 10 (n * 10 + (get_or ds i 0 - 48)) (drop (suc i) ds)
+    step [] i n p h = absurd (omega arith)
+    step (d ∷ ds) zero n p h = ap (λ v. digits_value_after 10 (n * 10 + v) ds) (value_of_digit d h)
+    step (d ∷ ds) (suc i) n p h = step ds i n (omega arith) h
+
+pub are_digits_step : (ds : List ℕ) (i : ℕ) → i < length ds → is_digit (get_or ds i 0) ≡ true → are_digits (drop (i + 1) ds) ≡ are_digits (drop i ds)
+are_digits_step ds i p h = rw add-one (step ds i p h)
+  where
+    step : (ds : List ℕ) (i : ℕ) → i < length ds → is_digit (get_or ds i 0) ≡ true → are_digits (drop (suc i) ds) ≡ are_digits (drop i ds)
+    step [] i p h = absurd (omega arith)
+    step (d ∷ ds) zero p h = rw h refl
+    step (d ∷ ds) (suc i) p h = step ds i (omega arith) h
+
+pub no_digits_left : (ds : List ℕ) (i : ℕ) → length ds ≤ i → are_digits (drop i ds) ≡ true
+no_digits_left [] zero p = refl
+no_digits_left [] (suc i) p = refl
+no_digits_left (d ∷ ds) zero p = absurd (omega arith)
+no_digits_left (d ∷ ds) (suc i) p = no_digits_left ds i (omega arith)
+
 pub digits_done : (ds : List ℕ) (i n : ℕ) → length ds ≤ i → digits_value_after 10 n (drop i ds) ≡ n
 digits_done [] zero n p = refl
 digits_done [] (suc i) n p = refl
@@ -44,6 +67,10 @@ digits_done (d ∷ ds) (suc i) n p = digits_done ds i n (omega arith)
 
 within : (n most : ℕ) → n ≤ most → nat_le n most ≡ true
 within n most p = grind (arith, nat_tests)
+
+-- digits whose number is held
+pub held_digits : (ds : List ℕ) (n most : ℕ) → are_digits ds ≡ true → digits_value 10 ds ≡ n → n ≤ most → Some n ≡ (if are_digits ds && nat_le (digits_value 10 ds) most then Some (digits_value 10 ds) else None)
+held_digits ds n most digits e p = rw (digits, e, within n most p) refl
 
 -- a number that is held is the one that the digits make
 pub held_number : (m n most : ℕ) → m ≡ n → n ≤ most → Some n ≡ (if nat_le m most then Some m else None)

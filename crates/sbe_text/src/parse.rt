@@ -14,7 +14,7 @@ ghost use Rattle.sbe_text.specs.Tokens.{value_on, is_line};
 ghost use Rattle.sbe_text.specs.Reading.{read_item, read_datum, read_elements, read_entries, read_group, read_groups, named, layout_on, read_message, alone, message_of_text};
 
 use crate::error::{Refusal, TextError};
-use crate::path::begin_names;
+use crate::path::{open_entry, open_group};
 use crate::spare::Spare;
 use crate::token::{Count, behind, datum, entry_count, value, value_on};
 use sbe_layout::{BlockPlan, DataPlan, GroupPlan, ItemPlan, MessagePlan, MessagePlans, Plan};
@@ -342,9 +342,12 @@ fn read_entries<'a>(
 {
     let mut entries = room_for(alloc, &plan.block, count)?;
     let mut inner = Vec::new(alloc);
+    inner.extend_from_slice(before)?;
+    open_group(&plan.name, &mut inner)?;
+    let opened = inner.len();
     let mut left = left;
     for at in 0..count {
-        begin_names(before, plan, at, &mut inner)?;
+        open_entry(opened, at, &mut inner)?;
         let (entry, rest) = read_block(alloc, spare, inner.as_slice(), &plan.block, left)?;
         entries.push(entry)?;
         left = rest;

@@ -1,6 +1,6 @@
 //! What stands on a line: the path of an element, and its value.
 
-ghost use Rattle.std.specs.Prelude.{◌≡◌, true, IfOk, ◌^◌, ◌-◌, nat_le, if◌then◌else◌, codes};
+ghost use Rattle.std.specs.Prelude.{◌≡◌, true, IfOk, IfSome, ◌^◌, ◌-◌, ◌&&◌, nat_le, if◌then◌else◌, codes};
 ghost use Rattle.std.specs.Str.{bytes_eq};
 ghost use Rattle.sbe_prim.specs.Primitives.{is_integer};
 ghost use Rattle.sbe_schema.specs.Kinds.{is_char};
@@ -214,10 +214,38 @@ fn natural(text: &[u8]) -> Option<u128>
     ensures { result ≡ natural_of text.now }
 {
     let first = *text.first()?;
-    if !are_digits(text) || (first == b'0' && text.len() > 1) {
+    if first == b'0' && text.len() > 1 {
         return None;
     }
     digits_value(text)
+}
+
+// The number of decimal digits, where 128 bits hold it; none where a byte is no digit. Most are held by 64 bits: their digits
+// are looked at once, and cost a part of the others'.
+fn digits_value(text: &[u8]) -> Option<u128>
+    ensures { result ≡ (if are_digits text.now && nat_le (digits_value 10 text.now) (2 ^ 128 - 1) then Some (digits_value 10 text.now) else None) }
+{
+    match short_value(text) {
+        Some(number) => Some(u128::from(number)),
+        None if are_digits(text) => long_value(text),
+        None => None,
+    }
+}
+
+// The number of decimal digits, where 64 bits hold it.
+#[tactic(auto, using(crate::proofs::Numerals::digits_step, crate::proofs::Numerals::are_digits_step))]
+fn short_value(text: &[u8]) -> Option<u64>
+    ensures { IfSome result (λ n. (are_digits text.now ≡ true) × (digits_value 10 text.now ≡ n)) }
+{
+    let mut number = 0u64;
+    for byte in text {
+        if !byte.is_ascii_digit() {
+            return None;
+        }
+        let value = u64::from(byte.saturating_sub(b'0'));
+        number = number.checked_mul(10)?.checked_add(value)?;
+    }
+    Some(number)
 }
 
 fn are_digits(text: &[u8]) -> bool
@@ -231,30 +259,7 @@ fn are_digits(text: &[u8]) -> bool
     true
 }
 
-// The number of decimal digits, where 128 bits hold it. Most are held by 64 bits, whose digits cost a part of the others'.
-fn digits_value(digits: &[u8]) -> Option<u128>
-    requires { are_digits digits.now ≡ true }
-    ensures { result ≡ (if nat_le (digits_value 10 digits.now) (2 ^ 128 - 1) then Some (digits_value 10 digits.now) else None) }
-{
-    match short_value(digits) {
-        Some(number) => Some(u128::from(number)),
-        None => long_value(digits),
-    }
-}
-
-#[tactic(auto, using(crate::proofs::Numerals::digits_grow, crate::proofs::Numerals::digits_next, crate::proofs::Numerals::digits_left))]
-fn short_value(digits: &[u8]) -> Option<u64>
-    requires { are_digits digits.now ≡ true }
-    ensures { result ≡ (if nat_le (digits_value 10 digits.now) (2 ^ 64 - 1) then Some (digits_value 10 digits.now) else None) }
-{
-    let mut number = 0u64;
-    for digit in digits {
-        let value = u64::from(digit.saturating_sub(b'0'));
-        number = number.checked_mul(10)?.checked_add(value)?;
-    }
-    Some(number)
-}
-
+// The number of decimal digits, where 128 bits hold it.
 #[tactic(auto, using(crate::proofs::Numerals::digits_grow, crate::proofs::Numerals::digits_next, crate::proofs::Numerals::digits_left))]
 fn long_value(digits: &[u8]) -> Option<u128>
     requires { are_digits digits.now ≡ true }
