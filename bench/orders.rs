@@ -1,6 +1,7 @@
 //! A hand-written decoder and encoder of orders, with buffered files and no proof: it does the work of `fixpgw decode` and
 //! `fixpgw encode` for the message NewOrder of examples/orders.toml at version 2, and for nothing else. It is what the
-//! program's time is compared with, and no part of the product.
+//! program's time is compared with, and no part of the product. Each is there twice: as Rust is mostly written, with `write!`
+//! and `str::parse`; and tuned, with digits that are written and read by hand.
 use std::fs::File;
 use std::io::{BufReader, BufWriter, Read, Write};
 
@@ -129,7 +130,81 @@ fn print_order(order: &Order, out: &mut impl Write) -> std::io::Result<()> {
     writeln!(out, "end")
 }
 
-fn decode(input: &str, out: &str) -> std::io::Result<()> {
+/// Adds the digits of a number.
+fn digits(mut n: u64, out: &mut Vec<u8>) {
+    let mut room = [0u8; 20];
+    let mut at = room.len();
+    loop {
+        at -= 1;
+        room[at] = b'0' + (n % 10) as u8;
+        n /= 10;
+        if n == 0 {
+            break;
+        }
+    }
+    out.extend_from_slice(&room[at..]);
+}
+
+/// A line of a number that may stand in an entry of a group.
+fn number_line(group: &str, at: Option<usize>, name: &str, n: u64, out: &mut Vec<u8>) {
+    out.extend_from_slice(group.as_bytes());
+    if let Some(at) = at {
+        out.push(b'[');
+        digits(at as u64, out);
+        out.extend_from_slice(b"].");
+    }
+    out.extend_from_slice(name.as_bytes());
+    out.extend_from_slice(b" = ");
+    digits(n, out);
+    out.push(b'\n');
+}
+
+fn print_tuned(order: &Order, out: &mut Vec<u8>) {
+    out.extend_from_slice(b"message NewOrder\n");
+    number_line("", None, "cl_id", order.cl_id, out);
+    number_line("", None, "side", order.side.into(), out);
+    let end = order.symbol.iter().position(|b| *b == 0).unwrap_or(8);
+    let symbol = &order.symbol[..end];
+    out.extend_from_slice(b"symbol = ");
+    if symbol.iter().all(|b| (0x20..=0x7e).contains(b) && *b != b'"' && *b != b'\\') {
+        out.push(b'"');
+        out.extend_from_slice(symbol);
+        out.extend_from_slice(b"\"\n");
+    } else {
+        out.push(b'x');
+        for b in symbol {
+            let digits = b"0123456789abcdef";
+            out.extend_from_slice(&[digits[usize::from(b / 16)], digits[usize::from(b % 16)]]);
+        }
+        out.push(b'\n');
+    }
+    number_line("", None, "quantity", order.quantity.into(), out);
+    out.extend_from_slice(b"price.mantissa = ");
+    if order.mantissa < 0 {
+        out.push(b'-');
+    }
+    digits(order.mantissa.unsigned_abs(), out);
+    out.push(b'\n');
+    if order.account == u32::MAX {
+        out.extend_from_slice(b"account = null\n");
+    } else {
+        number_line("", None, "account", order.account.into(), out);
+    }
+    number_line("", None, "parties", order.parties.len() as u64, out);
+    for (i, party) in order.parties.iter().enumerate() {
+        number_line("parties", Some(i), "role", party.role.into(), out);
+        number_line("parties", Some(i), "party", party.party.into(), out);
+        number_line("parties", Some(i), "desk", party.desk.into(), out);
+    }
+    number_line("", None, "tags", order.tags.len() as u64, out);
+    for (i, tag) in order.tags.iter().enumerate() {
+        number_line("tags", Some(i), "tag", (*tag).into(), out);
+    }
+    out.extend_from_slice(b"end\n");
+}
+
+fn decode(input: &str, out: &str, is_tuned: bool) -> std::io::Result<()> {
+    let mut lines = Vec::new();
     let mut input = BufReader::with_capacity(32 * 1024, File::open(input)?);
     let mut out = BufWriter::with_capacity(32 * 1024, File::create(out)?);
     let mut header = [0u8; 6];
@@ -141,7 +216,13 @@ fn decode(input: &str, out: &str) -> std::io::Result<()> {
         }
         let message = &mut message[..size - 6];
         input.read_exact(message)?;
-        print_order(&read_order(message), &mut out)?;
+        if is_tuned {
+            lines.clear();
+            print_tuned(&read_order(message), &mut lines);
+            out.write_all(&lines)?;
+        } else {
+            print_order(&read_order(message), &mut out)?;
+        }
     }
     out.flush()
 }
@@ -150,7 +231,39 @@ fn decode(input: &str, out: &str) -> std::io::Result<()> {
 struct Lines<'a> {
     left: &'a [u8],
     number: usize,
+    is_tuned: bool,
 }
+
+/// The number of some digits and how many there are; none where it is too great.
+fn natural(text: &[u8]) -> Option<(u64, usize)> {
+    let (mut number, mut count) = (0u64, 0);
+    for digit in text {
+        let value = digit.wrapping_sub(b'0');
+        if value > 9 {
+            break;
+        }
+        number = number.checked_mul(10)?.checked_add(value.into())?;
+        count += 1;
+    }
+    Some((number, count))
+}
+
+/// An integer of a field, by its sign and its magnitude.
+trait Field: std::str::FromStr {
+    fn of(is_negative: bool, magnitude: u64) -> Option<Self>;
+}
+
+macro_rules! fields {
+    ($($t:ty)*) => {
+        $(impl Field for $t {
+            fn of(is_negative: bool, magnitude: u64) -> Option<Self> {
+                if is_negative { Self::try_from(-i128::from(magnitude)).ok() } else { Self::try_from(magnitude).ok() }
+            }
+        })*
+    };
+}
+
+fields!(u8 u16 u32 u64 usize i64);
 
 impl<'a> Lines<'a> {
     fn next(&mut self) -> &'a [u8] {
@@ -172,12 +285,16 @@ impl<'a> Lines<'a> {
             None => Some(rest),
             Some(at) => {
                 let rest = rest.strip_prefix(b"[")?;
-                let digits = rest.iter().take_while(|b| b.is_ascii_digit()).count();
-                let (number, rest) = rest.split_at(digits);
-                if std::str::from_utf8(number).unwrap().parse::<usize>().ok()? != at {
+                let (number, count) = if self.is_tuned {
+                    natural(rest)?
+                } else {
+                    let count = rest.iter().take_while(|b| b.is_ascii_digit()).count();
+                    (std::str::from_utf8(&rest[..count]).unwrap().parse().ok()?, count)
+                };
+                if number != at as u64 {
                     return None;
                 }
-                rest.strip_prefix(b"].")
+                rest[count..].strip_prefix(b"].")
             }
         });
         match rest.and_then(|rest| rest.strip_prefix(name.as_bytes())).and_then(|rest| rest.strip_prefix(b" = ")) {
@@ -186,7 +303,16 @@ impl<'a> Lines<'a> {
         }
     }
 
-    fn number<T: std::str::FromStr>(&self, value: &[u8]) -> T {
+    fn number<T: Field>(&self, value: &[u8]) -> T {
+        if self.is_tuned {
+            let digits = value.strip_prefix(b"-").unwrap_or(value);
+            return match natural(digits) {
+                Some((number, count)) if count == digits.len() && count > 0 && (digits[0] != b'0' || value.len() == 1) => {
+                    T::of(digits.len() < value.len(), number).unwrap_or_else(|| self.refuse())
+                }
+                _ => self.refuse(),
+            };
+        }
         let digits = value.strip_prefix(b"-").unwrap_or(value);
         if digits.is_empty() || !digits.iter().all(u8::is_ascii_digit) || (digits[0] == b'0' && value.len() > 1) {
             self.refuse();
@@ -285,9 +411,9 @@ fn write_order(order: &Order, bytes: &mut Vec<u8>) {
 }
 
 /// Reads and parses the whole text before it writes, as `fixpgw encode` does.
-fn encode(input: &str, wire: &str) -> std::io::Result<()> {
+fn encode(input: &str, wire: &str, is_tuned: bool) -> std::io::Result<()> {
     let text = std::fs::read(input)?;
-    let mut lines = Lines { left: &text, number: 0 };
+    let mut lines = Lines { left: &text, number: 0, is_tuned };
     let mut orders = Vec::new();
     while !lines.left.is_empty() {
         orders.push(parse_order(&mut lines));
@@ -307,8 +433,10 @@ fn encode(input: &str, wire: &str) -> std::io::Result<()> {
 fn main() -> std::io::Result<()> {
     let args: Vec<String> = std::env::args().collect();
     match args[1].as_str() {
-        "decode" => decode(&args[2], &args[3]),
-        "encode" => encode(&args[2], &args[3]),
-        _ => fault("decode INPUT OUT, or encode INPUT WIRE"),
+        "decode" => decode(&args[2], &args[3], false),
+        "encode" => encode(&args[2], &args[3], false),
+        "decode-tuned" => decode(&args[2], &args[3], true),
+        "encode-tuned" => encode(&args[2], &args[3], true),
+        _ => fault("decode INPUT OUT, or encode INPUT WIRE; decode-tuned or encode-tuned, the same tuned"),
     }
 }

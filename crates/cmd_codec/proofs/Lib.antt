@@ -6,3 +6,4 @@ pub mod Fronts
 pub mod Reading
 pub mod Rows
 pub mod Steps
+pub mod Framed

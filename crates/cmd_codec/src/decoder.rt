@@ -8,6 +8,7 @@ ghost use Rattle.cmd_codec.specs.Decoding.{Takes, TakesAll};
 use crate::print::{Placed, print_frame};
 use cmd_base::{Bad, Status};
 use sbe_layout::Plan;
+use sbe_text::Draft;
 use sofh_frame::{FirstFrame, Framer};
 use std::alloc::{AllocError, Global};
 
@@ -18,6 +19,8 @@ pub struct Decoder {
     pub framer: Framer,
     /// The lines not pushed.
     pub lines: Vec<u8>,
+    /// Room for those of one message.
+    pub draft: Draft,
     /// The number of the next frame, from 1.
     pub number: u64,
     /// The place of the next frame in the input, in bytes from 0.
@@ -35,6 +38,7 @@ impl Decoder {
         Ok(Decoder {
             framer: Framer::new(alloc)?,
             lines: Vec::new(alloc),
+            draft: Draft::new(alloc),
             number: 1,
             place: 0,
         })
@@ -57,7 +61,7 @@ impl Decoder {
                     order,
                     message,
                 };
-                match print_frame(alloc, plan, frame, &mut self.lines) {
+                match print_frame(alloc, plan, frame, &mut self.draft, &mut self.lines) {
                     Ok(()) => {
                         self.pass(size);
                         Ok(true)

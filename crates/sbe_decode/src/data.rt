@@ -14,8 +14,11 @@ use sbe_prim::size;
 use sbe_value::{Bytes, Datum};
 use std::alloc::Global;
 
-// The bytes of a datum that the message has, and those behind them.
-fn datum_bytes<'a>(
+/// The bytes of a datum that the message has, and those behind them.
+///
+/// # Errors
+/// `Truncated` where its length or its bytes are not all there.
+pub fn datum_bytes<'a>(
     reading: Reading,
     plan: &DataPlan,
     left: &'a [u8],

@@ -6,4 +6,5 @@ pub mod Printed
 pub mod Shrinking
 pub mod Steps
 pub mod Texts
+pub mod Walked
 pub mod Weights

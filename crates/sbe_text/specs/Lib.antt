@@ -5,3 +5,4 @@ pub mod Reading
 pub mod Tokens
 pub mod Named
 pub mod Written
+pub mod Wire

@@ -1,6 +1,6 @@
 //! Messages of Simple Binary Encoding 1.0 as lines of text, for people and for
 //! tools, and back (this project's profile). It stands on the plans of
-//! `sbe_layout` and the values of `sbe_value`.
+//! `sbe_layout`, the values of `sbe_value` and the decoder's steps.
 #![tactic(auto)]
 
 mod error;
@@ -12,6 +12,7 @@ mod print;
 mod spare;
 mod token;
 mod values;
+mod wire;
 
 pub use error::{Refusal, TextError};
 pub use laws::printed_reads_back;
@@ -19,3 +20,4 @@ pub use parse::{first_message, next_message, parse_message, refused_line};
 pub use path::names_begin;
 pub use print::{print_message, write_lines, write_named_lines};
 pub use spare::Spare;
+pub use wire::{Draft, print_wire};

@@ -1,44 +1,45 @@
 //! What numbers of enums and sets are called in a schema.
 
 ghost use Rattle.std.specs.Prelude.{◌≡◌, ◌/◌, ◌%◌, ◌^◌, ◌==◌, ◌++◌, slice_get, codes, OnOk};
+ghost use Rattle.sbe_decode.specs.Shown.{item_of};
 ghost use Rattle.sbe_text.specs.Named.{bit_names, item_names, names_in, names_of, set_names, value_name};
 
+use sbe_decode::Value;
 use sbe_layout::{ItemKind, Listing};
 use sbe_schema::{BitDef, ValueDef};
-use sbe_value::Item;
 use std::alloc::AllocError;
 
 /// Writes what an item of this type is called, each name behind a blank. Without listings it writes nothing.
 pub fn write_names(
     listings: &[Listing],
     kind: ItemKind,
-    item: &Item,
+    value: Value<'_>,
     lines: &mut Vec<u8>,
 ) -> Result<(), AllocError>
-    ensures { OnOk result (lines.new.items ≡ lines.old.items ++ names_of listings.now kind item.now) }
+    ensures { OnOk result (lines.new.items ≡ lines.old.items ++ names_of listings.now kind (item_of value.entry)) }
 {
     let [_first, _others @ ..] = listings else {
         return Ok(());
     };
-    write_item_names(listings, kind, item, lines)
+    write_item_names(listings, kind, value, lines)
 }
 
 // Writes what an item is called.
 fn write_item_names(
     listings: &[Listing],
     kind: ItemKind,
-    item: &Item,
+    value: Value<'_>,
     lines: &mut Vec<u8>,
 ) -> Result<(), AllocError>
-    ensures { OnOk result (lines.new.items ≡ lines.old.items ++ item_names listings.now kind item.now) }
+    ensures { OnOk result (lines.new.items ≡ lines.old.items ++ item_names listings.now kind (item_of value.entry)) }
 {
-    let Item::Num(number) = item else {
+    let Value::Num(number) = value else {
         return Ok(());
     };
     match kind {
         ItemKind::Number { .. } => Ok(()),
         ItemKind::Enum { at, .. } | ItemKind::Set { at, .. } => {
-            write_listed(listings, at, *number, lines)
+            write_listed(listings, at, number, lines)
         }
     }
 }

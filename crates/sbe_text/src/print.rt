@@ -8,11 +8,13 @@ ghost use Rattle.sbe_value.specs.Views.{groups_of};
 ghost use Rattle.sbe_layout.specs.Plans.{message_of};
 ghost use Rattle.sbe_layout.specs.Views.{head_of, plans_of};
 ghost use Rattle.sbe_grammar.specs.Fits.{Fits};
+ghost use Rattle.sbe_decode.specs.Shown.{item_of};
 ghost use Rattle.sbe_text.specs.Written.{datum_text, element_line, before_in, item_line, item_lines, lines_of_data, group_lines, entry_lines, message_line, message_lines, lines_of_message, named_lines_of_message};
 
 use crate::names::write_names;
 use crate::path::begin_names;
-use crate::values::{write_datum, write_natural, write_value};
+use crate::values::{seen, write_datum, write_number_line, write_piece, write_value};
+use sbe_decode::Value;
 use sbe_layout::{BlockPlan, DataPlan, GroupPlan, ItemPlan, Listing, Plan};
 use sbe_value::{Block, Blocks, Bytes, Datum, Group, Item, Lines, Message};
 use std::alloc::{AllocError, Global};
@@ -76,8 +78,8 @@ fn write_message(
     lines.extend_from_slice(b"end\n")
 }
 
-// Writes the line of a message itself.
-fn write_name(name: &[u8], lines: &mut Vec<u8>) -> Result<(), AllocError>
+/// Writes the line of a message itself.
+pub fn write_name(name: &[u8], lines: &mut Vec<u8>) -> Result<(), AllocError>
     ensures { OnOk result (lines.new.items ≡ lines.old.items ++ message_line name.now) }
 {
     lines.extend_from_slice(b"message ")?;
@@ -132,29 +134,36 @@ fn write_items(
         let [item, others @ ..] = left else {
             return Ok(());
         };
-        write_item(listings, before, plan, item, lines)?;
+        write_item(listings, before, plan, seen(item), lines)?;
         left = others;
     }
     Ok(())
 }
 
-fn write_item(
+/// Writes the line of an item.
+pub fn write_item(
     listings: &[Listing],
     before: &[u8],
     plan: &ItemPlan,
-    item: &Item,
+    value: Value<'_>,
     lines: &mut Vec<u8>,
 ) -> Result<(), AllocError>
-    ensures { OnOk result (lines.new.items ≡ lines.old.items ++ item_line listings.now before.now plan.now item.now) }
+    ensures { OnOk result (lines.new.items ≡ lines.old.items ++ item_line listings.now before.now plan.now (item_of value.entry)) }
 {
     write_path(before, &plan.name, lines)?;
-    write_value(item, lines)?;
-    write_names(listings, plan.kind, item, lines)?;
-    lines.extend_from_slice(b"\n")
+    match (listings, value) {
+        // most values are numbers without names
+        ([], Value::Num(number)) => write_number_line(number, lines),
+        _ => {
+            write_value(value, lines)?;
+            write_names(listings, plan.kind, value, lines)?;
+            lines.extend_from_slice(b"\n")
+        }
+    }
 }
 
-// Writes the path of an element, and what stands before its value.
-fn write_path(before: &[u8], name: &Bytes, lines: &mut Vec<u8>) -> Result<(), AllocError>
+/// Writes the path of an element, and what stands before its value.
+pub fn write_path(before: &[u8], name: &Bytes, lines: &mut Vec<u8>) -> Result<(), AllocError>
     ensures { OnOk result (lines.new.items ≡ lines.old.items ++ before.now ++ name.now ++ codes " = ") }
 {
     lines.extend_from_slice(before)?;
@@ -224,7 +233,7 @@ fn write_entries(
         ++ decimal (count_of_blocks blocks.now) ++ 10 ∷ []
         ++ entry_lines listings.now before.now 0 blocks.now (head_of g.now) g.now.block.groups) }
 {
-    write_count(blocks.len(), lines)?;
+    write_count(blocks.len() as u64, lines)?;
     let mut inner = Vec::new(alloc);
     for (at, block) in blocks.as_slice().iter().enumerate() {
         begin_names(before, g, at as u128, &mut inner)?;
@@ -233,9 +242,10 @@ fn write_entries(
     Ok(())
 }
 
-fn write_count(count: usize, lines: &mut Vec<u8>) -> Result<(), AllocError>
+/// Writes the number of a group's entries, and ends its line.
+pub fn write_count(count: u64, lines: &mut Vec<u8>) -> Result<(), AllocError>
     ensures { OnOk result (lines.new.items ≡ lines.old.items ++ decimal count ++ 10 ∷ []) }
 {
-    write_natural(count as u128, lines)?;
-    lines.extend_from_slice(b"\n")
+    let mut room = *b"                    \n";
+    write_piece(count, &mut room, lines)
 }

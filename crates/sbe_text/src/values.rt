@@ -1,26 +1,41 @@
 //! The texts of values: what stands behind the `=` of a line.
 
-ghost use Rattle.std.specs.Prelude.{◌≡◌, ◌<◌, ◌++◌, OnOk, slice_index, codes, decimal};
+ghost use Rattle.std.specs.Prelude.{◌≡◌, ◌<◌, ◌≤◌, [], ◌∷◌, ◌++◌, OnOk, length, drop, slice_index, codes, decimal};
 ghost use Rattle.std.specs.Fmt.{signed_decimal};
 ghost use Rattle.hex.specs.Hex.{lower_digits, encode_lower};
+ghost use Rattle.sbe_decode.specs.Shown.{item_of};
 ghost use Rattle.sbe_text.specs.Written.{is_plain, are_plain, raw_text, value_text, datum_text};
 
-use itoa::Buffer;
+use itoa::{Buffer, write_digits};
+use sbe_decode::Value;
 use sbe_value::{Datum, Item};
 use std::alloc::AllocError;
 
 const DIGITS: [u8; 16] = *b"0123456789abcdef";
 
-/// Writes the text of an item's value.
-pub fn write_value(item: &Item, lines: &mut Vec<u8>) -> Result<(), AllocError>
-    ensures { OnOk result (lines.new.items ≡ lines.old.items ++ value_text item.now) }
+/// The value of an item, its text or its bytes still in the item.
+pub fn seen(item: &Item) -> Value<'_>
+    ensures { item_of result ≡ item.now }
 {
     match item {
-        Item::Num(number) => write_number(*number, lines),
-        Item::Null => lines.extend_from_slice(b"null"),
-        Item::Absent => lines.extend_from_slice(b"absent"),
-        Item::Text(text) => write_text(text.as_slice(), lines),
-        Item::Raw(bytes) => write_raw(bytes.as_slice(), lines),
+        Item::Num(number) => Value::Num(*number),
+        Item::Null => Value::Null,
+        Item::Absent => Value::Absent,
+        Item::Text(text) => Value::Text(text.as_slice()),
+        Item::Raw(bytes) => Value::Raw(bytes.as_slice()),
+    }
+}
+
+/// Writes the text of the value of an item.
+pub fn write_value(value: Value<'_>, lines: &mut Vec<u8>) -> Result<(), AllocError>
+    ensures { OnOk result (lines.new.items ≡ lines.old.items ++ value_text (item_of value.entry)) }
+{
+    match value {
+        Value::Num(number) => write_number(number, lines),
+        Value::Null => lines.extend_from_slice(b"null"),
+        Value::Absent => lines.extend_from_slice(b"absent"),
+        Value::Text(text) => write_text(text, lines),
+        Value::Raw(bytes) => write_raw(bytes, lines),
     }
 }
 
@@ -32,6 +47,38 @@ fn write_number(number: i128, lines: &mut Vec<u8>) -> Result<(), AllocError>
     match i64::try_from(number) {
         Ok(short) => lines.extend_from_slice(digits.format(short).as_bytes()),
         Err(_) => lines.extend_from_slice(digits.format(number).as_bytes()),
+    }
+}
+
+/// Writes a number of 64 bits in decimal and what stands behind it, in one piece: that is what `room` has behind its first 20
+/// bytes, which are for the digits.
+#[tactic(auto, using(crate::proofs::Numerals::short_decimal))]
+pub fn write_piece(
+    number: u64,
+    room: &mut [u8],
+    lines: &mut Vec<u8>,
+) -> Result<(), AllocError>
+    requires { 20 ≤ length room.old }
+    ensures { OnOk result (lines.new.items ≡ lines.old.items ++ decimal number ++ drop 20 room.old) }
+{
+    let at = write_digits(number, room, 20);
+    let (_, piece) = room.split_at(at);
+    lines.extend_from_slice(piece)
+}
+
+/// Writes a number in decimal, and ends its line.
+pub fn write_number_line(number: i128, lines: &mut Vec<u8>) -> Result<(), AllocError>
+    ensures { OnOk result (lines.new.items ≡ lines.old.items ++ signed_decimal number ++ 10 ∷ []) }
+{
+    match u64::try_from(number) {
+        Ok(short) => {
+            let mut room = *b"                    \n";
+            write_piece(short, &mut room, lines)
+        }
+        Err(_) => {
+            write_number(number, lines)?;
+            lines.extend_from_slice(b"\n")
+        }
     }
 }
 
@@ -87,9 +134,9 @@ fn is_plain(byte: u8) -> bool
     (0x20..=0x7e).contains(&byte) && byte != b'"' && byte != b'\\'
 }
 
-// Writes bytes in lower-case hexadecimal behind an `x`.
+/// Writes bytes in lower-case hexadecimal behind an `x`.
 #[tactic(auto, unfolding(hex::specs::Hex::encode_with))]
-fn write_raw(bytes: &[u8], lines: &mut Vec<u8>) -> Result<(), AllocError>
+pub fn write_raw(bytes: &[u8], lines: &mut Vec<u8>) -> Result<(), AllocError>
     ensures { OnOk result (lines.new.items ≡ lines.old.items ++ raw_text bytes.now) }
 {
     lines.push(b'x')?;

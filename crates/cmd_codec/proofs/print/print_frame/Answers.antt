@@ -1,4 +1,17 @@
+use Rattle.std.proofs.Common.{◌≡◌, true, rules, arith}
+use Rattle.std.proofs.lemmas.Grind.{common_steps}
+use Rattle.cmd_codec.specs.Decoded.{is_order}
+use Rattle.cmd_codec.proofs.Framed.{frame_added, frame_wrong}
 use Rattle.cmd_codec.proofs.print.print_frame.Goals as goal
 
-pub print_decoded-requires : goal.print_decoded-requires
-print_decoded-requires c = c.read_fits.ensures.law _ _ _ c.requires c.in-Ok.ensures.spelled
+pub returns-in-Ok : goal.returns-in-Ok
+returns-in-Ok c =
+    let f = c.args.frame in
+    let same : is_order f.order c.args.plan.now.order ≡ true = first_of (search rules, grind (arith, common_steps)) in
+    frame_added c.args.plan.now f.number f.place (record { order = f.order; message = f.message.now }) c.args.lines.now.items c.print_wire.new.lines.items same c.in-Ok.ensures.lines
+
+pub returns-in-Err-Fault : goal.returns-in-Err-Fault
+returns-in-Err-Fault c =
+    let f = c.args.frame in
+    let same : is_order f.order c.args.plan.now.order ≡ true = first_of (search rules, grind (arith, common_steps)) in
+    frame_wrong c.args.plan.now f.number f.place (record { order = f.order; message = f.message.now }) c.in-Err-Fault.fault c.args.lines.now.items c.print_wire.new.lines.items same (c.print_wire.ensures.fault _ (search rules)) (search rules)

@@ -13,7 +13,7 @@ returns-in-Ok c =
 
 pub returns-in-Err : goal.returns-in-Err
 returns-in-Err c =
-    takes-err (Unit {0}) c.args.plan.now c.args.self.now (record c.args.self.now { lines = c.print_frame.new.lines }) c.in-Frame.order c.in-Frame.message.now c.in-Frame.size c.in-Err.status (sym c.in-Frame.ensures.exact) c.in-Err.ensures
+    takes-err (Unit {0}) c.args.plan.now c.args.self.now (record c.args.self.now { lines = c.print_frame.new.lines; draft = c.print_frame.new.draft }) c.in-Frame.order c.in-Frame.message.now c.in-Frame.size c.in-Err.status (sym c.in-Frame.ensures.exact) c.in-Err.ensures
 
 pub returns-in-BadLength : goal.returns-in-BadLength
 returns-in-BadLength c = broken c.args.plan.now c.args.self.now _ (sym c.in-BadLength.ensures.exact) tt
