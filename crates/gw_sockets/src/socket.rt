@@ -1,4 +1,5 @@
-//! A socket as a link. A receive waits as long as it may where nothing is there, and a send takes what the socket takes.
+//! A socket as a link. A receive waits as long as it may where nothing is there, and a send takes what the socket takes. Where bytes go neither
+//! way, a send waits a little.
 
 ghost use Rattle.std.specs.Prelude.{◌≡◌, ◌<◌, ◌≤◌, length, IfOk};
 ghost use Rattle.gw_outside.specs.Faults.{HasRisen};
@@ -18,6 +19,10 @@ use std::time::Duration;
 /// How many events a wait tells at most: of the socket, and of the waker.
 const EVENTS: usize = 2;
 
+/// How long a send waits at most, in milliseconds, where the socket took nothing at the last one either and nothing came since: so who has a
+/// full link does not ask it again and again.
+const FULL: u64 = 10;
+
 /// One connection over a socket.
 #[derive(Drop)]
 pub struct SocketLink {
@@ -26,6 +31,8 @@ pub struct SocketLink {
     poll: Poll,
     events: Events,
     has_sent: bool,
+    /// Whether the last send took nothing, and nothing came since.
+    stands: bool,
     reason: Option<SocketReason>,
     faults: u64,
 }
@@ -83,6 +90,7 @@ impl SocketLink {
             poll,
             events,
             has_sent: false,
+            stands: false,
             reason: None,
             faults: 0,
         })
@@ -96,6 +104,7 @@ impl SocketLink {
             peer: _,
             events: _,
             has_sent: _,
+            stands: _,
             reason: _,
             faults: _,
         } = self;
@@ -122,7 +131,10 @@ impl SocketLink {
     {
         match read_now(&mut self.stream, into)? {
             Got::Quiet => {}
-            got => return Ok(got),
+            got => {
+                self.stands = false;
+                return Ok(got);
+            }
         }
         if patience == 0 {
             return Ok(Got::Quiet);
@@ -134,6 +146,22 @@ impl SocketLink {
         self.poll
             .poll(&mut self.events, Some(Duration::from_millis(patience)))?;
         read_now(&mut self.stream, into)
+    }
+
+    /// Sends what the socket takes. Where it took nothing at the last send either, and nothing came since, it waits for either for a little.
+    fn transmit(&mut self, bytes: &[u8]) -> io::Result<usize>
+        ensures count { IfOk result (λ n. n ≤ length bytes.now) }
+        ensures faults { self.new.faults ≡ self.old.faults }
+    {
+        let mut count = write_now(&mut self.stream, bytes)?;
+        if count == 0 && self.stands {
+            self.poll
+                .poll(&mut self.events, Some(Duration::from_millis(FULL)))?;
+            count = write_now(&mut self.stream, bytes)?;
+        }
+        self.stands = count == 0;
+        self.has_sent = self.has_sent || count > 0;
+        Ok(count)
     }
 
     /// Keeps why a call failed, and counts it.
@@ -173,11 +201,8 @@ impl Link for SocketLink {
         if bytes.is_empty() {
             return Ok(0);
         }
-        match write_now(&mut self.stream, bytes) {
-            Ok(count) => {
-                self.has_sent = self.has_sent || count > 0;
-                Ok(count)
-            }
+        match self.transmit(bytes) {
+            Ok(count) => Ok(count),
             Err(error) => Err(self.failed(error)),
         }
     }

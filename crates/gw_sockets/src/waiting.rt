@@ -67,7 +67,8 @@ impl Waiting {
         SocketWaker { waker }
     }
 
-    /// Lends what is to wait for the bytes of this socket: where there is none, one that nothing wakes.
+    /// Lends what is to wait for the bytes of this socket, and for room in it behind a write that found none: where there is none, one that
+    /// nothing wakes.
     ///
     /// # Errors
     /// What the system says; what was not lent is kept.
@@ -76,7 +77,8 @@ impl Waiting {
             Some(poll) => poll,
             None => Poll::new(rt)?,
         };
-        match poll.registry().register(stream, STREAM, Interest::READABLE) {
+        let interest = Interest::READABLE | Interest::WRITABLE;
+        match poll.registry().register(stream, STREAM, interest) {
             Ok(()) => Ok(poll),
             Err(error) => {
                 self.poll = Some(poll);

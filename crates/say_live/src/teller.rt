@@ -9,6 +9,7 @@ use fixp_msgs::{
     Establish, EstablishmentAck, EstablishmentReject, Flow, Negotiate, NegotiationReject,
     NegotiationResponse, SessionMsg,
 };
+use gw_real::Named;
 use gw_watch::{Ear, Heard};
 use say_faults::push_rejected;
 use say_words::push_file;
@@ -100,8 +101,10 @@ impl<'a, R> Teller<'a, R> {
 impl<'a, R: Clock + Eprint + Files<File = File>> Teller<'a, R> {
     /// The front of a line: the time.
     fn begun(&self) -> Result<String, AllocError> {
-        let stamp = Stamp::now(self.rt);
-        format!(in self.alloc; "{stamp} ")
+        let mut line = String::new(self.alloc);
+        Stamp::now(self.rt).push(self.alloc, &mut line)?;
+        line.push_str(" ")?;
+        Ok(line)
     }
 
     /// The front of a line about the connection: the time, and the peer's address.
@@ -218,11 +221,32 @@ impl<'a, R: Clock + Eprint + Files<File = File>> Teller<'a, R> {
         Ok(line)
     }
 
+    /// That a journal's last record is of a later time than it is now.
+    fn later(&self, journal: Named<'_>, last: Stamp, now: Stamp) -> Result<String, AllocError> {
+        let mut line = self.begun()?;
+        push_place(&mut line, journal)?;
+        line.push_str("its last record is of ")?;
+        last.push(self.alloc, &mut line)?;
+        line.push_str(", and it is ")?;
+        now.push(self.alloc, &mut line)?;
+        line.push_str(": what is recorded until then has the moment of that record")?;
+        Ok(line)
+    }
+
+    /// Says where a journal's last record is of a later time than it is now, as where the clock was set back.
+    fn look_at_moment(&self, journal: Named<'_>, walked: &Walked) {
+        let (last, now) = (Stamp::of(walked.moment), Stamp::now(self.rt));
+        if now.is_before(last) {
+            self.say(self.later(journal, last, now));
+        }
+    }
+
     /// Says what OUT tells of the messages of earlier runs, where there are any.
     fn look_at_inbox(&self) {
         let Some(inbox) = walk_journal(self.rt, self.alloc, self.session.inbox.path) else {
             return;
         };
+        self.look_at_moment(self.session.inbox, &inbox);
         if inbox.applied == 0 {
             return;
         }
@@ -236,11 +260,15 @@ impl<'a, R: Clock + Eprint + Files<File = File>> Teller<'a, R> {
     fn begin(&self) {
         let mut heed = self.heed.get();
         heed.has_begun = true;
-        match walk_journal(self.rt, self.alloc, self.session.outbox.path) {
+        let outbox = walk_journal(self.rt, self.alloc, self.session.outbox.path);
+        match &outbox {
             Some(outbox) => heed.sent.begin(outbox.entries),
             None => heed.sent.doubt(),
         }
         self.heed.set(heed);
+        if let Some(outbox) = &outbox {
+            self.look_at_moment(self.session.outbox, outbox);
+        }
         if let Some(warning) = self.readable() {
             self.say(warning);
         }

@@ -37,6 +37,8 @@ struct Records<'a, R> {
     piece: [u8; PIECE],
     at: usize,
     end: usize,
+    /// The greatest moment of the records so far.
+    moment: u64,
     /// The payload of the last record that was asked for it.
     payload: Vec<u8>,
 }
@@ -58,6 +60,8 @@ pub struct Walked {
     pub skipped: u64,
     /// The peer's last number, where the peer has finished.
     pub peer_last: Option<u64>,
+    /// The moment of its last record, in milliseconds since 1970; 0 where it has none.
+    pub moment: u64,
 }
 
 impl Walked {
@@ -92,6 +96,7 @@ impl<'a, R: Files<File = File>> Records<'a, R> {
             piece: [0; PIECE],
             at: 0,
             end: 0,
+            moment: 0,
             payload: Vec::new(alloc),
         };
         records.pass(HEADER, false)?;
@@ -168,8 +173,8 @@ impl<'a, R: Files<File = File>> Records<'a, R> {
             return None;
         }
         let kind = self.byte()?;
-        // nothing is said of moments
-        self.number(MOMENT)?;
+        let moment = self.number(MOMENT)?;
+        self.moment = self.moment.max(moment);
         let length = self.number(4)?;
         match kind {
             1 => {
@@ -208,7 +213,10 @@ pub fn walk_journal<R: Files<File = File>>(rt: &R, alloc: Global, path: &str) ->
     for _ in 0..u64::MAX {
         match records.next(false) {
             Some(record) => walked.count(record),
-            None => return Some(walked),
+            None => {
+                walked.moment = records.moment;
+                return Some(walked);
+            }
         }
     }
     None
@@ -247,6 +255,7 @@ pub fn entry_at<R: Files<File = File>>(
                     piece: _,
                     at: _,
                     end: _,
+                    moment: _,
                     payload,
                 } = records;
                 return Some(AtPlace::Payload(payload));

@@ -62,3 +62,7 @@ seconds_text seconds = date_text (year_of (seconds / 86400)) ++ codes "T" ++ tim
 -- YYYY-MM-DDTHH:MM:SS.NNNNNNNNNZ
 unfoldable pub moment_text : ℕ → List ℕ
 moment_text nanoseconds = seconds_text (nanoseconds / 1000000000) ++ codes "." ++ digits 9 (nanoseconds % 1000000000) ++ codes "Z"
+
+-- YYYY-MM-DDTHH:MM:SS.NNNZ
+unfoldable pub millis_text : ℕ → List ℕ
+millis_text milliseconds = seconds_text (milliseconds / 1000) ++ codes "." ++ digits 3 (milliseconds % 1000) ++ codes "Z"

@@ -1,7 +1,7 @@
 //! Dates and times of day as text.
 
 ghost use Rattle.std.specs.Prelude.{◌≡◌, ◌+◌, ◌/◌, ◌%◌, ◌<◌, ◌^◌, ◌++◌, OnOk};
-ghost use Rattle.text_dates.specs.Dates.{date_text, day_text, digits, moment_text, seconds_text, time_text};
+ghost use Rattle.text_dates.specs.Dates.{date_text, day_text, digits, millis_text, moment_text, seconds_text, time_text};
 
 use crate::calendar::{Part, month_of, year_of};
 use std::alloc::AllocError;
@@ -66,6 +66,23 @@ pub fn push_moment(line: &mut Vec<u8>, nanoseconds: u64) -> Result<(), AllocErro
     push_seconds(line, nanoseconds / 1_000_000_000)?;
     line.push(b'.')?;
     push_digits(line, 9, nanoseconds % 1_000_000_000)?;
+    line.push(b'Z')?;
+    Ok(())
+}
+
+/// Adds a moment, given as milliseconds since the beginning of 1970, below 2^44, as a date and a time of day in UTC:
+/// `2026-11-30T09:30:00.000Z`.
+///
+/// # Errors
+/// Want of memory.
+#[tactic(auto, unfolding(crate::specs::Dates::millis_text))]
+pub fn push_millis(line: &mut Vec<u8>, milliseconds: u64) -> Result<(), AllocError>
+    requires { milliseconds < 2 ^ 44 }
+    ensures { OnOk result (line.new.items ≡ line.old.items ++ millis_text milliseconds) }
+{
+    push_seconds(line, milliseconds / 1_000)?;
+    line.push(b'.')?;
+    push_digits(line, 3, milliseconds % 1_000)?;
     line.push(b'Z')?;
     Ok(())
 }
