@@ -69,49 +69,27 @@ fn add_messages(
     Ok(())
 }
 
-/// Adds what becomes of a datagram that is opened.
-fn add_opened(
-    receiver: &mut DgReceiver,
-    datagram: Datagram<'_>,
-    told: &mut String,
-) -> Result<(), AllocError> {
-    let start = receiver.on_start(datagram.first());
-    write!(told, " {start:?}")?;
-    match start {
-        Start::TooLarge => Ok(()),
-        Start::Plain | Start::Missing(_) => add_messages(receiver, datagram, told),
-    }
-}
-
-/// Adds what is asked for, if anything is.
-fn add_ask(receiver: &DgReceiver, told: &mut String) -> Result<(), AllocError> {
-    match receiver.ask() {
-        Some(range) => {
-            let from = range.from;
-            let count = range.count;
-            write!(told, " ask {from} {count}")
-        }
-        None => Ok(()),
-    }
-}
-
-/// Adds what becomes of bytes that come, and what is asked for behind them.
+/// Adds what becomes of bytes that come, and what is asked for behind them, if anything is.
 fn add_delivery(
     receiver: &mut DgReceiver,
     bytes: &[u8],
     told: &mut String,
 ) -> Result<(), AllocError> {
     match open_datagram(bytes) {
-        Ok(datagram) => add_opened(receiver, datagram, told)?,
-        Err(fault) => write!(told, " {fault:?}")?,
+        Ok(datagram) => {
+            let start = receiver.on_start(datagram.first());
+            write!(told, " {start:?}")?;
+            match start {
+                Start::TooLarge => Ok(()),
+                Start::Plain | Start::Missing(_) => add_messages(receiver, datagram, told),
+            }
+        }
+        Err(fault) => write!(told, " {fault:?}"),
+    }?;
+    match receiver.ask() {
+        Some(range) => write!(told, " ask {} {}", range.from, range.count),
+        None => Ok(()),
     }
-    add_ask(receiver, told)
-}
-
-/// Adds the number that is waited for.
-fn add_next(receiver: &DgReceiver, told: &mut String) -> Result<(), AllocError> {
-    let next = receiver.next();
-    write!(told, " next {next}")
 }
 
 /// Adds what becomes of a datagram that begins with a number and has so many messages.
@@ -125,11 +103,11 @@ fn add_datagram(
     let count = count.min(MOST_MESSAGES);
     let payloads = payloads(alloc, first, count)?;
     let room = (1 + count) * FRAME;
-    match pack_from(alloc, first, &payloads, 0, room as usize)? {
+    match pack_from(alloc, first, &payloads, 0, room)? {
         Some(packed) => add_delivery(receiver, packed.bytes.as_slice(), told)?,
-        None => write!(told, " none")?,
+        None => told.push_str(" none")?,
     }
-    write!(told, ",")
+    told.push_str(",")
 }
 
 /// Adds what becomes of datagrams that begin with these numbers.
@@ -138,14 +116,14 @@ pub fn add_starts(alloc: Global, words: &str, told: &mut String) -> Result<(), A
     let (next, words) = halves(words);
     let (most, starts) = halves(words);
     let Some(mut receiver) = receiver_of(flow, number(next), number(most)) else {
-        return write!(told, ", no receiver");
+        return told.push_str(", no receiver");
     };
-    write!(told, ":")?;
+    told.push_str(":")?;
     for start in starts.split(" ") {
         let (first, count) = parted(start, "+");
         add_datagram(alloc, &mut receiver, number(first), number(count), told)?;
     }
-    add_next(&receiver, told)
+    write!(told, " next {}", receiver.next())
 }
 
 /// Adds what becomes of a list of deliveries, which is a number in digits of four, the last of them first.
@@ -159,7 +137,7 @@ fn add_list(alloc: Global, flow: &str, list: u64, told: &mut String) -> Result<(
         add_datagram(alloc, &mut receiver, first, PER, told)?;
         left /= DATAGRAMS;
     }
-    add_next(&receiver, told)
+    write!(told, " next {}", receiver.next())
 }
 
 /// A sum of a text, in which each byte counts by its place.
