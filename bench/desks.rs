@@ -1,4 +1,4 @@
-//! A venue that answers orders by desks, by hand and with no proof: one thread takes frames of orders from a socket, sixteen at a time; adds them to an
+//! A venue that answers orders by desks, by hand and with no proof: one thread takes frames of orders from a socket, 256 at a time; adds them to an
 //! inbox and the reports to an outbox, each batch with two writes and two syncs, on files in the form of the journals; writes a line for each order;
 //! and sends the reports. There is no session: no handshake, no heartbeat and no retransmission. `desks_session.rs` is the same with a session. What
 //! `fixpgw accept` does is compared with both. They are no part of the product. Usage:
@@ -17,7 +17,7 @@ use std::path::{Path, PathBuf};
 use std::thread;
 
 /// How many frames a turn takes.
-const FRAMES: usize = 16;
+const FRAMES: usize = 256;
 const ACCEPTED: u8 = 1;
 const FILLED: u8 = 2;
 const EXPIRED: u8 = 3;

@@ -1,5 +1,5 @@
 //! The venue of `desks.rs` with a session around it, by hand and with no proof: what a session asks of an end that listens, in one thread. It opens the
-//! journals that `fixpgw format` made; takes frames, sixteen at a time; negotiates and establishes, by version 1 and with two recoverable flows; gives
+//! journals that `fixpgw format` made; takes frames, 256 at a time; negotiates and establishes, by version 1 and with two recoverable flows; gives
 //! each message its number, holds those past a gap, and asks for what is missing; adds what it applies to the inbox and the reports to the outbox, at
 //! their moments; keeps where each report stands, and sends a range again that is asked for; sends heartbeats; and tells and answers the finishes and
 //! the end. It takes one connection of a new session, and stops where the peer breaks a rule.

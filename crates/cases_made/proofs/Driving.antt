@@ -136,15 +136,15 @@ module _ {J : Type 0} {G : Ghosts J} where
   rests : (m : State) (p : Part) (box : Inbox J G) → IsSome m.ending → Leaves m p box → Rests m p box
   rests m p box some l = record { over = λ _. some; time = l.time; sent = l.sent; credentials = l.credentials; seen = l.seen; agrees = l.agrees }
 
-  -- a turn moves the place by the bytes of at most 16 frames
-  worked_place : (tells : Type 0) (now : ℕ) (eager : Bool) (old new : EndAt J G) (result : Result TurnEnd TurnFault) → Exchanged tells now eager old new result → new.line.place ≤ old.line.place + 262240
-  worked_place tells now eager old new result (inl w) =
-      omega (arith, ap (λ (x : Line). x.place) w.line, w.served.place, frames_place w.work.now _ w.work.frames w.served.frames, w.served.few)
-  worked_place tells now eager old new result (inr z) = omega (arith, ap (λ (x : Line). x.place) z.line)
+  -- a turn moves the place by the bytes of at most 256 frames
+  worked_place : (tells : Type 0) (now : ℕ) (eager : Bool) (old new : EndAt J G) (result : Result TurnEnd TurnFault) → Exchanged tells now eager old new result → old.line.per_turn ≤ 256 → new.line.place ≤ old.line.place + 4195840
+  worked_place tells now eager old new result (inl w) number =
+      omega (arith, ap (λ (x : Line). x.place) w.line, w.served.place, frames_place w.work.now _ w.work.frames w.served.frames, w.served.few, number)
+  worked_place tells now eager old new result (inr z) number = omega (arith, ap (λ (x : Line). x.place) z.line)
 
-  pub turn_place : (tells : Type 0) (now : ℕ) (eager : Bool) (old new : EndAt J G) (result : Result TurnEnd TurnFault) → DidTurn tells now eager old new result → new.line.place ≤ old.line.place + 262240
-  turn_place tells now eager old new result (inl x) = omega (arith, ap (λ (y : Line). y.place) x.sent.line)
-  turn_place tells now eager old new result (inr y) = worked_place tells now eager (record old { line = line_ticked old.line now }) new result y.exchanged
+  pub turn_place : (tells : Type 0) (now : ℕ) (eager : Bool) (old new : EndAt J G) (result : Result TurnEnd TurnFault) → DidTurn tells now eager old new result → old.line.per_turn ≤ 256 → new.line.place ≤ old.line.place + 4195840
+  turn_place tells now eager old new result (inl x) number = omega (arith, ap (λ (y : Line). y.place) x.sent.line)
+  turn_place tells now eager old new result (inr y) number = worked_place tells now eager (record old { line = line_ticked old.line now }) new result y.exchanged number
 
   -- where it stands behind a turn
   pub stands_behind : (r : Result TurnEnd TurnFault) (new : Line) (most : ℕ) (p : Part) (box : Inbox J G) → OnOk r (new.place ≤ most) → (r ≡ Ok ends.Go → GoesOn new.machine) → OnOk r (Leaves new.machine p box)
@@ -226,14 +226,14 @@ module _ {J : Type 0} {G : Ghosts J} where
 
   -- so does the connection that was made of them, if one was
   pub conn_rests : {E : Type 0} (config : EndConfig) (most : ℕ) (state : EndState) (h : History) (box : Inbox J G) (r : Result Conn E) (o : Option Conn) → o ≡ result_ok r
-      → IfOk r (λ conn. line_of conn ≡ new_line (fresh config state most)) → state.sent ≡ length h.made → state.sent < 2 ^ 40 → state.finish ≡ (if h.finished then Some (length h.made) else None)
+      → IfOk r (λ conn. line_of conn ≡ new_line (fresh config state most) 16) → state.sent ≡ length h.made → state.sent < 2 ^ 40 → state.finish ≡ (if h.finished then Some (length h.made) else None)
       → length config.credentials ≤ 2048 → flow_of box ≡ config.peer_flow → most ≤ (limits_of box).entries
       → next_of box ≡ state.inbox_next → is_negotiated box ≡ state.negotiated → peer_last_of box ≡ state.peer_last
       → IfSome o (λ conn. (p : Part) → BeginsHistory h p.seen → Rests (line_of conn).machine p box)
   conn_rests {E} config most state h box r o is made sent few finish credentials flow within next negotiated last =
       subst (λ (x : Option Conn). IfSome x (λ conn. (p : Part) → BeginsHistory h p.seen → Rests (line_of conn).machine p box)) (sym is) (of_result r made)
     where
-      of_result : (r : Result Conn E) → IfOk r (λ conn. line_of conn ≡ new_line (fresh config state most)) → IfSome (result_ok r) (λ conn. (p : Part) → BeginsHistory h p.seen → Rests (line_of conn).machine p box)
+      of_result : (r : Result Conn E) → IfOk r (λ conn. line_of conn ≡ new_line (fresh config state most) 16) → IfSome (result_ok r) (λ conn. (p : Part) → BeginsHistory h p.seen → Rests (line_of conn).machine p box)
       of_result (Ok conn) made = λ p begins. opened_rests config most state h (line_of conn).machine p box (ap (λ (l : Line). l.machine) made) begins sent few finish credentials flow within next negotiated last
       of_result (Err e) made = tt
 

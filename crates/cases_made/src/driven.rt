@@ -67,7 +67,7 @@ impl Model for DrivenEnd {
 
     ghost view = { λ e. tt };
 
-    ghost invariant = { λ e. HasPasses e.gate e.passes e.senders × Stands e.standing (line_of e.conn) (e.turns * 262240) (known_at e.passes (e.senders + 1)) e.inbox };
+    ghost invariant = { λ e. HasPasses e.gate e.passes e.senders × Stands e.standing (line_of e.conn) (e.turns * 4195840) (known_at e.passes (e.senders + 1)) e.inbox };
 }
 
 /// The configuration of an end.
@@ -114,10 +114,10 @@ fn opened(alloc: Global, config: EndConfig, state: EndState) -> Result<Conn, All
     requires first { 1 ≤ state.inbox_next }
     requires numbered { state.inbox_next + 1 < 2 ^ 64 }
     requires sent { state.sent < 2 ^ 40 }
-    ensures { IfOk result (λ conn. line_of conn ≡ new_line (fresh config state (2 ^ 24))) }
+    ensures { IfOk result (λ conn. line_of conn ≡ new_line (fresh config state (2 ^ 24)) 16) }
 {
     let end = End::new(alloc, config, state, MOST)?;
-    Conn::new(alloc, end)
+    Conn::new(alloc, end, 16)
 }
 
 /// A connection that has not begun, of an end that goes on where its journals stand; none where memory runs out, or the outbox

@@ -25,9 +25,9 @@ fn turn_of<L: Link, R: Wait>(
     news: &mut News,
     rt: &R,
 ) -> Standing
-    requires can { CanTurn (line_in end.old) (2 ^ 62) (pass_in end.old) end.old.inbox.now }
+    requires can { CanTurn (line_in end.old) (2 ^ 62 + 2 ^ 61) (pass_in end.old) end.old.inbox.now }
     ensures stays { Stays end.old end.new }
-    ensures stands { Stands result (line_in end.new) ((line_in end.old).place + 262240) (pass_in end.new) end.new.inbox.now }
+    ensures stands { Stands result (line_in end.new) ((line_in end.old).place + 4195840) (pass_in end.new) end.new.inbox.now }
 {
     Standing::behind(end.turn(link, news, rt))
 }
@@ -45,11 +45,11 @@ pub(crate) fn make_turn<L: Link, R: Wait>(
 ) -> Standing
     requires own { IsPassAt gate.now pass.old }
     requires free { IsFree pass.old }
-    requires can { CanTurn (line_of conn.old) (2 ^ 62) (known pass.old) inbox.old }
+    requires can { CanTurn (line_of conn.old) (2 ^ 62 + 2 ^ 61) (known pass.old) inbox.old }
     ensures own { IsPassAt gate.now pass.new }
     ensures free { IsFree pass.new }
     ensures looks { Looks (known pass.old) (known pass.new) }
-    ensures stands { Stands result (line_of conn.new) ((line_of conn.old).place + 262240) (known pass.new) inbox.new }
+    ensures stands { Stands result (line_of conn.new) ((line_of conn.old).place + 4195840) (known pass.new) inbox.new }
 {
     let mut end = LiveEnd::new(conn, gate, pass, inbox, clock);
     turn_of(&mut end, link, news, rt)

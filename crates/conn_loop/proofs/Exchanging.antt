@@ -90,7 +90,7 @@ goes_still now old l new g limit begun done drained untold moment config facts s
 
 -- where nothing is unsent an end receives, and no output waits
 idle_receives : (l : Line) → l.machine.unsent ≡ [] → receives l ≡ true
-idle_receives l idle = ap (λ (bytes : List ℕ). (length bytes == 0) || (l.waits && nat_le (length bytes) most_unsent)) idle
+idle_receives l idle = ap (λ (bytes : List ℕ). (length bytes == 0) || (l.waits && nat_le (length bytes) (most_unsent l.per_turn))) idle
 
 idle_waits : (waits : Bool) (unsent : List ℕ) → unsent ≡ [] → (waits && not (length unsent == 0)) ≡ false
 idle_waits waits unsent idle = ap (λ (bytes : List ℕ). waits && not (length bytes == 0)) idle ∙ none waits
@@ -151,6 +151,7 @@ module _ {J : Type 0} {G : Ghosts J} where
           over = s.over;
           serves = s.serves;
           waits = s.waits;
+          per_turn = s.per_turn;
         };
         front = z.front;
         whole = z.whole;

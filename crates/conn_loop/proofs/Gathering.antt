@@ -1,5 +1,5 @@
 -- What an inbox and the machine agree on, before and behind what a turn gathers.
-use Rattle.std.proofs.Common.{◌≡◌, ◌≤◌, ◌<◌, ℕ, List, [], length, Option, sym, ap, subst, ◌∙◌, arith}
+use Rattle.std.proofs.Common.{◌≡◌, ◌≤◌, ℕ, List, [], length, sym, ap, subst, ◌∙◌, arith}
 use Rattle.std.specs.List.{AllByRecursion}
 use Rattle.fixp_msgs.specs.Payload.{IsApplication}
 use Rattle.fixp_replies.specs.declared.facts.EndState.{EndState}
@@ -7,7 +7,7 @@ use Rattle.fixp_machine.specs.Machine.{State}
 use Rattle.jr_dated.specs.declared.journal.Journal.{Ghosts}
 use Rattle.jr_dated.specs.declared.limits.Limits.{Limits}
 use Rattle.jr_kept.specs.declared.inbox.Inbox.{Inbox}
-use Rattle.jr_kept.specs.Inbox.{next_of, limits_of, faults_of}
+use Rattle.jr_kept.specs.Inbox.{next_of, faults_of}
 use Rattle.conn_turns.specs.declared.news.NewsItem.{NewsItem}
 use Rattle.conn_turns.specs.declared.answer.TurnFault.{TurnFault}
 use Rattle.conn_turns.specs.Lines.{Line}

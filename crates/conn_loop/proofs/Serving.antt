@@ -18,11 +18,11 @@ use Rattle.conn_loop.specs.Serving.{SentDue, ServedOutbox, BlamesPass, fault_of}
 use Rattle.conn_loop.proofs.Machine.{finish_same}
 
 -- live entries are due unless a range is served
-beside_is : (serving : Option Range) (h : History) (sent due : Option (List (List ℕ))) → IsAsDue (served_of serving h) sent → (if is_some serving then None else due) ≡ live_beside sent due
-beside_is None h None due fits = refl
-beside_is None h (Some ps) due fits = absurd fits
-beside_is (Some r) h None due fits = absurd fits
-beside_is (Some r) h (Some ps) due fits = refl
+beside_is : (most : ℕ) (serving : Option Range) (h : History) (sent due : Option (List (List ℕ))) → IsAsDue (served_of most serving h) sent → (if is_some serving then None else due) ≡ live_beside sent due
+beside_is most None h None due fits = refl
+beside_is most None h (Some ps) due fits = absurd fits
+beside_is most (Some r) h None due fits = absurd fits
+beside_is most (Some r) h (Some ps) due fits = refl
 
 -- where no output waited all is due
 all_due : {A : Type 0} (l : Line) (due : Option A) → l.waits ≡ false → unless_waits l due ≡ due
@@ -52,8 +52,8 @@ none_served tells now h old waits = record {
     none_due_at l due waits = ap (λ (w : Bool). if w then None else due) waits
 
 pub served_outbox : (tells : Type 0) (now : ℕ) (h first last : History) (old one two new : Line) → BeginsHistory h first → BeginsHistory first last
-    → SentDue tells (served_of (served_now old.machine) first) (again_calls now) old one
-    → SentDue tells (if is_some (served_now old.machine) then None else live_of one.machine last) (live_calls now) one two
+    → SentDue tells (served_of old.per_turn (served_now old.machine) first) (again_calls now) old one
+    → SentDue tells (if is_some (served_now old.machine) then None else live_of one.per_turn one.machine last) (live_calls now) one two
     → new ≡ record two { machine = run two.machine (finish_calls now (finish_of one.machine last)) }
     → one.machine.config ≡ old.machine.config → old.waits ≡ false → ServedOutbox tells now h last old new
 served_outbox tells now h first last old one two new begins goes_on again live finish config free =
@@ -62,18 +62,20 @@ served_outbox tells now h first last old one two new begins goes_on again live f
     let more = live.sent in
     let told = finish_of old.machine last in
     let here : one.machine ≡ m = ap (λ (l : Line). l.machine) again.line in
-    let due : (if is_some (served_now old.machine) then None else live_of one.machine last) ≡ live_beside sent (live_of m last)
-    = beside_is (served_now old.machine) first sent (live_of one.machine last) again.as_due ∙ ap (λ (s : State). live_beside sent (live_of s last)) here in
+    let number : one.per_turn ≡ old.per_turn = ap (λ (l : Line). l.per_turn) again.line in
+    let due : (if is_some (served_now old.machine) then None else live_of one.per_turn one.machine last) ≡ live_beside sent (live_of old.per_turn m last)
+    = beside_is old.per_turn (served_now old.machine) first sent (live_of one.per_turn one.machine last) again.as_due
+    ∙ (ap (λ (n : ℕ). live_beside sent (live_of n one.machine last)) number ∙ ap (λ (s : State). live_beside sent (live_of old.per_turn s last)) here) in
     let there : two.machine ≡ run m (live_calls now more) = ap (λ (l : Line). l.machine) live.line ∙ ap (λ (s : State). run s (live_calls now more)) here in
     record {
-      due_again = served_of (served_now old.machine) first;
-      due_live = live_beside sent (live_of m last);
+      due_again = served_of old.per_turn (served_now old.machine) first;
+      due_live = live_beside sent (live_of old.per_turn m last);
       again = sent;
       live = more;
       finish = told;
       at_again = first;
-      due_again_is = sym (all_due old (served_of (served_now old.machine) first) free);
-      due_live_is = sym (all_due old (live_beside sent (live_of m last)) free);
+      due_again_is = sym (all_due old (served_of old.per_turn (served_now old.machine) first) free);
+      due_live_is = sym (all_due old (live_beside sent (live_of old.per_turn m last)) free);
       again_is = again.as_due;
       live_is = subst (λ (o : Option (List (List ℕ))). IsAsDue o more) due live.as_due;
       faithful = λ t. (again.told t, live.told t ∙ due);
@@ -89,7 +91,8 @@ served_outbox tells now h first last old one two new begins goes_on again live f
           (ap (λ (l : Line). l.place) finish ∙ (ap (λ (l : Line). l.place) live.line ∙ ap (λ (l : Line). l.place) again.line))
           (ap (λ (l : Line). l.over) finish ∙ (ap (λ (l : Line). l.over) live.line ∙ ap (λ (l : Line). l.over) again.line))
           (ap (λ (l : Line). l.serves) finish ∙ (ap (λ (l : Line). l.serves) live.line ∙ ap (λ (l : Line). l.serves) again.line))
-          (ap (λ (l : Line). l.waits) finish ∙ (ap (λ (l : Line). l.waits) live.line ∙ ap (λ (l : Line). l.waits) again.line));
+          (ap (λ (l : Line). l.waits) finish ∙ (ap (λ (l : Line). l.waits) live.line ∙ ap (λ (l : Line). l.waits) again.line))
+          (ap (λ (l : Line). l.per_turn) finish ∙ (ap (λ (l : Line). l.per_turn) live.line ∙ ap (λ (l : Line). l.per_turn) again.line));
     }
 
 -- nothing is due, and nothing is sent

@@ -17,7 +17,7 @@ use Rattle.conn_turns.specs.Lines.{Line, AreTaken, lines_after}
 use Rattle.conn_turns.specs.Frames.{IsDone, added, told, unframed_at, is_link_over}
 use Rattle.conn_turns.specs.Turns.{bad_calls, end_calls, again_calls, live_calls, finish_calls, served_of, served_now, live_of, live_beside, finish_of, calls_of_frames}
 use Rattle.conn_turns.specs.Refusals.{stood}
-use Rattle.conn_turns.proofs.Taking.{run_append, frames_make_calls, lines_wait, unless_same}
+use Rattle.conn_turns.proofs.Taking.{run_append, frames_make_calls, lines_wait, lines_number, unless_same}
 use Rattle.conn_steps.specs.Settling.{Gains, Refuses}
 use Rattle.conn_steps.specs.Agreeing.{Agrees}
 use Rattle.conn_steps.specs.Taking.{TookFrames, CutFrames, OfInbox, refused_by}
@@ -66,7 +66,7 @@ refused_nothing faults.Memory = refl
 
 module _ {J : Type 0} {G : Ghosts J} where
   pub served_frames : (tells : Type 0) (now count : ℕ) (h seen : History) (old mid closed new : Line) (box after : Inbox J G) (news later : List NewsItem) → TookFrames now count (taking_end old box news) (taking_end mid after later)
-      → IsDone count mid × (count ≤ 16) → closed ≡ record mid { machine = run mid.machine (ends_at now count mid) } → ServedOutbox tells now h seen closed new → ServedFrames tells now h seen (taking_end old box news) (taking_end new after later)
+      → IsDone count mid × (count ≤ old.per_turn) → closed ≡ record mid { machine = run mid.machine (ends_at now count mid) } → ServedOutbox tells now h seen closed new → ServedFrames tells now h seen (taking_end old box news) (taking_end new after later)
   served_frames tells now count h seen old mid closed new box after news later t last closes s =
       let l : Line = lines_after now old t.frames in
       let many : ℕ = length t.frames in
@@ -74,6 +74,7 @@ module _ {J : Type 0} {G : Ghosts J} where
       let closing : closed.machine ≡ run l.machine (ends_at now many l)
       = ap (λ (x : Line). x.machine) closes ∙ (ap (λ (x : Line). run x.machine (ends_at now count x)) same ∙ ap (λ (k : ℕ). run l.machine (ends_at now k l)) (sym t.many)) in
       let waits : closed.waits ≡ old.waits = ap (λ (x : Line). x.waits) closes ∙ (ap (λ (x : Line). x.waits) same ∙ lines_wait now old t.frames) in
+      let number : closed.per_turn ≡ old.per_turn = ap (λ (x : Line). x.per_turn) closes ∙ (ap (λ (x : Line). x.per_turn) same ∙ lines_number now old t.frames) in
       let outbox : List Call = again_calls now s.again ++ (live_calls now s.live ++ finish_calls now s.finish) in
       record {
         work = record {
@@ -102,8 +103,11 @@ module _ {J : Type 0} {G : Ghosts J} where
           last = subst (λ (k : ℕ). IsDone k l) (sym t.many) (subst (λ (x : Line). IsDone count x) same last.0);
           broken = refl;
           link_over = refl;
-          due_again = s.due_again_is ∙ unless_same closed old _ _ waits (ap (λ (m : State). served_of (served_now m) s.at_again) closing);
-          due_live = s.due_live_is ∙ unless_same closed old _ _ waits (ap (λ (m : State). live_beside s.again (live_of (run m (again_calls now s.again)) seen)) closing);
+          due_again = s.due_again_is ∙ unless_same closed old _ _ waits
+              (ap (λ (n : ℕ). served_of n (served_now closed.machine) s.at_again) number ∙ ap (λ (m : State). served_of old.per_turn (served_now m) s.at_again) closing);
+          due_live = s.due_live_is ∙ unless_same closed old _ _ waits
+              (ap (λ (n : ℕ). live_beside s.again (live_of n (run closed.machine (again_calls now s.again)) seen)) number
+              ∙ ap (λ (m : State). live_beside s.again (live_of old.per_turn (run m (again_calls now s.again)) seen)) closing);
           again = s.again_is;
           live = s.live_is;
           finish = s.finish_is ∙ unless_same closed old _ _ waits (ap (λ (m : State). finish_of m seen) closing);
@@ -120,6 +124,7 @@ module _ {J : Type 0} {G : Ghosts J} where
           over = ap (λ (x : Line). x.over) s.line ∙ (ap (λ (x : Line). x.over) closes ∙ ap (λ (x : Line). x.over) same);
           serves = ap (λ (x : Line). x.serves) s.line ∙ (ap (λ (x : Line). x.serves) closes ∙ ap (λ (x : Line). x.serves) same);
           waits = ap (λ (x : Line). x.waits) s.line ∙ (ap (λ (x : Line). x.waits) closes ∙ ap (λ (x : Line). x.waits) same);
+          per_turn = ap (λ (x : Line). x.per_turn) s.line ∙ (ap (λ (x : Line). x.per_turn) closes ∙ ap (λ (x : Line). x.per_turn) same);
         };
         gains = t.gains;
         news_are = t.news_are;
@@ -182,7 +187,7 @@ module _ {J : Type 0} {G : Ghosts J} where
   }
 
   -- cut at the outbox
-  pub cut_at_outbox : (now count : ℕ) (old mid : Line) (box after : Inbox J G) (news later : List NewsItem) (fault : TurnFault) → TookFrames now count (taking_end old box news) (taking_end mid after later) → count ≤ 16
+  pub cut_at_outbox : (now count : ℕ) (old mid : Line) (box after : Inbox J G) (news later : List NewsItem) (fault : TurnFault) → TookFrames now count (taking_end old box news) (taking_end mid after later) → count ≤ old.per_turn
       → ((entries bytes : ℕ) → fault ≡ faults.Full entries bytes → ⊥) → CutShort now old box after news later fault
   cut_at_outbox now count old mid box after news later fault t few never_full = record {
     frames = t.frames;

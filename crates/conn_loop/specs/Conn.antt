@@ -1,5 +1,5 @@
 -- A connection in the code, as a line; its beginning, and its end by a cut (this project's profile).
-use Rattle.std.specs.Prelude.{◌≡◌, ℕ, ◌+◌, ◌^◌, ◌<◌, ◌≤◌, true, false, List, [], ◌∷◌, length, Option, Some, None, IfSome, Result, Ok}
+use Rattle.std.specs.Prelude.{◌≡◌, ℕ, ◌+◌, ◌^◌, ◌<◌, ◌≤◌, true, false, if◌then◌else◌, List, [], ◌∷◌, length, Option, Some, None, IfSome, Result, Ok}
 use Rattle.fixp_replies.specs.declared.act.Ending.{Ending}
 use Rattle.fixp_machine.specs.Machine.{State, front_of, begin, link_end, taken, run}
 use Rattle.session_model.specs.Journal.{BeginsHistory}
@@ -15,23 +15,31 @@ use Rattle.conn_loop.specs.declared.conn.Conn.{Conn}
 
 -- what one end sees of the connection
 abbrev pub line_of : Conn → Line
-line_of c = record { machine = c.end; held = c.framer.held; place = c.place; over = c.over; serves = c.serves; waits = c.waits }
+line_of c = record { machine = c.end; held = c.framer.held; place = c.place; over = c.over; serves = c.serves; waits = c.waits; per_turn = c.per_turn }
 
 -- the payloads that its turn has gathered
 abbrev pub gathered_by : Conn → List (List ℕ)
 gathered_by c = payloads_in c.gathered
 
--- a connection that has not begun
-abbrev pub new_line : State → Line
-new_line m = record { machine = m; held = []; place = 0; over = false; serves = false; waits = false }
+-- a connection that has not begun, a turn of which takes so many frames at most
+abbrev pub new_line : State → (per_turn : ℕ) → Line
+new_line m per_turn = record { machine = m; held = []; place = 0; over = false; serves = false; waits = false; per_turn = per_turn }
 
 -- a connection begins: nothing is held
 abbrev pub line_begun : Line → ℕ → Line
-line_begun l now = record { machine = run l.machine (begin now ∷ []); held = []; place = 0; over = false; serves = false; waits = false }
+line_begun l now = record l { machine = run l.machine (begin now ∷ []); held = []; place = 0; over = false; serves = false; waits = false }
 
 -- a connection is cut: what is held and unsent is dropped, and it ends, if it has not ended
 abbrev pub line_cut : Line → Line
 line_cut l = record l { machine = run l.machine (taken (length l.machine.unsent) ∷ link_end ∷ []); held = [] }
+
+-- how many bytes are unsent at most behind the frames of a turn: where the link left output unsent before, of which there is some beside
+-- the replies, and else, where the entries of the outbox come behind them; and how many once the machine was told what ends the frames
+abbrev pub most_in_turn : Line → ℕ
+most_in_turn l = if l.waits then 4900000 else 700000
+
+abbrev pub most_closed : Line → ℕ
+most_closed l = if l.waits then 5000000 else 750000
 
 -- Between two turns a connection goes on: it was begun and has not ended, no act is still to be done, no held message is to be applied
 -- first, nothing is still to be told, what is unsent is what a machine can hold, and a moment may follow

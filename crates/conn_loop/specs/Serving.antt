@@ -34,7 +34,7 @@ pub record SentDue (tells : Type 0) (due : Option (List (List ℕ))) (calls : Op
   pub told : tells → sent ≡ due
   pub line : new ≡ record old { machine = run old.machine (calls sent) }
 
--- the front of the range that was served was sent again, 16 entries at most, of the outbox as it was seen then; and entries were sent live
+-- the front of the range that was served was sent again, as many entries as a turn sends at most, of the outbox as it was seen then; and entries were sent live
 -- where that may be and none was sent again, and the finish was told where it stands, both of the outbox as it was seen at one look behind
 -- that. Nothing of it was sent or told where the turn began with output unsent
 pub record ServedOutbox (tells : Type 0) (now : ℕ) (seen seen' : History) (old new : Line) : Type 0 where
@@ -44,8 +44,8 @@ pub record ServedOutbox (tells : Type 0) (now : ℕ) (seen seen' : History) (old
   pub live : Option (List (List ℕ))
   pub finish : Option ℕ
   pub at_again : History
-  pub due_again_is : due_again ≡ unless_waits old (served_of (served_now old.machine) at_again)
-  pub due_live_is : due_live ≡ unless_waits old (live_beside again (live_of (run old.machine (again_calls now again)) seen'))
+  pub due_again_is : due_again ≡ unless_waits old (served_of old.per_turn (served_now old.machine) at_again)
+  pub due_live_is : due_live ≡ unless_waits old (live_beside again (live_of old.per_turn (run old.machine (again_calls now again)) seen'))
   pub again_is : IsAsDue due_again again
   pub live_is : IsAsDue due_live live
   pub faithful : tells → (again ≡ due_again) × (live ≡ due_live)

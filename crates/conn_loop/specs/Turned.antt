@@ -53,7 +53,7 @@ module _ {J : Type 0} {G : Ghosts J} where
   -- one anyhow, unless memory ran out; and where something was refused the fault is not the link's nor the outbox's
   pub record CutShort (now : ℕ) (l : Line) (box box' : Inbox J G) (news news' : List NewsItem) (fault : TurnFault) : Type 0 where
     pub frames : List TakenFrame
-    pub few : length frames ≤ 16
+    pub few : length frames ≤ l.per_turn
     pub taken : AreTaken now l frames
     pub refusal : Option Refusal
     pub is : IfSome refusal (IsRefused now (lines_after now l frames))

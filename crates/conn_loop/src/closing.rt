@@ -6,10 +6,9 @@ ghost use Rattle.fixp_machine.specs.Machine.{front_of, run, turn_done};
 ghost use Rattle.conn_turns.specs.Frames.{is_whole, is_bad, is_unframed, unframed_at, is_link_over};
 ghost use Rattle.conn_turns.specs.Turns.{bad_calls, end_calls};
 ghost use Rattle.conn_steps.specs.Agreeing.{IsInTurn};
-ghost use Rattle.conn_loop.specs.Conn.{KeepsAll};
+ghost use Rattle.conn_loop.specs.Conn.{KeepsAll, most_in_turn, most_closed};
 
 use crate::conn::Conn;
-use crate::frames::FRAMES;
 use sofh_frame::FirstFrame;
 
 impl Conn {
@@ -38,12 +37,12 @@ impl Conn {
     /// Tells the machine of bytes that no frame begins with, where they stand behind so many frames.
     #[tactic(auto, using(crate::proofs::Machine::bad_drained))]
     fn tell_bad(&mut self, taken: u64, now: u64)
-        requires in_turn { IsInTurn (line_of self.old).machine now 0 }
+        requires in_turn { IsInTurn (line_of self.old).machine now 0 (most_in_turn (line_of self.old)) }
         requires time { now < 2 ^ 44 }
         ensures told { line_of self.new ≡ record (line_of self.old) { machine = run (line_of self.old).machine (bad_calls now (unframed_at taken (line_of self.old))) } }
         ensures keeps { KeepsAll (line_of self.old).machine (line_of self.new).machine now }
     {
-        if taken < FRAMES && self.may_take() && self.holds_bad() {
+        if taken < u64::from(self.per_turn) && self.may_take() && self.holds_bad() {
             self.end.on_bad_frame(self.place, now);
         }
     }
@@ -63,7 +62,7 @@ impl Conn {
     /// Behind the frames of a turn, of which so many were taken: tells the machine of bytes that no frame begins with, of the
     /// link's end, and of the turn's.
     pub(crate) fn close_frames(&mut self, taken: u64, now: u64)
-        requires in_turn { IsInTurn (line_of self.old).machine now 0 }
+        requires in_turn { IsInTurn (line_of self.old).machine now 0 (most_in_turn (line_of self.old)) }
         requires time { now < 2 ^ 44 }
         ensures closed { line_of self.new ≡ record (line_of self.old) { machine = run (line_of self.old).machine (bad_calls now (unframed_at taken (line_of self.old)) ++ (end_calls (is_link_over (line_of self.old)) ++ turn_done now ∷ [])) } }
         ensures begun { (line_of self.new).machine.begun ≡ true }
@@ -73,7 +72,7 @@ impl Conn {
         ensures recorded { (line_of self.new).machine.facts.recorded ≡ (line_of self.old).machine.facts.recorded }
         ensures moment { (line_of self.new).machine.moment ≡ now }
         ensures drained { front_of (line_of self.new).machine ≡ None }
-        ensures small { length (line_of self.new).machine.unsent ≤ 600000 }
+        ensures small { length (line_of self.new).machine.unsent ≤ most_closed (line_of self.old) }
         ensures told { (line_of self.new).machine.ending ≡ None → (line_of self.new).machine.untold ≡ [] }
     {
         self.tell_bad(taken, now);

@@ -23,21 +23,26 @@ pub struct Conn {
     pub(crate) serves: bool,
     /// Whether the link left output unsent as it was sent last, and that was so still as the last turn began.
     pub(crate) waits: bool,
+    /// How many frames a turn takes at most, and how many entries of the outbox it sends.
+    pub(crate) per_turn: u16,
     /// Whether the last turn that received took frames. A business answers them behind that turn, in the outbox.
     pub(crate) took: bool,
     /// What a turn gathers of its frames, until the inbox has it; each turn begins with nothing gathered.
     pub(crate) gathered: Gathered,
+    ghost number: { (1 ≤ per_turn) × (per_turn ≤ 256) },
 }
 
 impl Conn {
     ghost use Rattle.conn_loop.specs.Conn.{line_of, new_line, line_begun, line_cut, GoesOn};
 
-    /// A connection that has not begun, of a new end.
+    /// A connection that has not begun, of a new end. Each turn takes so many frames at most, 1 to 256, and sends as many entries of
+    /// the outbox.
     ///
     /// # Errors
     /// Want of memory for the bytes that are read, and for the messages that a turn gathers.
-    pub fn new(alloc: Global, end: End) -> Result<Conn, AllocError>
-        ensures { IfOk result (λ conn. line_of conn ≡ new_line end) }
+    pub fn new(alloc: Global, end: End, per_turn: u16) -> Result<Conn, AllocError>
+        requires number { (1 ≤ per_turn) × (per_turn ≤ 256) }
+        ensures { IfOk result (λ conn. line_of conn ≡ new_line end per_turn) }
     {
         Ok(Conn {
             alloc,
@@ -47,6 +52,7 @@ impl Conn {
             over: false,
             serves: false,
             waits: false,
+            per_turn,
             took: false,
             gathered: Gathered::new(alloc)?,
         })

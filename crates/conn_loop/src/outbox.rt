@@ -9,7 +9,7 @@ ghost use Rattle.gate_turn.specs.Places.{known};
 ghost use Rattle.gate_turn.specs.Calls.{IsFree};
 ghost use Rattle.gate_senders.specs.Gate.{IsPassAt};
 ghost use Rattle.conn_turns.specs.Turns.{again_calls, live_calls, finish_calls, served_of, served_now, sends_live, live_of, finish_of};
-ghost use Rattle.conn_loop.specs.Conn.{MayServe, SameInbox, Looks};
+ghost use Rattle.conn_loop.specs.Conn.{MayServe, SameInbox, Looks, most_closed};
 ghost use Rattle.conn_loop.specs.Serving.{SentDue, ServedOutbox, BlamesPass, fault_of};
 
 use crate::conn::Conn;
@@ -19,9 +19,6 @@ use gate_senders::{Gate, Kept, Look};
 use gate_turn::Pass;
 use jr_dated::{FetchFault, Journal};
 use std::sync::Wait;
-
-/// How many entries a turn sends at most, again or live.
-const ENTRIES: u16 = 16;
 
 /// A refusal of the outbox, as a turn answers it.
 fn refusal(fault: FetchFault) -> TurnFault
@@ -35,11 +32,11 @@ fn refusal(fault: FetchFault) -> TurnFault
     }
 }
 
-/// How many entries of a range of so many a turn sends again.
-fn entries_of(count: u64) -> u16
-    ensures { result ≡ min 16 count }
+/// How many entries of a range of so many a turn sends again that sends so many at most.
+fn entries_of(most: u16, count: u64) -> u16
+    ensures { result ≡ min most count }
 {
-    u64::from(ENTRIES).min(count) as u16
+    u64::from(most).min(count) as u16
 }
 
 impl Conn {
@@ -69,7 +66,7 @@ impl Conn {
         established && self.end.serving().is_none() && self.has_flow()
     }
 
-    /// Sends entries of the range again that is served, from its front and 16 at most, if one is. Answers whether one is.
+    /// Sends entries of the range again that is served, from its front and as many as a turn sends at most, if one is. Answers whether one is.
     pub(crate) fn send_again<J: Journal, R: Wait>(
         &mut self,
         gate: &Gate<J>,
@@ -79,14 +76,14 @@ impl Conn {
     ) -> Result<bool, FetchFault>
         requires own { IsPassAt gate.now pass.old }
         requires free { IsFree pass.old }
-        requires serve { MayServe (line_of self.old).machine now 600000 (known pass.old) }
+        requires serve { MayServe (line_of self.old).machine now 750000 (known pass.old) }
         requires time { now < 2 ^ 44 }
         ensures own { IsPassAt gate.now pass.new }
         ensures free { IsFree pass.new }
         ensures looks { Looks (known pass.old) (known pass.new) }
         ensures most { (known pass.new).turns ≤ (known pass.old).turns + 1 }
-        ensures again { OnOk result (SentDue J.tells (served_of (served_now (line_of self.old).machine) (known pass.new).seen) (again_calls now) (line_of self.old) (line_of self.new)) }
-        ensures serve { OnOk result (MayServe (line_of self.new).machine now 4600000 (known pass.new)) }
+        ensures again { OnOk result (SentDue J.tells (served_of (line_of self.old).per_turn (served_now (line_of self.old).machine) (known pass.new).seen) (again_calls now) (line_of self.old) (line_of self.new)) }
+        ensures serve { IfOk result (λ again. MayServe (line_of self.new).machine now (if again then 4960000 else 750000) (known pass.new)) }
         ensures same { OnOk result (SameInbox (line_of self.old).machine (line_of self.new).machine) }
         ensures some { IfOk result (λ again. again ≡ is_some (served_now (line_of self.old).machine)) }
         ensures fault { result ≡ Err fetching.Fault → HasFailed (known pass.old).faults (known pass.new).faults }
@@ -99,7 +96,7 @@ impl Conn {
         let Some(range) = self.end.serving() else {
             return Ok(false);
         };
-        let most = entries_of(range.count);
+        let most = entries_of(self.per_turn, range.count);
         match gate.fetch(pass, range.from, most, rt) {
             Ok(entries) => {
                 self.end.send_again(entries.as_slice(), now);
@@ -145,16 +142,16 @@ impl Conn {
     ) -> Result<Option<u64>, FetchFault>
         requires own { IsPassAt gate.now pass.old }
         requires free { IsFree pass.old }
-        requires serve { MayServe (line_of self.old).machine now 4600000 (known pass.old) }
+        requires serve { MayServe (line_of self.old).machine now 750000 (known pass.old) }
         requires time { now < 2 ^ 44 }
         ensures own { IsPassAt gate.now pass.new }
         ensures free { IsFree pass.new }
         ensures looks { Looks (known pass.old) (known pass.new) }
         ensures most { (known pass.new).turns ≤ (known pass.old).turns + 1 }
         ensures least { is_absent (line_of self.old).machine.config.own_flow ≡ false → (known pass.old).turns < (known pass.new).turns }
-        ensures live { OnOk result (SentDue J.tells (live_of (line_of self.old).machine (known pass.new).seen) (live_calls now) (line_of self.old) (line_of self.new)) }
+        ensures live { OnOk result (SentDue J.tells (live_of (line_of self.old).per_turn (line_of self.old).machine (known pass.new).seen) (live_calls now) (line_of self.old) (line_of self.new)) }
         ensures mark { IfOk result (λ mark. mark ≡ finish_of (line_of self.old).machine (known pass.new).seen) }
-        ensures serve { OnOk result (MayServe (line_of self.new).machine now 4900000 (known pass.new)) }
+        ensures serve { OnOk result (MayServe (line_of self.new).machine now 4960000 (known pass.new)) }
         ensures same { OnOk result (SameInbox (line_of self.old).machine (line_of self.new).machine) }
         ensures serving { OnOk result ((line_of self.new).machine.facts.connection.serving ≡ (line_of self.old).machine.facts.connection.serving) }
         ensures fault { result ≡ Err fetching.Fault → HasFailed (known pass.old).faults (known pass.new).faults }
@@ -164,7 +161,7 @@ impl Conn {
         if !self.sends_live() {
             return Ok(self.mark(gate, pass, now, rt));
         }
-        match gate.look(pass, self.end.sent() + 1, ENTRIES, now, rt) {
+        match gate.look(pass, self.end.sent() + 1, self.per_turn, now, rt) {
             Ok(Look { entries, mark }) => {
                 self.end.send_live(entries.as_slice(), now);
                 Ok(mark)
@@ -184,16 +181,16 @@ impl Conn {
     ) -> Result<Option<u64>, FetchFault>
         requires own { IsPassAt gate.now pass.old }
         requires free { IsFree pass.old }
-        requires serve { MayServe (line_of self.old).machine now 4600000 (known pass.old) }
+        requires serve { MayServe (line_of self.old).machine now (if again then 4960000 else 750000) (known pass.old) }
         requires time { now < 2 ^ 44 }
         ensures own { IsPassAt gate.now pass.new }
         ensures free { IsFree pass.new }
         ensures looks { Looks (known pass.old) (known pass.new) }
         ensures most { (known pass.new).turns ≤ (known pass.old).turns + 1 }
         ensures least { is_absent (line_of self.old).machine.config.own_flow ≡ false → (known pass.old).turns < (known pass.new).turns }
-        ensures live { OnOk result (SentDue J.tells (if again then None else live_of (line_of self.old).machine (known pass.new).seen) (live_calls now) (line_of self.old) (line_of self.new)) }
+        ensures live { OnOk result (SentDue J.tells (if again then None else live_of (line_of self.old).per_turn (line_of self.old).machine (known pass.new).seen) (live_calls now) (line_of self.old) (line_of self.new)) }
         ensures mark { IfOk result (λ mark. mark ≡ finish_of (line_of self.old).machine (known pass.new).seen) }
-        ensures serve { OnOk result (MayServe (line_of self.new).machine now 4900000 (known pass.new)) }
+        ensures serve { OnOk result (MayServe (line_of self.new).machine now 4960000 (known pass.new)) }
         ensures same { OnOk result (SameInbox (line_of self.old).machine (line_of self.new).machine) }
         ensures serving { OnOk result ((line_of self.new).machine.facts.connection.serving ≡ (line_of self.old).machine.facts.connection.serving) }
         ensures fault { result ≡ Err fetching.Fault → HasFailed (known pass.old).faults (known pass.new).faults }
@@ -211,10 +208,10 @@ impl Conn {
     fn tell_finish(&mut self, mark: Option<u64>, now: u64)
         requires done { (line_of self.old).machine.pending ≡ None }
         requires drained { front_of (line_of self.old).machine ≡ None }
-        requires little { length (line_of self.old).machine.unsent ≤ 4900000 }
+        requires little { length (line_of self.old).machine.unsent ≤ 4960000 }
         requires time { ((line_of self.old).machine.moment ≤ now) × (now < 2 ^ 44) }
         ensures finish { line_of self.new ≡ record (line_of self.old) { machine = run (line_of self.old).machine (finish_calls now mark) } }
-        ensures serve { (p : Part) → IfSome mark (λ n. (p.seen.finished ≡ true) × (length p.seen.made ≡ n)) → MayServe (line_of self.old).machine now 4900000 p → MayServe (line_of self.new).machine now 5000000 p }
+        ensures serve { (p : Part) → IfSome mark (λ n. (p.seen.finished ≡ true) × (length p.seen.made ≡ n)) → MayServe (line_of self.old).machine now 4960000 p → MayServe (line_of self.new).machine now 5000000 p }
         ensures same { SameInbox (line_of self.old).machine (line_of self.new).machine }
         ensures serving { (line_of self.new).machine.facts.connection.serving ≡ (line_of self.old).machine.facts.connection.serving }
     {
@@ -237,7 +234,7 @@ impl Conn {
     ) -> Result<(), TurnFault>
         requires own { IsPassAt gate.now pass.old }
         requires free { IsFree pass.old }
-        requires serve { MayServe (line_of self.old).machine now 600000 (known pass.old) }
+        requires serve { MayServe (line_of self.old).machine now (most_closed (line_of self.old)) (known pass.old) }
         requires time { now < 2 ^ 44 }
         ensures own { IsPassAt gate.now pass.new }
         ensures free { IsFree pass.new }

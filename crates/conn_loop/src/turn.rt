@@ -14,7 +14,7 @@ ghost use Rattle.conn_turns.specs.declared.answer.TurnFault.TheVariants as fault
 ghost use Rattle.conn_turns.specs.declared.answer.TurnEnd.TheVariants as ends;
 ghost use Rattle.conn_steps.specs.Settling.{SameKind};
 ghost use Rattle.conn_steps.specs.Agreeing.{IsInTurn, Agrees};
-ghost use Rattle.conn_loop.specs.Conn.{GoesOn, HasSeen, HasLooked, Looks};
+ghost use Rattle.conn_loop.specs.Conn.{GoesOn, HasSeen, HasLooked, Looks, most_in_turn};
 ghost use Rattle.conn_loop.specs.Turned.{Exchanged, CutWork, DidTurn, CutTurn, Leaves};
 ghost use Rattle.conn_loop.specs.Live.{live_end};
 
@@ -43,7 +43,7 @@ impl Conn {
     ) -> Result<TurnEnd, TurnFault>
         requires own { IsPassAt gate.now pass.old }
         requires free { IsFree pass.old }
-        requires in_turn { IsInTurn (line_of self.old).machine now 16 }
+        requires in_turn { IsInTurn (line_of self.old).machine now (line_of self.old).per_turn (most_in_turn (line_of self.old)) }
         requires time { now < 2 ^ 44 }
         requires place { (line_of self.old).place < 2 ^ 63 }
         requires sent { (line_of self.old).machine.facts.recorded.sent < 2 ^ 40 }
@@ -83,7 +83,7 @@ impl Conn {
     }
 
     /// One turn. `news` is emptied first, and has then what was delivered and told. Where output is unsent at its start, or its
-    /// tick ends the connection, the turn only sends. Else it receives once, takes at most 16 frames, serves the outbox, and
+    /// tick ends the connection, the turn only sends. Else it receives once, takes at most as many frames as the connection's number, serves the outbox, and
     /// sends until the link takes nothing. What it records, and what senders add later, carries the turn's moment or a later one.
     ///
     /// # Errors

@@ -14,7 +14,7 @@ ghost use Rattle.conn_turns.specs.declared.answer.TurnFault.TheVariants as fault
 ghost use Rattle.conn_turns.specs.Exact.{line_ticked, receives};
 ghost use Rattle.conn_steps.specs.Settling.{SameKind};
 ghost use Rattle.conn_steps.specs.Agreeing.{IsInTurn, Agrees};
-ghost use Rattle.conn_loop.specs.Conn.{GoesOn, HasSeen, Looks, MayServe};
+ghost use Rattle.conn_loop.specs.Conn.{GoesOn, HasSeen, Looks, MayServe, most_in_turn};
 ghost use Rattle.conn_loop.specs.Turned.{ServedFrames, CutShort};
 ghost use Rattle.conn_steps.specs.Ends.{taking_end};
 
@@ -27,8 +27,10 @@ use jr_kept::Inbox;
 use std::alloc::AllocError;
 use std::sync::Wait;
 
-/// How many bytes of output may be unsent where an end still receives.
-const MOST_UNSENT: usize = 300_000;
+/// How many bytes the frame of an entry has at most, and how many may be unsent beside the entries of a turn where an end still receives.
+const FRAME: usize = 16_390;
+
+const BESIDE: usize = 37_760;
 
 impl Conn {
     ghost use Rattle.conn_loop.specs.Conn.{line_of};
@@ -38,7 +40,8 @@ impl Conn {
         ensures { result ≡ receives (line_of self.now) }
     {
         let unsent = self.end.out().len();
-        unsent == 0 || (self.waits && unsent <= MOST_UNSENT)
+        let most = usize::from(self.per_turn) * FRAME + BESIDE;
+        unsent == 0 || (self.waits && unsent <= most)
     }
 
     /// Takes the memory of a turn and ticks, and says whether the turn does more than send.
@@ -52,7 +55,7 @@ impl Conn {
         ensures ticked { OnOk result (line_of self.new ≡ line_ticked (line_of self.old) now) }
         ensures little { result ≡ Ok true → receives (line_of self.old) ≡ true }
         ensures unended { result ≡ Ok true → (line_of self.new).machine.ending ≡ None }
-        ensures in_turn { result ≡ Ok true → IsInTurn (line_of self.new).machine now 16 }
+        ensures in_turn { result ≡ Ok true → IsInTurn (line_of self.new).machine now (line_of self.new).per_turn (most_in_turn (line_of self.new)) }
         ensures why { result ≡ Ok false → (receives (line_of self.old) ≡ false) ⊎ IsSome (line_of self.new).machine.ending }
         ensures facts { OnOk result ((line_of self.new).machine.facts ≡ (line_of self.old).machine.facts) }
         ensures begun { OnOk result ((line_of self.new).machine.begun ≡ true) }
@@ -95,7 +98,7 @@ impl Conn {
     ) -> Result<(), TurnFault>
         requires own { IsPassAt gate.now pass.old }
         requires free { IsFree pass.old }
-        requires in_turn { IsInTurn (line_of self.old).machine now 16 }
+        requires in_turn { IsInTurn (line_of self.old).machine now (line_of self.old).per_turn (most_in_turn (line_of self.old)) }
         requires time { now < 2 ^ 44 }
         requires place { (line_of self.old).place < 2 ^ 63 }
         requires sent { (line_of self.old).machine.facts.recorded.sent < 2 ^ 40 }

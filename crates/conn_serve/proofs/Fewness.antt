@@ -1,4 +1,4 @@
--- A turn tells at most 272 news: each frame that it takes tells once, or is held and tells nothing, and at most 256 messages are held.
+-- A turn tells at most 512 news: each frame that it takes tells once, or is held and tells nothing, and at most 256 messages are held.
 use Rattle.std.proofs.Common.{◌≡◌, ℕ, ◌+◌, ◌-◌, ◌≤◌, ◌==◌, ◌&&◌, not, nat_lt, zero, suc, Bool, true, false, if◌then◌else◌, List, [], ◌∷◌, ◌++◌, length, Option, Some, None, refl, sym, ap, subst, ◌∙◌, arith, length-append}
 use Rattle.std.specs.Prelude.{IfSome, is_some, replicate, take, drop}
 use Rattle.std.specs.List.{AllByRecursion}
@@ -26,7 +26,7 @@ use Rattle.fixp_replies.specs.Incoming.{Incoming, application, session, wrong_or
 use Rattle.fixp_replies.specs.Outcomes.{Outcome, ignores, breaks, not_in_phase}
 use Rattle.fixp_replies.specs.Flowing.{bad_retransmission, counted, taken_as}
 use Rattle.fixp_replies.specs.Replies.{rows_of, answer_of, terminates, reply_of}
-use Rattle.fixp_machine.specs.Machine.{State, around, did, held_done, step, run, front_of, held_until, held_with, after_frame, reply_applied, held_applied, broken_by, ticked, wrote, bytes_of, Windowed}
+use Rattle.fixp_machine.specs.Machine.{State, frames_reserved, around, did, held_done, step, run, front_of, held_until, held_with, after_frame, reply_applied, held_applied, broken_by, ticked, wrote, bytes_of, Windowed}
 use Rattle.fixp_machine.proofs.Rows.{AllRows, by_row, all_rows, all_within}
 use Rattle.fixp_machine.proofs.Holding.{holds_messages}
 use Rattle.conn_turns.specs.declared.news.NewsItem.TheVariants as items
@@ -225,21 +225,21 @@ tick_few s now =
     picked_few (is_some s.ending) at (broken_by beaten late now) (length s.held) (omega arith) (broken_few beaten late now)
 
 pub ticked_few : (l : Line) (now : ℕ) → length (line_ticked l now).machine.held ≤ length l.machine.held
-ticked_few l now = tick_few (record l.machine { room = 16 }) now
+ticked_few l now = tick_few (record l.machine { room = frames_reserved }) now
 
 -- ---- so of a turn
 
-pub turn_few : (before after : History) (old new : Line) (t : Turn) → IsTurn before after old new t → length old.machine.held ≤ 256 → length (tells_in old t) ≤ 272
-turn_few before after old new (only_sends now sent lost) is held = omega arith
-turn_few before after old new (works w) is held =
-    omega (arith, told_few w.now (line_received old w.now w.received w.got) w.frames is.served.frames, is.served.few, ticked_few old w.now, held)
-turn_few before after old new (link_lost now) is held = omega arith
-turn_few before after old new (cut_short now received frames refused) is held = absurd is
-turn_few before after old new not_begun is held = absurd is
+pub turn_few : (before after : History) (old new : Line) (t : Turn) → IsTurn before after old new t → old.per_turn ≤ 256 → length old.machine.held ≤ 256 → length (tells_in old t) ≤ 512
+turn_few before after old new (only_sends now sent lost) is number held = omega arith
+turn_few before after old new (works w) is number held =
+    omega (arith, told_few w.now (line_received old w.now w.received w.got) w.frames is.served.frames, is.served.few, number, ticked_few old w.now, held)
+turn_few before after old new (link_lost now) is number held = omega arith
+turn_few before after old new (cut_short now received frames refused) is number held = absurd is
+turn_few before after old new not_begun is number held = absurd is
 
 -- and of one that was cut short
-pub cut_few : (now : ℕ) (l : Line) (frames : List TakenFrame) (refusal : Option Refusal) → AreTaken now l frames → IfSome refusal (IsRefused now (lines_after now l frames)) → length frames ≤ 16
-    → length l.machine.held ≤ 256 → length (told now l frames ++ told_of now (lines_after now l frames) refusal) ≤ 272
+pub cut_few : (now : ℕ) (l : Line) (frames : List TakenFrame) (refusal : Option Refusal) → AreTaken now l frames → IfSome refusal (IsRefused now (lines_after now l frames)) → length frames ≤ 256
+    → length l.machine.held ≤ 256 → length (told now l frames ++ told_of now (lines_after now l frames) refusal) ≤ 512
 cut_few now l frames refusal taken is few held =
     omega (
       arith,

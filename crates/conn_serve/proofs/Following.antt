@@ -61,7 +61,7 @@ pub record PlainConnection (before after : History) (m : State) (last : Line) (c
   pub seen : History
   pub told : List NewsItem
   pub added : List InboxRecord
-  pub turns : PlainTurns before seen (first_line m c.leg.moment) last c.leg.turns told added
+  pub turns : PlainTurns before seen (first_line c.leg.per_turn m c.leg.moment) last c.leg.turns told added
   pub grows : BeginsHistory seen after
   pub cut_told : List NewsItem
   pub cut_added : List InboxRecord
@@ -98,7 +98,7 @@ plain before after m last c k = record {
   seen = k.behind.seen;
   told = k.told;
   added = k.added;
-  turns = subst (λ (h : History). PlainTurns h k.behind.seen (first_line m c.leg.moment) last c.leg.turns k.told k.added) k.began.seen_is
+  turns = subst (λ (h : History). PlainTurns h k.behind.seen (first_line c.leg.per_turn m c.leg.moment) last c.leg.turns k.told k.added) k.began.seen_is
       (subst (λ (l : Line). PlainTurns c.link.first.seen k.behind.seen l last c.leg.turns k.told k.added) k.began.line
       (subst (λ (l : Line). PlainTurns c.link.first.seen k.behind.seen c.link.first.line l c.leg.turns k.told k.added) k.line
       (plain_turns c.link.eager c.link.first k.behind c.leg.turns k.told k.added k.turns)));

@@ -282,16 +282,16 @@ module _ {J : Type 0} {G : Ghosts J} {tells : Type 0} where
   -- ---- one connection
 
   pub ended_one : {L : Type 0} (P : List InboxRecord → Type 0) (G' : LinkGhosts L) (first last : L) (n : ℕ) (lacking : Bool) (dialed between later : Option DialerTold) (out mid_out now_out : Option (List ℕ)) (before seen : History) (clock ticked : ℕ) (l new : Line) (box since : Inbox J G) (close : Close)
-      → IsNextLink G'.carried first dialed between → ((t : TurnedOn tells G'.eager (connection_at (G'.told first) (G'.carried first) out before clock l box) (connection_at (G'.told last) (G'.carried last) mid_out seen ticked new since)) × P t.turned.adds)
+      → (1 ≤ l.per_turn) × (l.per_turn ≤ 256) → IsNextLink G'.carried first dialed between → ((t : TurnedOn tells G'.eager (connection_at (G'.told first) (G'.carried first) out before clock l box) (connection_at (G'.told last) (G'.carried last) mid_out seen ticked new since)) × P t.turned.adds)
       → later ≡ option_map (returned (G'.carried last)) between → ClosesAs close new.machine.ending → (close ≡ closes.LinkFault → HasRisen (G'.faults first) (G'.faults last)) → Tells lacking mid_out now_out (connection_line n close)
       → EndedOne tells (IsRoundOf G' clock ticked P) n lacking (life_at dialed out before box) (life_at later now_out seen since) l.machine new.machine close
-  ended_one P G' first last n lacking dialed between later out mid_out now_out before seen clock ticked l new box since close next turned_on back closed lost lines =
+  ended_one P G' first last n lacking dialed between later out mid_out now_out before seen clock ticked l new box since close number next turned_on back closed lost lines =
       let on = turned_on.0 in
       let t = on.turned in
-      let leg : TurnedLeg = record { moment = on.moment; turns = t.turns; cut = None } in
+      let leg : TurnedLeg = record { per_turn = l.per_turn; moment = on.moment; turns = t.turns; cut = None } in
       let given : given_on leg ≡ flat_map given_in t.turns = ap (flat_map given_in) (append-nil t.turns) in
       let sent : sent_on leg ≡ flat_map sent_in t.turns = ap (flat_map sent_in) (append-nil t.turns) in
-      let began : TurnAt = record { told = G'.told first; carried = G'.carried first; seen = before; clock = on.clock; line = first_line l.machine on.moment } in
+      let began : TurnAt = record { told = G'.told first; carried = G'.carried first; seen = before; clock = on.clock; line = first_line l.per_turn l.machine on.moment } in
       let behind : TurnAt = record { told = G'.told last; carried = G'.carried last; seen = seen; clock = ticked; line = new } in
       record {
         connection = record {
@@ -304,12 +304,12 @@ module _ {J : Type 0} {G : Ghosts J} {tells : Type 0} where
           close = Some close;
           carried = G'.carried last;
         };
-        is_known = ((over_these G' first last before seen on.clock ticked (first_line l.machine on.moment) new, on.began.later, omega arith), turned_on.1);
+        is_known = ((over_these G' first last before seen on.clock ticked (first_line l.per_turn l.machine on.moment) new, on.began.later, omega arith), turned_on.1);
         closed = refl;
         ended = record {
           last = new;
           is = record {
-            began = record { seen_is = refl; line = refl; time = on.began.is };
+            began = record { seen_is = refl; line = refl; number = number; time = on.began.is };
             behind = behind;
             line = refl;
             told = t.news;
@@ -340,17 +340,17 @@ module _ {J : Type 0} {G : Ghosts J} {tells : Type 0} where
       }
 
   pub gave_one : {L : Type 0} (P : List InboxRecord → Type 0) (G' : LinkGhosts L) (first last : L) (why : Option ServeFault) (dialed between later : Option DialerTold) (out now_out : Option (List ℕ)) (before seen : History) (clock ticked : ℕ) (l new : Line) (box since : Inbox J G)
-      → IsNextLink G'.carried first dialed between → ((g : GivenUpOn tells G'.eager why (connection_at (G'.told first) (G'.carried first) out before clock l box) (connection_at (G'.told last) (G'.carried last) now_out seen ticked new since)) × P (g.given_up.adds ++ g.given_up.cut_added))
+      → (1 ≤ l.per_turn) × (l.per_turn ≤ 256) → IsNextLink G'.carried first dialed between → ((g : GivenUpOn tells G'.eager why (connection_at (G'.told first) (G'.carried first) out before clock l box) (connection_at (G'.told last) (G'.carried last) now_out seen ticked new since)) × P (g.given_up.adds ++ g.given_up.cut_added))
       → later ≡ option_map (returned (G'.carried last)) between → GaveOneUp tells (IsRoundOf G' clock ticked P) why (life_at dialed out before box) (life_at later now_out seen since) l.machine
-  gave_one P G' first last why dialed between later out now_out before seen clock ticked l new box since next given_on back =
+  gave_one P G' first last why dialed between later out now_out before seen clock ticked l new box since number next given_on back =
       let on = given_on.0 in
       let g = on.given_up in
-      let began : TurnAt = record { told = G'.told first; carried = G'.carried first; seen = before; clock = on.clock; line = first_line l.machine on.moment } in
+      let began : TurnAt = record { told = G'.told first; carried = G'.carried first; seen = before; clock = on.clock; line = first_line l.per_turn l.machine on.moment } in
       let behind : TurnAt = record { told = G'.told last; carried = G'.carried last; seen = seen; clock = ticked; line = new } in
       record {
         connection = record {
           link = record { eager = G'.eager; first = began; end = behind; faults_before = G'.faults first; faults_behind = G'.faults last };
-          leg = record { moment = on.moment; turns = g.turns; cut = g.cut };
+          leg = record { per_turn = l.per_turn; moment = on.moment; turns = g.turns; cut = g.cut };
           news = g.news ++ g.cut_told;
           adds = g.adds ++ g.cut_added;
           refused = g.refused;
@@ -358,11 +358,11 @@ module _ {J : Type 0} {G : Ghosts J} {tells : Type 0} where
           close = None;
           carried = G'.carried last;
         };
-        is_known = ((over_these G' first last before seen on.clock ticked (first_line l.machine on.moment) new, on.began.later, omega arith), given_on.1);
+        is_known = ((over_these G' first last before seen on.clock ticked (first_line l.per_turn l.machine on.moment) new, on.began.later, omega arith), given_on.1);
         unclosed = refl;
         last = g.behind.line;
         is = record {
-          began = record { seen_is = refl; line = refl; time = on.began.is };
+          began = record { seen_is = refl; line = refl; number = number; time = on.began.is };
           behind = g.behind;
           line = refl;
           told = g.news;

@@ -43,6 +43,7 @@ use Rattle.conn_serve.specs.Causes.{lacks, lacks_at, Tells}
 use Rattle.conn_serve.specs.Turned.{Turned, CutOff, GivenUp, Begins, TurnedOn, GivenUpOn}
 use Rattle.conn_serve.specs.Answers.{close_of, IsOfTurn}
 use Rattle.conn_serve.proofs.Fewness.{turn_few, cut_few, ticked_few}
+use Rattle.turn_laws.proofs.Numbers.{turn_number}
 use Rattle.conn_loop.specs.Live.{EndAt, live_end}
 use Rattle.conn_serve.specs.Moments.{ConnectionAt, connection_at, turn_in}
 
@@ -90,19 +91,23 @@ frames_place : (now : ℕ) (l : Line) (frames : List TakenFrame) → AreTaken no
 frames_place now l [] taken = omega arith
 frames_place now l (t ∷ later) taken = omega (arith, frames_place now (line_after now l t) later taken.1, taken.0.next.begins.admissible.most, place_after now l t)
 
-turn_place : (a b : History) (l m : Line) (t : Turn) → IsTurn a b l m t → m.place ≤ l.place + 262240
-turn_place a b l m (only_sends now sent lost) is = omega (arith, ap (λ (x : Line). x.place) is.0.line)
-turn_place a b l m (works w) is =
-    omega (arith, ap (λ (x : Line). x.place) is.sends.line, is.served.place, frames_place w.now _ w.frames is.served.frames, is.served.few)
-turn_place a b l m (link_lost now) is = omega (arith, ap (λ (x : Line). x.place) is.0)
-turn_place a b l m (cut_short now received frames refused) is = absurd is
-turn_place a b l m not_begun is = absurd is
+turn_place : (a b : History) (l m : Line) (t : Turn) → IsTurn a b l m t → l.per_turn ≤ 256 → m.place ≤ l.place + 4195840
+turn_place a b l m (only_sends now sent lost) is number = omega (arith, ap (λ (x : Line). x.place) is.0.line)
+turn_place a b l m (works w) is number =
+    omega (arith, ap (λ (x : Line). x.place) is.sends.line, is.served.place, frames_place w.now _ w.frames is.served.frames, is.served.few, number)
+turn_place a b l m (link_lost now) is number = omega (arith, ap (λ (x : Line). x.place) is.0)
+turn_place a b l m (cut_short now received frames refused) is number = absurd is
+turn_place a b l m not_begun is number = absurd is
 
-pub turns_place : (eager : Bool) (a b : TurnAt) (ts : List Turn) (news : List NewsItem) (adds : List InboxRecord) → WereTurns eager a b ts news adds → b.line.place ≤ a.line.place + length ts * 262240
-turns_place eager a b [] news adds were = omega (arith, ap (λ (x : TurnAt). x.line.place) were.0)
-turns_place eager a b (t ∷ ts) news adds were =
+pub turns_place : (eager : Bool) (a b : TurnAt) (ts : List Turn) (news : List NewsItem) (adds : List InboxRecord) → WereTurns eager a b ts news adds → a.line.per_turn ≤ 256 → b.line.place ≤ a.line.place + length ts * 4195840
+turns_place eager a b [] news adds were number = omega (arith, ap (λ (x : TurnAt). x.line.place) were.0)
+turns_place eager a b (t ∷ ts) news adds were number =
     let (unended, mid, made, told, added, news_are, adds_are, behind) = were in
-    omega (arith, turn_place a.seen mid.seen a.line mid.line t made.is, turns_place eager mid b ts told added behind)
+    omega (
+      arith,
+      turn_place a.seen mid.seen a.line mid.line t made.is number,
+      turns_place eager mid b ts told added behind (omega (arith, turn_number a.seen mid.seen a.line mid.line t made.is, number)),
+    )
 
 -- ---- lines
 
@@ -180,12 +185,12 @@ memory_turn : (fault : TurnFault) (why : ServeFault) → fault ≡ turn_faults.M
 memory_turn fault why memory is = let same : close_of (Err turn_faults.Memory) ≡ Err why = subst (λ (f : TurnFault). close_of (Err f) ≡ Err why) memory is in cc
 
 module _ {J : Type 0} {G : Ghosts J} where
-  -- ---- a turn that was cut short told at most 272 news
+  -- ---- a turn that was cut short told at most 512 news
 
-  pub cut_is_few : (eager : Bool) (before after : ℕ) (old new : EndAt J G) (why : ServeFault) → old.news ≡ [] → length old.line.machine.held ≤ 256 → CutOff eager before after old new why → length new.news ≤ 272
-  cut_is_few eager before after old new why none held c = by_kind c.cut
+  pub cut_is_few : (eager : Bool) (before after : ℕ) (old new : EndAt J G) (why : ServeFault) → old.news ≡ [] → old.line.per_turn ≤ 256 → length old.line.machine.held ≤ 256 → CutOff eager before after old new why → length new.news ≤ 512
+  cut_is_few eager before after old new why none number held c = by_kind c.cut
     where
-      by_kind : NotBegun old new c.fault ⊎ WasCut eager before after old new c.fault → length new.news ≤ 272
+      by_kind : NotBegun old new c.fault ⊎ WasCut eager before after old new c.fault → length new.news ≤ 512
       by_kind (inl n) = omega (arith, ap (λ (e : EndAt J G). length e.news) n.1, ap (λ (ns : List NewsItem). length ns) none)
       by_kind (inr k) =
           let l : Line = line_received old.line k.now k.received k.made.cut.got in
@@ -193,7 +198,7 @@ module _ {J : Type 0} {G : Ghosts J} where
           omega (
             arith,
             ap (λ (ns : List NewsItem). length ns) (k.news_are ∙ ap (λ (ns : List NewsItem). ns ++ ms) none),
-            cut_few k.now l k.frames k.refusal k.made.cut.taken k.made.cut.is k.few (omega (arith, ticked_few old.line k.now, held)),
+            cut_few k.now l k.frames k.refusal k.made.cut.taken k.made.cut.is (omega (arith, k.few, number)) (omega (arith, ticked_few old.line k.now, held)),
           )
 
   -- a connection between its turns, as its next turn finds it, and as it leaves it with these news
@@ -212,12 +217,12 @@ module _ {J : Type 0} {G : Ghosts J} where
   }
 
 module _ {J : Type 0} {G : Ghosts J} {tells : Type 0} where
-  pub was_few : (eager : Bool) (before after : ℕ) (old new : EndAt J G) → old.news ≡ [] → length old.line.machine.held ≤ 256 → WasTurn tells eager before after old new → length new.news ≤ 272
-  was_few eager before after old new none held was =
+  pub was_few : (eager : Bool) (before after : ℕ) (old new : EndAt J G) → old.news ≡ [] → old.line.per_turn ≤ 256 → length old.line.machine.held ≤ 256 → WasTurn tells eager before after old new → length new.news ≤ 512
+  was_few eager before after old new none number held was =
       omega (
         arith,
         ap (λ (ns : List NewsItem). length ns) (was.news_are ∙ ap (λ (ns : List NewsItem). ns ++ tells_in old.line was.turn) none),
-        turn_few old.seen new.seen old.line new.line was.turn was.made.is held,
+        turn_few old.seen new.seen old.line new.line was.turn was.made.is number held,
       )
 
   -- ---- turns
@@ -267,10 +272,10 @@ module _ {J : Type 0} {G : Ghosts J} {tells : Type 0} where
     lines = subst (Appends old.out new.out) (sym (lines_on x.news y.news)) (Appends-trans old.out mid.out new.out (news_lines x.news) (news_lines y.news) x.lines y.lines);
   }
 
-  pub turned_place : (eager : Bool) (old new : ConnectionAt J G) (n : ℕ) → Turned tells eager old new n → new.line.place ≤ old.line.place + n * 262240
-  turned_place eager old new n t =
+  pub turned_place : (eager : Bool) (old new : ConnectionAt J G) (n : ℕ) → Turned tells eager old new n → old.line.per_turn ≤ 256 → new.line.place ≤ old.line.place + n * 4195840
+  turned_place eager old new n t number =
       let many = t.many in
-      subst (λ (k : ℕ). new.line.place ≤ old.line.place + k * 262240) many (turns_place eager (turn_in old) (turn_in new) t.turns t.news t.adds t.were)
+      subst (λ (k : ℕ). new.line.place ≤ old.line.place + k * 4195840) many (turns_place eager (turn_in old) (turn_in new) t.turns t.news t.adds t.were number)
 
   -- ---- where it is given up
 
@@ -337,7 +342,7 @@ module _ {J : Type 0} {G : Ghosts J} {tells : Type 0} where
 
   -- at a whole turn whose lines are lacking
   pub given_lacking : (eager : Bool) (fault : ServeFault) (old new : ConnectionAt J G) (news : List NewsItem)
-      → old.line.machine.ending ≡ None → WasTurn tells eager old.clock new.clock (end_at old []) (end_at new news) → length news ≤ 272 → Tells (lacks fault) old.out new.out (news_lines news)
+      → old.line.machine.ending ≡ None → WasTurn tells eager old.clock new.clock (end_at old []) (end_at new news) → length news ≤ 512 → Tells (lacks fault) old.out new.out (news_lines news)
       → (fault ≡ faults.Output) ⊎ (fault ≡ faults.Memory)
       → GivenUp tells eager (Some fault) old new
   given_lacking eager fault old new news unended was few lines which = record {
@@ -433,7 +438,7 @@ module _ {J : Type 0} {G : Ghosts J} {tells : Type 0} where
 
   -- at a turn that was cut short
   given_cut : (eager : Bool) (fault why : ServeFault) (turn_fault : TurnFault) (old new : ConnectionAt J G) (news : List NewsItem)
-      → BeginsHistory old.seen new.seen → WasCut eager old.clock new.clock (end_at old []) (end_at new news) turn_fault → close_of (Err turn_fault) ≡ Err why → length news ≤ 272 → Tells (lacks fault) old.out new.out (news_lines news)
+      → BeginsHistory old.seen new.seen → WasCut eager old.clock new.clock (end_at old []) (end_at new news) turn_fault → close_of (Err turn_fault) ≡ Err why → length news ≤ 512 → Tells (lacks fault) old.out new.out (news_lines news)
       → (fault ≡ faults.Turns → ⊥) → ((entries bytes : ℕ) → fault ≡ faults.Full entries bytes → why ≡ faults.Full entries bytes) → GivenUp tells eager (Some fault) old new
   given_cut eager fault why turn_fault old new news grows k is few lines no_turns full = record {
     behind = turn_in old;
@@ -467,7 +472,7 @@ module _ {J : Type 0} {G : Ghosts J} {tells : Type 0} where
 
   -- at either
   given_off : (eager : Bool) (fault why : ServeFault) (old new : ConnectionAt J G) (news : List NewsItem)
-      → BeginsHistory old.seen new.seen → old.clock ≤ new.clock → CutOff eager old.clock new.clock (end_at old []) (end_at new news) why → length news ≤ 272 → Tells (lacks fault) old.out new.out (news_lines news)
+      → BeginsHistory old.seen new.seen → old.clock ≤ new.clock → CutOff eager old.clock new.clock (end_at old []) (end_at new news) why → length news ≤ 512 → Tells (lacks fault) old.out new.out (news_lines news)
       → (fault ≡ faults.Turns → ⊥) → (fault ≡ faults.Journal → why ≡ faults.Journal) → ((which : Which) (at : ℕ) → fault ≡ faults.Changed which at → why ≡ faults.Changed which at) → ((entries bytes : ℕ) → fault ≡ faults.Full entries bytes → why ≡ faults.Full entries bytes) → GivenUp tells eager (Some fault) old new
   given_off eager fault why old new news grows ticks c few lines no_turns journal change full = by_kind c.cut
     where
@@ -518,7 +523,7 @@ module _ {J : Type 0} {G : Ghosts J} {tells : Type 0} where
   -- a turn whose lines are lacking, whole or cut short
   pub given_told : {A : Type 0} (r : Result A ServeFault) (fault : ServeFault) (H : Type 0) (eager : Bool) (old new : ConnectionAt J G) (news : List NewsItem)
       → old.line.machine.ending ≡ None → BeginsHistory old.seen new.seen → old.clock ≤ new.clock → OnOk r (WasTurn tells eager old.clock new.clock (end_at old []) (end_at new news)) → IfErr r (CutOff eager old.clock new.clock (end_at old []) (end_at new news))
-      → length news ≤ 272 → TakesFront old.out new.out (news_lines news) → ((fault ≡ faults.Output) × H) ⊎ (fault ≡ faults.Memory) → GivenUp tells eager (Some fault) old new
+      → length news ≤ 512 → TakesFront old.out new.out (news_lines news) → ((fault ≡ faults.Output) × H) ⊎ (fault ≡ faults.Memory) → GivenUp tells eager (Some fault) old new
   given_told (Ok a) fault H eager old new news unended grows ticks whole cut few front cause =
       given_lacking eager fault old new news unended whole few (lacking_tells fault H old.out new.out (news_lines news) cause front) (which_lacks fault H cause)
   given_told (Err e) fault H eager old new news unended grows ticks whole cut few front cause =
@@ -528,7 +533,7 @@ module _ {J : Type 0} {G : Ghosts J} {tells : Type 0} where
 module _ {J : Type 0} {G : Ghosts J} (tells : Type 0) where
   -- and one that was cut short, and whose lines were told
   pub given_answer : {A : Type 0} (r : Result A ServeFault) (eager : Bool) (old new : ConnectionAt J G) (news : List NewsItem)
-      → BeginsHistory old.seen new.seen → old.clock ≤ new.clock → IfErr r (CutOff eager old.clock new.clock (end_at old []) (end_at new news)) → IfErr r IsOfTurn → length news ≤ 272 → Appends old.out new.out (news_lines news)
+      → BeginsHistory old.seen new.seen → old.clock ≤ new.clock → IfErr r (CutOff eager old.clock new.clock (end_at old []) (end_at new news)) → IfErr r IsOfTurn → length news ≤ 512 → Appends old.out new.out (news_lines news)
       → IfErr r (λ fault. GivenUp tells eager (Some fault) old new)
   given_answer (Ok a) eager old new news grows ticks cut is few lines = tt
   given_answer (Err fault) eager old new news grows ticks cut is few lines =

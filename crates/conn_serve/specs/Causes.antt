@@ -43,21 +43,21 @@ pub record TellsUntil (lacking : Bool) (old new : Option (List ℕ)) (earlier la
   pub first : Appends old between earlier
   pub last : Tells lacking between new late
 
--- so it took the lines of these news, of which the late ones are at most 272, as many as a turn tells: by 16 frames, and by 256 messages that
+-- so it took the lines of these news, of which the late ones are at most 512, as many as a turn tells: by 256 frames, and by 256 messages that
 -- were held
 pub record TellsNews (lacking : Bool) (old new : Option (List ℕ)) (news : List NewsItem) : Type 0 where
   pub earlier : List NewsItem
   pub late : List NewsItem
   pub are : news ≡ earlier ++ late
-  pub few : length late ≤ 272
+  pub few : length late ≤ 512
   pub lines : TellsUntil lacking old new (news_lines earlier) (news_lines late)
 
--- the lines of at most 272 news, or that of the end of a connection
+-- the lines of at most 512 news, or that of the end of a connection
 abbrev pub AreLate : List ℕ → Type 0
-AreLate lines = ((news : List NewsItem) × (length news ≤ 272) × (lines ≡ news_lines news))
+AreLate lines = ((news : List NewsItem) × (length news ≤ 512) × (lines ≡ news_lines news))
     ⊎ ((n : ℕ) × (close : Option Close) × (lines ≡ close_line n close))
 
--- so it took these lines, of which the late ones are those of at most 272 news, or that of the end of a connection
+-- so it took these lines, of which the late ones are those of at most 512 news, or that of the end of a connection
 pub record TellsAll (lacking : Bool) (old new : Option (List ℕ)) (lines : List ℕ) : Type 0 where
   pub earlier : List ℕ
   pub late : List ℕ

@@ -94,16 +94,18 @@ abbrev pub CutAt : (eager : Bool) (old new : TurnAt) → Option Turn → List Ne
 CutAt eager old new None news adds refused wanted = (news ≡ []) × (adds ≡ []) × (refused ≡ []) × (wanted ≡ []) × MadeNoMore old new
 CutAt eager old new (Some t) news adds refused wanted = WasCutAt eager old new t news adds refused wanted
 
--- a connection began at its moment in the state m, by a pass that had seen so much of the outbox
-pub record BeganAt (seen : History) (m : State) (moment : ℕ) (first : TurnAt) : Type 0 where
+-- a connection whose turns take so many frames at most, from 1 to 256, began at its moment in the state m, by a pass that had seen so much of
+-- the outbox
+pub record BeganAt (seen : History) (m : State) (per_turn moment : ℕ) (first : TurnAt) : Type 0 where
   pub seen_is : first.seen ≡ seen
-  pub line : first.line ≡ first_line m moment
+  pub line : first.line ≡ first_line per_turn m moment
+  pub number : (1 ≤ per_turn) × (per_turn ≤ 256)
   pub time : moment ≡ max first.clock m.moment
 
 -- A connection began at its moment in the state m; its whole turns led to the line `last`, and behind them one was cut short, if one was. What
 -- was seen of the outbox begins with what was seen behind the whole turns
 pub record IsConnection (before after : History) (m : State) (last : Line) (c : Connection) : Type 0 where
-  pub began : BeganAt before m c.leg.moment c.link.first
+  pub began : BeganAt before m c.leg.per_turn c.leg.moment c.link.first
   pub behind : TurnAt
   pub line : behind.line ≡ last
   pub told : List NewsItem

@@ -107,11 +107,11 @@ module _ {J : Type 0} {G : Ghosts J} where
     pub clock : ℕ
     pub began : Begins old moment clock
     pub count : ℕ
-    pub turned : Turned tells eager (record old { clock = clock; line = first_line old.line.machine moment }) new count
+    pub turned : Turned tells eager (record old { clock = clock; line = first_line old.line.per_turn old.line.machine moment }) new count
 
   -- a connection began in the machine's state, in time, and was given up
   pub record GivenUpOn (tells : Type 0) (eager : Bool) (why : Option ServeFault) (old new : ConnectionAt J G) : Type 0 where
     pub moment : ℕ
     pub clock : ℕ
     pub began : Begins old moment clock
-    pub given_up : GivenUp tells eager why (record old { clock = clock; line = first_line old.line.machine moment }) new
+    pub given_up : GivenUp tells eager why (record old { clock = clock; line = first_line old.line.per_turn old.line.machine moment }) new

@@ -131,7 +131,7 @@ pub(crate) fn answer_turn<O: Journal + Send, B: Business<O> + Send, R: Threads +
     requires own { B.has (business_of answering.old) (lock_of gate.now) }
     requires few { B.count (business_of answering.old) ≤ senders_of gate.now }
     requires unrefused { refused_in answering.old ≡ None }
-    requires turn { length (items_of news.old) ≤ 272 }
+    requires turn { length (items_of news.old) ≤ 512 }
     ensures own { B.has (business_of answering.new) (lock_of gate.now) }
     ensures same { (B.count (business_of answering.new) ≡ B.count (business_of answering.old)) × (B.plan (business_of answering.new) ≡ B.plan (business_of answering.old)) }
     ensures stays { StaysBusiness (business_at B.stands B.plan B.count B.part answering.old) (business_at B.stands B.plan B.count B.part answering.new) }

@@ -74,7 +74,7 @@ fn make_turn<L: Link, O: Journal, I: Journal, C: Clock, R: Wait>(
     ensures stays { Stays end.old end.new }
     ensures whole { OnOk result (WasTurn O.tells L.eager (C.last end.old.clock.now) (C.last end.new.clock.now) (in_turn (L.told link.old) (L.carried link.old) end.old []) (in_turn (L.told link.new) (L.carried link.new) end.new (items_of news.new))) }
     ensures cut { IfErr result (CutOff L.eager (C.last end.old.clock.now) (C.last end.new.clock.now) (in_turn (L.told link.old) (L.carried link.old) end.old []) (in_turn (L.told link.new) (L.carried link.new) end.new (items_of news.new))) }
-    ensures few { length (items_of news.new) ≤ 272 }
+    ensures few { length (items_of news.new) ≤ 512 }
     ensures goes { result ≡ Ok None → MayTurn end.new }
     ensures closed { (close : Close) → result ≡ Ok (Some close) → ClosesAs close (line_in end.new).machine.ending }
     ensures leaves { OnOk result (Leaves (line_in end.new).machine (pass_in end.new) end.new.inbox.now) }
@@ -100,7 +100,7 @@ fn turn_once<L: Link, K: Sink, O: Journal, I: Journal, C: Clock, R: Wait>(
     requires may { MayTurn end.old }
     requires place { (line_in end.old).place < 2 ^ 63 }
     ensures stays { Stays end.old end.new }
-    ensures few { length (items_of teller.new.news) ≤ 272 }
+    ensures few { length (items_of teller.new.news) ≤ 512 }
     ensures turned { OnOk result ((t : Turned O.tells L.eager (connection_in (L.told link.old) (L.carried link.old) (K.taken out.old) end.old) (connection_in (L.told link.new) (L.carried link.new) (K.taken out.new) end.new) 1)
         × (delivered_in (items_of teller.new.news) ≡ messages_of t.adds)) }
     ensures goes { result ≡ Ok None → MayTurn end.new }

@@ -38,6 +38,10 @@ use std::alloc::{AllocError, Global};
 use std::sync::Wait;
 use std::thread::{Threads, join_mut};
 
+/// How many frames a turn of a life's connections takes at most, and entries of the outbox it sends: as many as make their records stable in one
+/// piece pay for a slow disk.
+const PER_TURN: u16 = 256;
+
 /// What the journals record as the life opens: what the inbox has, and how many entries the outbox had.
 fn opened_state<O: Journal, I: Journal>(gate: &Gate<O>, inbox: &Inbox<I>) -> EndState
     ensures { result ≡ opened_state (opening_of gate.now).history inbox.now }
@@ -65,10 +69,10 @@ pub fn opened<O: Journal, I: Journal>(
     requires most { most ≤ 2 ^ 26 }
     requires numbered { config.peer_flow ≡ Recoverable → next_of inbox.now + 1 < 2 ^ 64 }
     requires sent { length (opening_of gate.now).history.made < 2 ^ 40 }
-    ensures { IfOk result (λ conn. line_of conn ≡ new_line (fresh config (opened_state (opening_of gate.now).history inbox.now) most)) }
+    ensures { IfOk result (λ conn. line_of conn ≡ new_line (fresh config (opened_state (opening_of gate.now).history inbox.now) most) 256) }
 {
     let end = End::new(alloc, config, opened_state(gate, inbox), most)?;
-    Conn::new(alloc, end)
+    Conn::new(alloc, end, PER_TURN)
 }
 
 /// Serves the connections, with the senders beside them, who wake them.

@@ -40,7 +40,7 @@ longer ms ns = omega (arith, length-append ms ns)
 module _ {J : Type 0} {G : Ghosts J} where
   -- the first message that is not stable, of the latest frames of a turn
   cut_latest : (now count : ℕ) (old : TakingEnd J G) (box : Inbox J G) (news : List NewsItem) (f : LatestFrames now count old box news) (line : Line) (after : Inbox J G) (later : List NewsItem)
-      (ms : List Numbered) (k n : ℕ) (fault : TurnFault) → count ≤ 16 → ms ≡ messages_in now (lines_after now old.line f.stable) f.latest → k < length ms
+      (ms : List Numbered) (k n : ℕ) (fault : TurnFault) → count ≤ old.line.per_turn → ms ≡ messages_in now (lines_after now old.line f.stable) f.latest → k < length ms
       → Refuses box after (applies (take k ms)) (refused_by fault (applies (take n (drop k ms)))) → later ≡ news ++ delivers (take k ms)
       → ((entries bytes : ℕ) → fault ≡ faults.Full entries bytes → IsPast (limits_of after).bytes bytes (applies (take 1 (drop k ms)))) → CutFrames now old (taking_end line after later) fault
   cut_latest now count old box news f line after later ms k n fault many are few refuses said past = record {
@@ -120,7 +120,7 @@ module _ {J : Type 0} {G : Ghosts J} where
           ∙ ap (λ (rs : List InboxRecord). (added now old.line frames ++ stood now (lines_after now old.line frames) u.refusal) ++ rs) rest)))))))
 
   -- what waited was refused
-  pub cut_waiting : (now count : ℕ) (old : TakingEnd J G) (mid : GatheringEnd J G) (line : Line) (after : Inbox J G) (later : List NewsItem) (cause : AppendFault) (fault : TurnFault) → count ≤ 16
+  pub cut_waiting : (now count : ℕ) (old : TakingEnd J G) (mid : GatheringEnd J G) (line : Line) (after : Inbox J G) (later : List NewsItem) (cause : AppendFault) (fault : TurnFault) → count ≤ old.line.per_turn
       → GatheredFrames now count old mid → fault ≡ fault_of (count_of after) cause → SomeStand mid.intake.box after mid.intake.news later (waiting_in mid.intake) cause
       → CutFrames now old (taking_end line after later) fault
   cut_waiting now count old mid line after later cause fault many g caused s =
@@ -130,7 +130,7 @@ module _ {J : Type 0} {G : Ghosts J} where
       (past_as after (count_of after) cause fault (applies (take 1 (drop s.count ms))) (applies (take 1 (drop s.count ms))) caused refl s.past)
 
   -- a message of the next frame lacks memory
-  cut_message : (now count : ℕ) (old : TakingEnd J G) (mid : GatheringEnd J G) (line : Line) (after : Intake J G) (t : TakenFrame) (cause : AppendFault) (fault : TurnFault) → count < 16
+  cut_message : (now count : ℕ) (old : TakingEnd J G) (mid : GatheringEnd J G) (line : Line) (after : Intake J G) (t : TakenFrame) (cause : AppendFault) (fault : TurnFault) → count < old.line.per_turn
       → GatheredFrames now count old mid → IsTaken now mid.line t → fault ≡ fault_of (count_of after.box) cause
       → LacksMemory mid.intake after (act_at now mid.line t) (messages_of now mid.line t) cause → CutFrames now old (taking_end line after.box after.news) fault
   cut_message now count old mid line after t cause fault many g taken caused l =
@@ -146,7 +146,7 @@ module _ {J : Type 0} {G : Ghosts J} where
       (sym (append-nil after.news)) (λ entries bytes e. absurd (cc (e, memory)))
 
   -- its record was refused
-  cut_record : (now count : ℕ) (old : TakingEnd J G) (mid : GatheringEnd J G) (line : Line) (after : Intake J G) (t : TakenFrame) (cause : AppendFault) (fault : TurnFault) → count < 16
+  cut_record : (now count : ℕ) (old : TakingEnd J G) (mid : GatheringEnd J G) (line : Line) (after : Intake J G) (t : TakenFrame) (cause : AppendFault) (fault : TurnFault) → count < old.line.per_turn
       → GatheredFrames now count old mid → IsTaken now mid.line t → fault ≡ fault_of (count_of after.box) cause → lets_wait (act_at now mid.line t) ≡ false
       → RefusedRecord mid.intake after (act_at now mid.line t) cause → CutFrames now old (taking_end line after.box after.news) fault
   cut_record now count old mid line after t cause fault many g taken caused other r = record {
@@ -196,7 +196,7 @@ module _ {J : Type 0} {G : Ghosts J} where
           ∙ (ap (λ (ms : List Numbered). settled_by act ++ applies ms) (other_messages act t.incoming other) ∙ append-nil (settled_by act)))
 
   -- the next frame was not taken
-  pub cut_frame : (now count : ℕ) (old : TakingEnd J G) (mid new : GatheringEnd J G) (fault : TurnFault) → count < 16 → GatheredFrames now count old mid → RefusedFrame now mid new fault
+  pub cut_frame : (now count : ℕ) (old : TakingEnd J G) (mid new : GatheringEnd J G) (fault : TurnFault) → count < old.line.per_turn → GatheredFrames now count old mid → RefusedFrame now mid new fault
       → CutFrames now old (taking_end new.line new.intake.box new.intake.news) fault
   cut_frame now count old mid new fault many g r = by_cause r.undone
     where

@@ -23,15 +23,16 @@ use Rattle.conn_steps.specs.Ends.{Intake, TakingEnd, GatheringEnd, intake, waiti
 use Rattle.conn_steps.specs.Taking.{taken_as, messages_at, AnsweredFrame, RefusedAnswer, Undone, TookFrame, RefusedFrame, LatestFrames, GatheredFrames, TookFrames}
 use Rattle.conn_steps.proofs.Rooms.{gains_none, gains_on}
 
--- a line is its six parts
-pub line_is : (a b : Line) → a.machine ≡ b.machine → a.held ≡ b.held → a.place ≡ b.place → a.over ≡ b.over → a.serves ≡ b.serves → a.waits ≡ b.waits → a ≡ b
-line_is a b machine held place over serves waits =
-    ap (λ (m : State). record { machine = m; held = a.held; place = a.place; over = a.over; serves = a.serves; waits = a.waits }) machine
-    ∙ (ap (λ (h : List ℕ). record { machine = b.machine; held = h; place = a.place; over = a.over; serves = a.serves; waits = a.waits }) held
-    ∙ (ap (λ (n : ℕ). record { machine = b.machine; held = b.held; place = n; over = a.over; serves = a.serves; waits = a.waits }) place
-    ∙ (ap (λ (o : Bool). record { machine = b.machine; held = b.held; place = b.place; over = o; serves = a.serves; waits = a.waits }) over
-    ∙ (ap (λ (o : Bool). record { machine = b.machine; held = b.held; place = b.place; over = b.over; serves = o; waits = a.waits }) serves
-    ∙ ap (λ (o : Bool). record { machine = b.machine; held = b.held; place = b.place; over = b.over; serves = b.serves; waits = o }) waits))))
+-- a line is its seven parts
+pub line_is : (a b : Line) → a.machine ≡ b.machine → a.held ≡ b.held → a.place ≡ b.place → a.over ≡ b.over → a.serves ≡ b.serves → a.waits ≡ b.waits → a.per_turn ≡ b.per_turn → a ≡ b
+line_is a b machine held place over serves waits per_turn =
+    ap (λ (m : State). record { machine = m; held = a.held; place = a.place; over = a.over; serves = a.serves; waits = a.waits; per_turn = a.per_turn }) machine
+    ∙ (ap (λ (h : List ℕ). record { machine = b.machine; held = h; place = a.place; over = a.over; serves = a.serves; waits = a.waits; per_turn = a.per_turn }) held
+    ∙ (ap (λ (n : ℕ). record { machine = b.machine; held = b.held; place = n; over = a.over; serves = a.serves; waits = a.waits; per_turn = a.per_turn }) place
+    ∙ (ap (λ (o : Bool). record { machine = b.machine; held = b.held; place = b.place; over = o; serves = a.serves; waits = a.waits; per_turn = a.per_turn }) over
+    ∙ (ap (λ (o : Bool). record { machine = b.machine; held = b.held; place = b.place; over = b.over; serves = o; waits = a.waits; per_turn = a.per_turn }) serves
+    ∙ (ap (λ (o : Bool). record { machine = b.machine; held = b.held; place = b.place; over = b.over; serves = b.serves; waits = o; per_turn = a.per_turn }) waits
+    ∙ ap (λ (n : ℕ). record { machine = b.machine; held = b.held; place = b.place; over = b.over; serves = b.serves; waits = b.waits; per_turn = n }) per_turn)))))
 
 -- a frame at the front of what is held
 next_is : (l : Line) (f : Frame) (size : ℕ) (t : TakenFrame) → MayTake l → BeginsWith l.held f size → t.frame ≡ f → t.at ≡ l.place → IsIncoming t.frame.order t.frame.message t.incoming → IsNext l t
@@ -43,8 +44,8 @@ next_is l f size t may begins frame at is = record {
 }
 
 -- what an in-turn machine keeps with fewer frames before it
-pub in_turn_less : (m : State) (now more fewer : ℕ) → fewer ≤ more → IsInTurn m now more → IsInTurn m now fewer
-in_turn_less m now more fewer less h = record {
+pub in_turn_less : (m : State) (now more fewer bytes : ℕ) → fewer ≤ more → IsInTurn m now more bytes → IsInTurn m now fewer bytes
+in_turn_less m now more fewer bytes less h = record {
   begun = h.begun;
   done = h.done;
   drained = h.drained;
@@ -52,6 +53,7 @@ in_turn_less m now more fewer less h = record {
   room = omega (arith, h.room, less);
   credentials = h.credentials;
   unsent = omega (arith, h.unsent, less);
+  output = h.output;
   untold = omega (arith, h.untold, less);
 }
 
@@ -75,15 +77,15 @@ messages_are now l f i = refl
 module _ {J : Type 0} {G : Ghosts J} where
   -- a frame that was answered, once its bytes are dropped
   pub took : (now size : ℕ) (old new : Line) (f : Frame) (s after : Intake J G) → MayTake old → BeginsWith old.held f size
-      → AnsweredFrame now (answering_end old.machine s) (answering_end new.machine after) f old.place → new.held ≡ drop size old.held → new.place ≡ old.place + size → new.over ≡ old.over → new.serves ≡ old.serves → new.waits ≡ old.waits
+      → AnsweredFrame now (answering_end old.machine s) (answering_end new.machine after) f old.place → new.held ≡ drop size old.held → new.place ≡ old.place + size → new.over ≡ old.over → new.serves ≡ old.serves → new.waits ≡ old.waits → new.per_turn ≡ old.per_turn
       → TookFrame now (gathering_end old s) (gathering_end new after)
   unfolding line_after messages_of
-  took now size old new f s after may begins a held place over serves waits = record {
+  took now size old new f s after may begins a held place over serves waits per_turn = record {
     frame = t;
     taken = is_taken now size old f a.act.incoming may begins a.act.is;
     line = line_is new (line_after now old t)
         (a.machine ∙ (ap (λ (m : State). run m (replicate (length (ready_in m)) calls.held_done)) a.act.machine ∙ sym (run_append old.machine (act_calls now t) (replicate t.helds calls.held_done))))
-        (held ∙ ap (λ (n : ℕ). drop n old.held) begins.counts) (place ∙ ap (λ (n : ℕ). old.place + n) begins.counts) over serves waits;
+        (held ∙ ap (λ (n : ℕ). drop n old.held) begins.counts) (place ∙ ap (λ (n : ℕ). old.place + n) begins.counts) over serves waits per_turn;
     done = record {
       gains = a.act.done.gains;
       news_are = a.act.done.news_are;

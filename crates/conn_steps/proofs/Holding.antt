@@ -64,22 +64,23 @@ pub ready_none : (m : State) → front_of m ≡ None → ready_in m ≡ []
 ready_none m e = ((front_by_front m.facts.recorded.inbox_next m.held).none e).0
 
 -- a machine between held messages that are applied, were nothing held
-pub in_turn_held : (m n : State) (now frames : ℕ) → n.begun ≡ m.begun → n.pending ≡ None → n.moment ≡ m.moment → n.room ≡ m.room → n.config ≡ m.config → n.unsent ≡ m.unsent → n.untold ≡ m.untold
-    → IsInTurn (unheld m) now frames → IsInTurn (unheld n) now frames
-in_turn_held m n now frames begun done moment room config unsent untold h = record {
+pub in_turn_held : (m n : State) (now frames bytes : ℕ) → n.begun ≡ m.begun → n.pending ≡ None → n.moment ≡ m.moment → n.room ≡ m.room → n.config ≡ m.config → n.unsent ≡ m.unsent → n.untold ≡ m.untold
+    → IsInTurn (unheld m) now frames bytes → IsInTurn (unheld n) now frames bytes
+in_turn_held m n now frames bytes begun done moment room config unsent untold h = record {
   begun = begun ∙ h.begun;
   done = done;
   drained = refl;
   time = omega (arith, moment, h.time);
   room = omega (arith, room, h.room);
   credentials = omega (arith, ap (λ (x : EndConfig). length x.credentials) config, h.credentials);
-  unsent = omega (arith, ap (λ (bytes : List ℕ). length bytes) unsent, h.unsent);
+  unsent = omega (arith, ap (λ (ns : List ℕ). length ns) unsent, h.unsent);
+  output = h.output;
   untold = omega (arith, ap (λ (ns : List ℕ). length ns) untold, h.untold);
 }
 
 -- and one behind them
-pub in_turn_drained : (m : State) (now frames : ℕ) → front_of m ≡ None → IsInTurn (unheld m) now frames → IsInTurn m now frames
-in_turn_drained m now frames drained h = record {
+pub in_turn_drained : (m : State) (now frames bytes : ℕ) → front_of m ≡ None → IsInTurn (unheld m) now frames bytes → IsInTurn m now frames bytes
+in_turn_drained m now frames bytes drained h = record {
   begun = h.begun;
   done = h.done;
   drained = drained;
@@ -87,6 +88,7 @@ in_turn_drained m now frames drained h = record {
   room = h.room;
   credentials = h.credentials;
   unsent = h.unsent;
+  output = h.output;
   untold = h.untold;
 }
 

@@ -7,16 +7,18 @@ use Rattle.fixp_machine.specs.Machine.{State, front_of}
 use Rattle.conn_steps.specs.Settling.{MayStand}
 
 -- The machine between its calls, so many frames before a turn's frames end: no act is still to be done, no held message is to be applied
--- first, no moment lies ahead, there is room for the frames, and what is unsent and untold is little
-pub record IsInTurn (m : State) (now frames : ℕ) : Type 0 where
+-- first, no moment lies ahead, there is room for the frames, what is untold is little, and behind the frames no more than so many bytes are
+-- unsent: a reply has at most 2,304
+pub record IsInTurn (m : State) (now frames bytes : ℕ) : Type 0 where
   pub begun : m.begun ≡ true
   pub done : m.pending ≡ None
   pub drained : front_of m ≡ None
   pub time : m.moment ≤ now
   pub room : frames ≤ m.room
   pub credentials : length m.config.credentials ≤ 2048
-  pub unsent : length m.unsent + frames * 5000 ≤ 400000
-  pub untold : length m.untold + frames ≤ 16
+  pub unsent : length m.unsent + frames * 2304 ≤ bytes
+  pub output : bytes ≤ 5000000
+  pub untold : length m.untold + frames ≤ 256
 
 -- the machine, were nothing held
 abbrev pub unheld : State → State

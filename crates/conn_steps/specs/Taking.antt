@@ -172,7 +172,7 @@ module _ {J : Type 0} {G : Ghosts J} where
   -- that is not stable. What stood before it stays, and was told; a stop may leave of what was tried with it all, or nothing
   pub record CutFrames (now : ℕ) (old new : TakingEnd J G) (fault : TurnFault) : Type 0 where
     pub frames : List TakenFrame
-    pub few : length frames < 16
+    pub few : length frames < old.line.per_turn
     pub taken : AreTaken now old.line frames
     pub refusal : Refusal
     pub is : IsRefused now (lines_after now old.line frames) refusal

@@ -81,12 +81,12 @@ pub fn answer_frame<J: Journal>(
     requires header { 8 ≤ length message.now }
     requires most { length message.now ≤ 16384 }
     requires open { end.old.ending ≡ None }
-    requires in_turn { IsInTurn end.old now 1 }
+    requires in_turn { IsInTurn end.old now 1 5000000 }
     requires time { now < 2 ^ 44 }
     requires agrees { AgreesBut (payloads_in gathered.old) end.old inbox.old }
     ensures answered { OnOk result (AnsweredFrame now (answering_end end.old (intake inbox.old (items_of news.old) (payloads_in gathered.old))) (answering_end end.new (intake inbox.new (items_of news.new) (payloads_in gathered.new))) (record { order = order; message = message.now }) at) }
     ensures refused { IfErr result (RefusedAnswer now (answering_end end.old (intake inbox.old (items_of news.old) (payloads_in gathered.old))) (answering_end end.new (intake inbox.new (items_of news.new) (payloads_in gathered.new))) (record { order = order; message = message.now }) at) }
-    ensures in_turn { (frames : ℕ) → IsInTurn end.old now (frames + 1) → OnOk result (IsInTurn end.new now frames) }
+    ensures in_turn { (frames bytes : ℕ) → IsInTurn end.old now (frames + 1) bytes → OnOk result (IsInTurn end.new now frames bytes) }
     ensures agrees { OnOk result (AgreesBut (payloads_in gathered.new) end.new inbox.new) }
     ensures own { OnOk result (KeepsOwn end.old end.new) }
     ensures blames { IfErr result (Blames inbox.old inbox.new) }
@@ -114,12 +114,12 @@ fn answer_act<J: Journal>(
     requires header { 8 ≤ length message.now }
     requires most { length message.now ≤ 16384 }
     requires open { end.old.ending ≡ None }
-    requires in_turn { IsInTurn end.old now 1 }
+    requires in_turn { IsInTurn end.old now 1 5000000 }
     requires time { now < 2 ^ 44 }
     requires agrees { AgreesBut (payloads_in gathered.old) end.old inbox.old }
     ensures answered { OnOk result (AnsweredAct now (answering_end end.old (intake inbox.old (items_of news.old) (payloads_in gathered.old))) (answering_end end.new (intake inbox.new (items_of news.new) (payloads_in gathered.new))) (record { order = order; message = message.now }) at) }
     ensures refused { IfErr result (RefusedAnswer now (answering_end end.old (intake inbox.old (items_of news.old) (payloads_in gathered.old))) (answering_end end.new (intake inbox.new (items_of news.new) (payloads_in gathered.new))) (record { order = order; message = message.now }) at) }
-    ensures in_turn { (frames : ℕ) → IsInTurn end.old now (frames + 1) → OnOk result (IsInTurn (unheld end.new) now frames) }
+    ensures in_turn { (frames bytes : ℕ) → IsInTurn end.old now (frames + 1) bytes → OnOk result (IsInTurn (unheld end.new) now frames bytes) }
     ensures done { OnOk result (end.new.pending ≡ None) }
     ensures agrees { OnOk result (AgreesBut (payloads_in gathered.new) end.new inbox.new) }
     ensures own { OnOk result (KeepsOwn end.old end.new) }
@@ -150,7 +150,7 @@ fn gather_held(end: &mut End, gathered: &mut Gathered) -> Result<(), TurnFault>
     ensures applications { AllByRecursion IsApplication (payloads_in gathered.old) → OnOk result (AllByRecursion IsApplication (payloads_in gathered.new)) }
     ensures recorded { OnOk result (end.new.facts.recorded ≡ record end.old.facts.recorded { inbox_next = end.old.facts.recorded.inbox_next + length (ready_in end.old) }) }
     ensures numbers { 0 < length (ready_in end.old) → OnOk result (end.new.facts.recorded.inbox_next ≤ end.old.most + 1) }
-    ensures in_turn { (now frames : ℕ) → IsInTurn (unheld end.old) now frames → OnOk result (IsInTurn end.new now frames) }
+    ensures in_turn { (now frames bytes : ℕ) → IsInTurn (unheld end.old) now frames bytes → OnOk result (IsInTurn end.new now frames bytes) }
     ensures own { KeepsOwn end.old end.new }
 {
     while let Some(message) = end.held() {

@@ -12,8 +12,8 @@ use gw_outside::Bytes;
 use sbe_prim::Order;
 use std::alloc::{AllocError, Global};
 
-/// How many messages a turn gathers at most: one of each of its 16 frames, and 256 that were held.
-const MOST: usize = 272;
+/// How many messages a turn gathers at most: one of each of its 256 frames, and 256 that were held.
+const MOST: usize = 512;
 
 /// The number of a byte order's encoding type.
 fn encoding_of(order: Order) -> u16

@@ -72,13 +72,22 @@ work_makes_calls before seen old l behind new w start s sends =
     ∙ sym (run_append old.machine first (frames ++ (closing ++ (outbox ++ sending))))))))
 
 -- frames leave whether the turn began with output unsent
-after_waits : (now : ℕ) (l : Line) (t : TakenFrame) → (line_after now l t).waits ≡ l.waits
+pub after_waits : (now : ℕ) (l : Line) (t : TakenFrame) → (line_after now l t).waits ≡ l.waits
 unfolding line_after
 after_waits now l t = refl
 
 pub lines_wait : (now : ℕ) (l : Line) (frames : List TakenFrame) → (lines_after now l frames).waits ≡ l.waits
 lines_wait now l [] = refl
 lines_wait now l (t ∷ later) = lines_wait now (line_after now l t) later ∙ after_waits now l t
+
+-- nor how many of them a turn takes
+pub after_number : (now : ℕ) (l : Line) (t : TakenFrame) → (line_after now l t).per_turn ≡ l.per_turn
+unfolding line_after
+after_number now l t = refl
+
+pub lines_number : (now : ℕ) (l : Line) (frames : List TakenFrame) → (lines_after now l frames).per_turn ≡ l.per_turn
+lines_number now l [] = refl
+lines_number now l (t ∷ later) = lines_number now (line_after now l t) later ∙ after_number now l t
 
 -- the same is due of lines of which both waits are the same
 pub unless_same : {A : Type 0} (a b : Line) (x y : Option A) → a.waits ≡ b.waits → x ≡ y → unless_waits a x ≡ unless_waits b y

@@ -1,5 +1,5 @@
 -- Which turn was made of a line, exactly (this project's profile).
-use Rattle.std.specs.Prelude.{◌≡◌, ⊤, ℕ, ◌<◌, ◌≤◌, ◌==◌, nat_le, ◌&&◌, ◌||◌, not, if◌then◌else◌, Bool, List, [], ◌++◌, length, Option, Some, None, is_some, IfSome, IsTrue}
+use Rattle.std.specs.Prelude.{◌≡◌, ⊤, ℕ, ◌+◌, ◌*◌, ◌<◌, ◌≤◌, ◌==◌, nat_le, ◌&&◌, ◌||◌, not, if◌then◌else◌, Bool, List, [], ◌++◌, length, Option, Some, None, is_some, IfSome, IsTrue}
 use Rattle.std.specs.List.{AllByRecursion}
 use Rattle.session_model.specs.Journal.{History, BeginsHistory}
 use Rattle.fixp_msgs.specs.Payload.{IsApplication}
@@ -14,13 +14,14 @@ use Rattle.conn_turns.specs.Turns.{Work, first_calls, closing_calls, again_calls
 abbrev pub most_held : ℕ
 most_held = 32780
 
--- how many bytes of output may be unsent where an end still receives
-abbrev pub most_unsent : ℕ
-most_unsent = 300000
+-- how many bytes of output may be unsent where an end still receives of which a turn sends so many entries at most: all that these have, of 16,390
+-- bytes each at most, and 37,760 beside them. So an end that has sent what a turn may, to a link that took nothing, still receives
+abbrev pub most_unsent : (per_turn : ℕ) → ℕ
+most_unsent per_turn = per_turn * 16390 + 37760
 
 -- an end receives: no output is unsent, or the link left some and it is not more than that
 abbrev pub receives : Line → Bool
-receives l = (length l.machine.unsent == 0) || (l.waits && nat_le (length l.machine.unsent) most_unsent)
+receives l = (length l.machine.unsent == 0) || (l.waits && nat_le (length l.machine.unsent) (most_unsent l.per_turn))
 
 -- One receive, of the whole room, exactly where there is some; what it found are these bytes. Where the link tells its bytes, some
 -- came, or nothing waits, or no byte will come; and one that gives all that fits gave the lesser of the room and what waited
@@ -64,16 +65,16 @@ IsAsDue None (Some sent) = ⊥
 IsAsDue (Some due) None = ⊥
 IsAsDue (Some due) (Some sent) = (length sent ≡ length due) × AllByRecursion IsApplication sent
 
--- Frames were taken as far as they go, at most 16; the machine was told of what ends them, and of the outbox as much as was seen, and
+-- Frames were taken as far as they go, and no more than the connection's number; the machine was told of what ends them, and of the outbox as much as was seen, and
 -- nothing of it where the turn began with output unsent. What was seen of the outbox at each look begins with what was seen before it
 pub record Served (h h' : History) (l behind : Line) (w : Work) : Type 0 where
   pub frames : AreTaken w.now l w.frames
-  pub few : length w.frames ≤ 16
+  pub few : length w.frames ≤ l.per_turn
   pub last : IsDone (length w.frames) (lines_after w.now l w.frames)
   pub broken : w.broken ≡ unframed_at (length w.frames) (lines_after w.now l w.frames)
   pub link_over : w.link_over ≡ is_link_over (lines_after w.now l w.frames)
-  pub due_again : w.due_again ≡ unless_waits l (served_of (served_now (closed_at l w)) w.at_again)
-  pub due_live : w.due_live ≡ unless_waits l (live_beside w.again (live_of (run (closed_at l w) (again_calls w.now w.again)) w.at_live))
+  pub due_again : w.due_again ≡ unless_waits l (served_of l.per_turn (served_now (closed_at l w)) w.at_again)
+  pub due_live : w.due_live ≡ unless_waits l (live_beside w.again (live_of l.per_turn (run (closed_at l w) (again_calls w.now w.again)) w.at_live))
   pub again : IsAsDue w.due_again w.again
   pub live : IsAsDue w.due_live w.live
   pub finish : w.finish ≡ unless_waits l (finish_of (closed_at l w) w.at_finish)
@@ -87,3 +88,4 @@ pub record Served (h h' : History) (l behind : Line) (w : Work) : Type 0 where
   pub over : behind.over ≡ (lines_after w.now l w.frames).over
   pub serves : behind.serves ≡ (lines_after w.now l w.frames).serves
   pub waits : behind.waits ≡ (lines_after w.now l w.frames).waits
+  pub per_turn : behind.per_turn ≡ (lines_after w.now l w.frames).per_turn

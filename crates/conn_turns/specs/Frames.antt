@@ -44,10 +44,10 @@ is_bad rest = false
 is_bad (bad_length n) = true
 is_bad (bad_encoding encoding) = true
 
--- behind so many frames no further one is taken: the turn has its 16, the connection has ended, a range began in the turn, or no
+-- behind so many frames no further one is taken: the turn has its number, the connection has ended, a range began in the turn, or no
 -- whole frame is left
 abbrev pub IsDone : ℕ → Line → Type 0
-IsDone count l = (count ≡ 16) ⊎ (IsTrue (is_some l.machine.ending) ⊎ (IsTrue (has_begun l) ⊎ (is_whole (first_of l.held) ≡ false)))
+IsDone count l = (count ≡ l.per_turn) ⊎ (IsTrue (is_some l.machine.ending) ⊎ (IsTrue (has_begun l) ⊎ (is_whole (first_of l.held) ≡ false)))
 
 -- a further frame may be taken
 abbrev pub may_take : Line → Bool
@@ -55,7 +55,7 @@ may_take l = is_none l.machine.ending && not (has_begun l)
 
 -- behind so many frames bytes stand that no frame begins with, of which the machine is told, at their place
 abbrev pub is_unframed : ℕ → Line → Bool
-is_unframed count l = nat_lt count 16 && may_take l && is_bad (first_of l.held)
+is_unframed count l = nat_lt count l.per_turn && may_take l && is_bad (first_of l.held)
 
 abbrev pub unframed_at : ℕ → Line → Option ℕ
 unframed_at count l = if is_unframed count l then Some l.place else None

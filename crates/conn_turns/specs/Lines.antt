@@ -11,8 +11,9 @@ use Rattle.fixp_machine.specs.Machine.{State, Call, did, held_done, run, around}
 use Rattle.fixp_machine.specs.Machine as calls
 
 -- the session machine; the bytes read of which no frame was taken yet; the place of the first of them among all bytes of the
--- connection; whether the link has given its end; whether a range was served as its last turn began; and whether the link left output
--- unsent as it was sent last, which is so still as that turn began
+-- connection; whether the link has given its end; whether a range was served as its last turn began; whether the link left output
+-- unsent as it was sent last, which is so still as that turn began; and how many frames a turn takes at most, and entries of the outbox
+-- it sends, which is the connection's
 pub record Line : Type 0 where
   pub machine : State
   pub held : List ℕ
@@ -20,6 +21,7 @@ pub record Line : Type 0 where
   pub over : Bool
   pub serves : Bool
   pub waits : Bool
+  pub per_turn : ℕ
 
 -- a frame that a turn took: its place, its message in its byte order, what that is to an end, whether its act is a record, which was
 -- made stable and then told to be done, and how many held messages were applied behind it, each made stable and then told to be done
@@ -85,6 +87,7 @@ line_after now l t = record {
   over = l.over;
   serves = l.serves;
   waits = l.waits;
+  per_turn = l.per_turn;
 }
 
 -- what the line is once frames were taken, one after another

@@ -64,11 +64,11 @@ IsOfFirst (of_held t m) [] = ⊥
 IsOfFirst (of_held t m) (x ∷ later) = t ≡ record x { helds = t.helds }
 
 -- What a failed call of the inbox's disk tried to make stable, behind what these frames added and what stood before what was refused, with which it
--- begins. Further frames had been taken, that of the refusal first, 16 in all at most: they add what was tried, and then what was not. What was
+-- begins. Further frames had been taken, that of the refusal first, in all as many as a turn takes at most: they add what was tried, and then what was not. What was
 -- tried at once are messages that the end applies, or it is that one record
 pub record IsTried (now : ℕ) (l : Line) (frames : List TakenFrame) (r : Option Refusal) (tried : List InboxRecord) : Type 0 where
   pub later : List TakenFrame
-  pub few : length frames + length later ≤ 16
+  pub few : length frames + length later ≤ l.per_turn
   pub taken : AreTaken now l (frames ++ later)
   pub next : IfSome r (λ x. IsOfFirst x later)
   pub untried : List InboxRecord

@@ -126,10 +126,10 @@ is_end (Some gots.End) = true
 abbrev pub payloads_from : History → ℕ → ℕ → List (List ℕ)
 payloads_from h from most = payloads (take most (drop (from - 1) h.made))
 
--- what is sent again where this is served: the front of its range of the outbox, 16 at most, as it was seen then
-abbrev pub served_of : Option Range → History → Option (List (List ℕ))
-served_of None h = None
-served_of (Some r) h = Some (payloads_from h r.from (min 16 r.count))
+-- what is sent again where this is served: the front of its range of the outbox, so many at most, as it was seen then
+abbrev pub served_of : (most : ℕ) → Option Range → History → Option (List (List ℕ))
+served_of most None h = None
+served_of most (Some r) h = Some (payloads_from h r.from (min most r.count))
 
 -- nothing is sent live beside what was sent again
 abbrev pub live_beside : Option (List (List ℕ)) → Option (List (List ℕ)) → Option (List (List ℕ))
@@ -140,9 +140,9 @@ live_beside (Some sent) due = None
 abbrev pub sends_live : State → Bool
 sends_live m = is_none m.ending && is_established m.facts.connection.phase && is_none m.facts.connection.serving && not (is_absent m.config.own_flow)
 
--- the payloads that are sent live, where entries are: those behind the last that was sent, of the outbox as it was seen then, 16 at most
-abbrev pub live_of : State → History → Option (List (List ℕ))
-live_of m h = if sends_live m then Some (payloads_from h (m.facts.recorded.sent + 1) 16) else None
+-- the payloads that are sent live, where entries are: those behind the last that was sent, of the outbox as it was seen then, so many at most
+abbrev pub live_of : (most : ℕ) → State → History → Option (List (List ℕ))
+live_of most m h = if sends_live m then Some (payloads_from h (m.facts.recorded.sent + 1) most) else None
 
 -- the finish of the outbox is told: the number of its entries, where there is an own flow and the mark was seen
 abbrev pub finish_of : State → History → Option ℕ

@@ -38,7 +38,7 @@ use Rattle.fixp_replies.specs.Serving.{own_finishing}
 use Rattle.fixp_replies.specs.declared.facts.OwnFinish.TheVariants as finishes
 use Rattle.fixp_replies.specs.Outcomes.{Outcome}
 use Rattle.fixp_replies.specs.Replies.{reply_to_bad_frame}
-use Rattle.fixp_machine.specs.Machine.{State, begin, frame, bad_frame, did, tick, turn_done, closed, link_end, live, again, taken, reserve, held_done, held_until, held_with, held_applied, past_held, front_of, around, bytes_of, wrote, made, reply_applied, after_bad_frame, after_act, broken_by, ticked, after_turn, after_closed, link_ended, payload_frames, counted_sent, sent_live, rest_of, range_end, sent_again, done_pending, served_again}
+use Rattle.fixp_machine.specs.Machine.{State, frames_reserved, begin, frame, bad_frame, did, tick, turn_done, closed, link_end, live, again, taken, reserve, held_done, held_until, held_with, held_applied, past_held, front_of, around, bytes_of, wrote, made, reply_applied, after_bad_frame, after_act, broken_by, ticked, after_turn, after_closed, link_ended, payload_frames, counted_sent, sent_live, rest_of, range_end, sent_again, done_pending, served_again}
 use Rattle.fixp_machine.proofs.Calls.{begun_as}
 use Rattle.fixp_machine.specs.Accepting as accepting
 use Rattle.fixp_machine.specs.Accepting.{model_flow, event_of, records_of, Agrees, GrowsBy, GrowsHeld, told_in, turn_end, outbox_finish}
@@ -484,7 +484,7 @@ ending_link h c st = moved h c (link_ended c.state) (still_waiting (link_ended c
 -- room is made
 reserving : (h : List Entry) (c : Course) → Stands h c → Stands h (next_course c reserve)
 reserving h c st =
-    let s : State = record c.state { room = 16 } in
+    let s : State = record c.state { room = frames_reserved } in
     moved h c s (still_waiting c.state.pending c.waiting) [] st (resting h c s _ [] st refl refl st.begun (waits_still c.state.pending c.waiting (reply_to c.state) st.pends) (records_still c.state.pending c.waiting (ActIsRecord c.state) st.records) (unsaid h c st) refl (sym (append-nil c.state.unsent)) (same_held h c c.state.held st refl))
 
 -- the link takes bytes

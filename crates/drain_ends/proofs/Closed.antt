@@ -35,7 +35,7 @@ use Rattle.drain_laws.specs.Counts.{shutting, in_piece, under_way}
 use Rattle.drain_laws.proofs.Evened.{replies_even}
 use Rattle.drain_ends.specs.Shutting.{GoesOn, IsCall, IsOver}
 use Rattle.drain_ends.specs.Closing.{KeepsLink, IsTold, BothTold, EndsAreTold, ClosingToDo}
-use Rattle.drain_ends.specs.Acting.{all_beats, turn_frames, Acts, BeatsFirst, HasToDo}
+use Rattle.drain_ends.specs.Acting.{all_beats, Acts, BeatsFirst, HasToDo}
 use Rattle.drain_ends.specs.Acting as acts
 use Rattle.drain_ends.proofs.Shut.{said_counts, replies_shut, calls_shut}
 use Rattle.drain_ends.proofs.Stood.{way_append, in_so, acceptor_phase}
@@ -321,36 +321,36 @@ pub ends_are_told : EndsAreTold
 ends_are_told hi ha w before later now_i now_a known may keeps = told_from hi ha w before later now_i now_a (counted_at_first hi ha w known) may keeps
 
 -- a Terminate is among what a turn reads, or heartbeats stand before it
-reads_it : (P : Type 0) (way : List Piece) → 1 ≤ under_way shutting way → (all_beats (take turn_frames way) ≡ false → P) → (BeatsFirst way → P) → P
-reads_it P way one reads beats =
-    by_bool _ (all_beats (take turn_frames way))
-    (λ first. by_length _ turn_frames (length way) (λ many. beats (record { many = many; beats = first }))
-    (λ few. let none = (beats_none way (subst (λ (ps : List Piece). all_beats ps ≡ true) (take_all turn_frames way few) first)).shuttings in absurd (omega (arith, one, none))))
+reads_it : (P : Type 0) (most : ℕ) (way : List Piece) → 1 ≤ under_way shutting way → (all_beats (take most way) ≡ false → P) → (BeatsFirst most way → P) → P
+reads_it P most way one reads beats =
+    by_bool _ (all_beats (take most way))
+    (λ first. by_length _ most (length way) (λ many. beats (record { many = many; beats = first }))
+    (λ few. let none = (beats_none way (subst (λ (ps : List Piece). all_beats ps ≡ true) (take_all most way few) first)).shuttings in absurd (omega (arith, one, none))))
     (λ other. reads other)
 
 some_none : (e : Option Ending) → e ≡ None → IsSome e → ⊥
 some_none e none some = true≢false (sym some ∙ ap (λ (k : Option Ending). is_some k) none)
 
 pub closing_to_do : ClosingToDo
-closing_to_do hi ha seen w b over one_goes =
+closing_to_do most_i most_a hi ha seen w b over one_goes =
     by_bool _ (is_some w.initiator.ending)
     (λ ended. outward (acceptor_goes ended one_goes) (b.outward (inl ended)))
     (λ none_i. by_bool _ (is_some w.acceptor.ending)
     (λ ended. homeward (none_is w.initiator.ending none_i) (b.homeward (inl ended)))
     (λ none_a. by_over (none_is w.initiator.ending none_i) (none_is w.acceptor.ending none_a) over))
   where
-    homeward : w.initiator.ending ≡ None → (1 ≤ under_way shutting w.homeward) ⊎ IsSome w.initiator.ending → HasToDo hi ha seen w
-    homeward going (inl one) = reads_it _ w.homeward one (λ other. acts.at_initiator going (acts.reads other)) (λ first. acts.homeward_beats going first)
+    homeward : w.initiator.ending ≡ None → (1 ≤ under_way shutting w.homeward) ⊎ IsSome w.initiator.ending → HasToDo most_i most_a hi ha seen w
+    homeward going (inl one) = reads_it _ most_i w.homeward one (λ other. acts.at_initiator going (acts.reads other)) (λ first. acts.homeward_beats going first)
     homeward going (inr ended) = absurd (some_none w.initiator.ending going ended)
 
-    outward : w.acceptor.ending ≡ None → (1 ≤ under_way shutting w.outward) ⊎ IsSome w.acceptor.ending → HasToDo hi ha seen w
-    outward going (inl one) = reads_it _ w.outward one (λ other. acts.at_acceptor going (acts.reads other)) (λ first. acts.outward_beats going first)
+    outward : w.acceptor.ending ≡ None → (1 ≤ under_way shutting w.outward) ⊎ IsSome w.acceptor.ending → HasToDo most_i most_a hi ha seen w
+    outward going (inl one) = reads_it _ most_a w.outward one (λ other. acts.at_acceptor going (acts.reads other)) (λ first. acts.outward_beats going first)
     outward going (inr ended) = absurd (some_none w.acceptor.ending going ended)
 
     acceptor_goes : IsSome w.initiator.ending → (w.initiator.ending ≡ None) ⊎ (w.acceptor.ending ≡ None) → w.acceptor.ending ≡ None
     acceptor_goes ended (inl none) = absurd (some_none w.initiator.ending none ended)
     acceptor_goes ended (inr none) = none
 
-    by_over : w.initiator.ending ≡ None → w.acceptor.ending ≡ None → IsOver w.initiator ⊎ IsOver w.acceptor → HasToDo hi ha seen w
+    by_over : w.initiator.ending ≡ None → w.acceptor.ending ≡ None → IsOver w.initiator ⊎ IsOver w.acceptor → HasToDo most_i most_a hi ha seen w
     by_over none_i none_a (inl i) = outward none_a (b.outward i)
     by_over none_i none_a (inr a) = homeward none_i (b.homeward a)

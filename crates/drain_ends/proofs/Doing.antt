@@ -31,7 +31,7 @@ use Rattle.honest_ends.proofs.Phased.{Shaking}
 use Rattle.honest_ends.proofs.Numbering.{Counted, counted_at_first, counted_after, numbered_of}
 use Rattle.drain_laws.specs.Counts.{finish, answer, request, restart, opening, shutting, under_way, in_piece, read_of, answered_of, told_of, exchanged_of, unanswered_of, unshaken_of, read, answered, told, exchanged, unshaken}
 use Rattle.drain_ends.specs.Standing.{BothGo, Exact, Standing}
-use Rattle.drain_ends.specs.Acting.{is_beat_of, is_beat, all_beats, turn_frames, Acts, BeatsFirst, HasToDo, SomethingToDo}
+use Rattle.drain_ends.specs.Acting.{is_beat_of, is_beat, all_beats, Acts, BeatsFirst, HasToDo, SomethingToDo}
 use Rattle.drain_ends.specs.Acting as acts
 use Rattle.honest_ends.proofs.Serving.{by_bool}
 use Rattle.drain_ends.proofs.Stood.{standing_holds, acceptor_phase}
@@ -174,22 +174,22 @@ or_last false true false p q = absurd (true≢false (sym q))
 abbrev OwnDone : State → Type 0
 OwnDone s = ((own_is_exchanged s.facts.connection.own_finish ≡ true) × (exchanged s.facts ≡ 1)) ⊎ (is_absent s.config.own_flow ≡ true)
 
-own_flow : (h : List Entry) (seen : ℕ) (s : State) (way : List Piece) → is_established s.facts.connection.phase ≡ true → is_some s.facts.connection.serving ≡ false → told s.facts ≡ 0 → s.facts.recorded.sent ≤ seen → seen ≡ length h
-    → Acts h seen s way ⊎ OwnDone s
-own_flow h seen s way est free none sent all = by_absent (is_absent s.config.own_flow) refl
+own_flow : (most : ℕ) (h : List Entry) (seen : ℕ) (s : State) (way : List Piece) → is_established s.facts.connection.phase ≡ true → is_some s.facts.connection.serving ≡ false → told s.facts ≡ 0 → s.facts.recorded.sent ≤ seen → seen ≡ length h
+    → Acts most h seen s way ⊎ OwnDone s
+own_flow most h seen s way est free none sent all = by_absent (is_absent s.config.own_flow) refl
   where
-    by_finish : Finish s.facts.connection.own_finish → is_absent s.config.own_flow ≡ false → s.facts.recorded.sent ≡ length h → Acts h seen s way ⊎ OwnDone s
+    by_finish : Finish s.facts.connection.own_finish → is_absent s.config.own_flow ≡ false → s.facts.recorded.sent ≡ length h → Acts most h seen s way ⊎ OwnDone s
     by_finish (open_yet o) present whole =
         inl (acts.tells all (five_true (is_absent s.config.own_flow) (is_established s.facts.connection.phase) (is_open s.facts.connection.own_finish) (s.facts.recorded.sent == length h) (is_none s.facts.connection.serving)
         present est o (eq-eqb s.facts.recorded.sent (length h) whole) (none_serves s.facts.connection.serving free)))
     by_finish (awaits one) present whole = absurd (omega (arith, one, none))
     by_finish (done e one) present whole = inr (inl (e, one))
 
-    by_sent : (b : Bool) → nat_lt s.facts.recorded.sent seen ≡ b → is_absent s.config.own_flow ≡ false → Acts h seen s way ⊎ OwnDone s
+    by_sent : (b : Bool) → nat_lt s.facts.recorded.sent seen ≡ b → is_absent s.config.own_flow ≡ false → Acts most h seen s way ⊎ OwnDone s
     by_sent true t present = inl (acts.sends est present (ltb-true s.facts.recorded.sent seen t))
     by_sent false t present = let low = ltb-false s.facts.recorded.sent seen t in by_finish (finish_is s.facts.connection.own_finish) present (omega (arith, low, sent, all))
 
-    by_absent : (b : Bool) → is_absent s.config.own_flow ≡ b → Acts h seen s way ⊎ OwnDone s
+    by_absent : (b : Bool) → is_absent s.config.own_flow ≡ b → Acts most h seen s way ⊎ OwnDone s
     by_absent true t = inr (inr t)
     by_absent false t = by_sent (nat_lt s.facts.recorded.sent seen) refl t
 
@@ -198,11 +198,11 @@ pub by_length : (P : Type 0) (n k : ℕ) → (n ≤ k → P) → (k ≤ n → P)
 by_length P n k more few = by_bool P (nat_lt k n) (λ t. let h = ltb-true k n t in few (omega (arith, h))) (λ t. more (ltb-false k n t))
 
 -- both ends, with nothing but heartbeats under way
-at_rest : (hi ha : List Entry) (w : World) (seen : ℕ) → Counted hi ha w → Standing w → BothGo w → unshaken w.initiator.facts ≡ 0 → w.acceptor.facts.recorded.sent ≤ seen
+at_rest : (most_i most_a : ℕ) (hi ha : List Entry) (w : World) (seen : ℕ) → Counted hi ha w → Standing w → BothGo w → unshaken w.initiator.facts ≡ 0 → w.acceptor.facts.recorded.sent ≤ seen
     → ((answered w.acceptor.facts ≡ 1) ⊎ (is_absent w.acceptor.config.peer_flow ≡ true) → seen ≡ length ha)
     → is_some w.initiator.facts.connection.serving ≡ false → is_some w.acceptor.facts.connection.serving ≡ false
-    → NotCounted w.outward → NotCounted w.homeward → read w.initiator.facts ≡ 0 → read w.acceptor.facts ≡ 0 → HasToDo hi ha seen w
-at_rest hi ha w seen n st go shaken sent marked free_i free_a out home unread_i unread_a = by_initiator (own_flow hi (length hi) w.initiator w.homeward est_i free_i told_i (numbered_of hi ha w n).outward.sent refl)
+    → NotCounted w.outward → NotCounted w.homeward → read w.initiator.facts ≡ 0 → read w.acceptor.facts ≡ 0 → HasToDo most_i most_a hi ha seen w
+at_rest most_i most_a hi ha w seen n st go shaken sent marked free_i free_a out home unread_i unread_a = by_initiator (own_flow most_i hi (length hi) w.initiator w.homeward est_i free_i told_i (numbered_of hi ha w n).outward.sent refl)
   where
     i : Facts
     i = w.initiator.facts
@@ -244,26 +244,26 @@ at_rest hi ha w seen n st go shaken sent marked free_i free_a out home unread_i 
     peer_part (inl d) = ap (λ b. b || (is_absent w.initiator.config.peer_flow && is_shaken i.connection.phase)) (answered_is i.connection.peer_finish (answered_i d.1))
     peer_part (inr absent) = or_last (peer_is_exchanged i.connection.peer_finish) (is_absent w.initiator.config.peer_flow) (is_shaken i.connection.phase) (ap (λ (f : Flow). is_absent f) n.holds.matches.homeward ∙ absent) done_i
 
-    by_acceptor : OwnDone w.initiator → Acts ha seen w.acceptor w.outward ⊎ OwnDone w.acceptor → HasToDo hi ha seen w
+    by_acceptor : OwnDone w.initiator → Acts most_a ha seen w.acceptor w.outward ⊎ OwnDone w.acceptor → HasToDo most_i most_a hi ha seen w
     by_acceptor mine (inl act) = acts.at_acceptor go.acceptor act
     by_acceptor mine (inr theirs) = acts.at_initiator go.initiator (acts.shuts (four_true (is_initiator w.initiator.config.role) (is_established i.connection.phase) (finishes_exchanged (around w.initiator 0 0) i) (is_none i.connection.serving)
         (ap (λ r. is_initiator r) n.holds.matches.initiates) est_i (two_true _ _ (own_part mine) (peer_part theirs)) (none_serves i.connection.serving free_i)))
 
-    by_initiator : Acts hi (length hi) w.initiator w.homeward ⊎ OwnDone w.initiator → HasToDo hi ha seen w
+    by_initiator : Acts most_i hi (length hi) w.initiator w.homeward ⊎ OwnDone w.initiator → HasToDo most_i most_a hi ha seen w
     by_initiator (inl act) = acts.at_initiator go.initiator act
-    by_initiator (inr mine) = by_acceptor mine (own_flow ha seen w.acceptor w.outward est_a free_a told_a sent (marked (mark mine)))
+    by_initiator (inr mine) = by_acceptor mine (own_flow most_a ha seen w.acceptor w.outward est_a free_a told_a sent (marked (mark mine)))
 
 pub something_to_do : SomethingToDo
-something_to_do hi ha w steps seen known may go begun sent marked =
+something_to_do most_i most_a hi ha w steps seen known may go begun sent marked =
     by_bool _ (is_some i.connection.serving) (λ t. acts.at_initiator go.initiator (acts.serves t)) (λ free_i.
     by_bool _ (is_some a.connection.serving) (λ t. acts.at_acceptor go.acceptor (acts.serves t)) (λ free_a.
-    by_bool _ (all_beats (take turn_frames now.outward)) (λ out_first.
-    by_bool _ (all_beats (take turn_frames now.homeward)) (λ home_first.
-    by_length _ turn_frames (length now.outward) (λ many. acts.outward_beats go.acceptor (record { many = many; beats = out_first })) (λ out_few.
-    by_length _ turn_frames (length now.homeward) (λ many. acts.homeward_beats go.initiator (record { many = many; beats = home_first })) (λ home_few.
+    by_bool _ (all_beats (take most_a now.outward)) (λ out_first.
+    by_bool _ (all_beats (take most_i now.homeward)) (λ home_first.
+    by_length _ most_a (length now.outward) (λ many. acts.outward_beats go.acceptor (record { many = many; beats = out_first })) (λ out_few.
+    by_length _ most_i (length now.homeward) (λ many. acts.homeward_beats go.initiator (record { many = many; beats = home_first })) (λ home_few.
     quiet free_i free_a
-    (subst (λ (ps : List Piece). all_beats ps ≡ true) (take_all turn_frames now.outward out_few) out_first)
-    (subst (λ (ps : List Piece). all_beats ps ≡ true) (take_all turn_frames now.homeward home_few) home_first))))
+    (subst (λ (ps : List Piece). all_beats ps ≡ true) (take_all most_a now.outward out_few) out_first)
+    (subst (λ (ps : List Piece). all_beats ps ≡ true) (take_all most_i now.homeward home_few) home_first))))
     (λ other. acts.at_initiator go.initiator (acts.reads other))) (λ other. acts.at_acceptor go.acceptor (acts.reads other))))
   where
     now : World
@@ -289,13 +289,13 @@ something_to_do hi ha w steps seen known may go begun sent marked =
     nothing_comes writer reader [] even free comes = absurd (true≢false (sym comes ∙ (even ∙ free)))
     nothing_comes writer reader (p ∷ way) even free comes = omega arith
 
-    quiet : is_some i.connection.serving ≡ false → is_some a.connection.serving ≡ false → all_beats now.outward ≡ true → all_beats now.homeward ≡ true → HasToDo hi ha seen now
+    quiet : is_some i.connection.serving ≡ false → is_some a.connection.serving ≡ false → all_beats now.outward ≡ true → all_beats now.homeward ≡ true → HasToDo most_i most_a hi ha seen now
     quiet free_i free_a out home =
         by_bool _ (request_is.is_coming a.connection.requester)
         (λ comes. acts.at_acceptor go.acceptor (acts.ends_range comes (nothing_comes i a now.outward (n.holds.outward_requests.even go.acceptor yet_a) free_i comes)))
         (λ none_a. by_bool _ (request_is.is_coming i.connection.requester)
         (λ comes. acts.at_initiator go.initiator (acts.ends_range comes (nothing_comes a i now.homeward (n.holds.homeward_requests.even go.initiator go.yet) free_a comes)))
-        (λ none_i. at_rest hi ha now seen n st go (shaken_now out home) sent marked free_i free_a (beats_none now.outward out) (beats_none now.homeward home)
+        (λ none_i. at_rest most_i most_a hi ha now seen n st go (shaken_now out home) sent marked free_i free_a (beats_none now.outward out) (beats_none now.homeward home)
         (unread now.acceptor now.initiator now.homeward now.outward st.homeward (beats_none now.homeward home) (beats_none now.outward out) none_i)
         (unread now.initiator now.acceptor now.outward now.homeward st.outward (beats_none now.outward out) (beats_none now.homeward home) none_a)))
       where

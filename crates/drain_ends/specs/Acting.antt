@@ -28,38 +28,34 @@ abbrev pub all_beats : List Piece → Bool
 all_beats [] = true
 all_beats (p ∷ later) = is_beat p && all_beats later
 
--- how many messages a turn takes at most (this project's profile)
-abbrev pub turn_frames : ℕ
-turn_frames = 16
-
--- An end of which so many entries of its outbox are seen that comes to have these, and what is under way to it. It serves a range; one of
--- the messages that a turn takes is no heartbeat, or ends a retransmission that comes in; an entry is seen that was not sent; all
--- are sent, and the finish is to be told; or both finishes are exchanged, and it is to close
-pub data Acts (h : List Entry) (seen : ℕ) (s : State) (way : List Piece) : Type 0 where
-  serves : IsSome s.facts.connection.serving → Acts h seen s way
-  reads : all_beats (take turn_frames way) ≡ false → Acts h seen s way
-  ends_range : is_coming s.facts.connection.requester ≡ true → 1 ≤ length way → Acts h seen s way
-  sends : is_established s.facts.connection.phase ≡ true → is_absent s.config.own_flow ≡ false → s.facts.recorded.sent < seen → Acts h seen s way
-  tells : seen ≡ length h → tells_finish (around s 0 0) s.facts (length h) ≡ true → Acts h seen s way
-  shuts : closes (around s 0 0) s.facts ≡ true → Acts h seen s way
+-- An end a turn of which takes so many messages at most, and of which so many entries of its outbox are seen that comes to have these, and what is
+-- under way to it. It serves a range; one of the messages that a turn takes is no heartbeat, or ends a retransmission that comes in; an entry is
+-- seen that was not sent; all are sent, and the finish is to be told; or both finishes are exchanged, and it is to close
+pub data Acts (most : ℕ) (h : List Entry) (seen : ℕ) (s : State) (way : List Piece) : Type 0 where
+  serves : IsSome s.facts.connection.serving → Acts most h seen s way
+  reads : all_beats (take most way) ≡ false → Acts most h seen s way
+  ends_range : is_coming s.facts.connection.requester ≡ true → 1 ≤ length way → Acts most h seen s way
+  sends : is_established s.facts.connection.phase ≡ true → is_absent s.config.own_flow ≡ false → s.facts.recorded.sent < seen → Acts most h seen s way
+  tells : seen ≡ length h → tells_finish (around s 0 0) s.facts (length h) ≡ true → Acts most h seen s way
+  shuts : closes (around s 0 0) s.facts ≡ true → Acts most h seen s way
 
 -- as many heartbeats as a turn takes, or more, stand first
-pub record BeatsFirst (way : List Piece) : Type 0 where
-  pub many : turn_frames ≤ length way
-  pub beats : all_beats (take turn_frames way) ≡ true
+pub record BeatsFirst (most : ℕ) (way : List Piece) : Type 0 where
+  pub many : most ≤ length way
+  pub beats : all_beats (take most way) ≡ true
 
--- an end whose connection goes on has something to do, or heartbeats to read
-pub data HasToDo (hi ha : List Entry) (seen : ℕ) (w : World) : Type 0 where
-  at_initiator : w.initiator.ending ≡ None → Acts hi (length hi) w.initiator w.homeward → HasToDo hi ha seen w
-  at_acceptor : w.acceptor.ending ≡ None → Acts ha seen w.acceptor w.outward → HasToDo hi ha seen w
-  homeward_beats : w.initiator.ending ≡ None → BeatsFirst w.homeward → HasToDo hi ha seen w
-  outward_beats : w.acceptor.ending ≡ None → BeatsFirst w.outward → HasToDo hi ha seen w
+-- an end whose connection goes on has something to do, or heartbeats to read, where a turn of each takes so many messages at most
+pub data HasToDo (most_i most_a : ℕ) (hi ha : List Entry) (seen : ℕ) (w : World) : Type 0 where
+  at_initiator : w.initiator.ending ≡ None → Acts most_i hi (length hi) w.initiator w.homeward → HasToDo most_i most_a hi ha seen w
+  at_acceptor : w.acceptor.ending ≡ None → Acts most_a ha seen w.acceptor w.outward → HasToDo most_i most_a hi ha seen w
+  homeward_beats : w.initiator.ending ≡ None → BeatsFirst most_i w.homeward → HasToDo most_i most_a hi ha seen w
+  outward_beats : w.acceptor.ending ≡ None → BeatsFirst most_a w.outward → HasToDo most_i most_a hi ha seen w
 
--- Whatever steps came, where each may come, behind the beginning of a connection. The initiator has seen its whole outbox, and so has
+-- Whatever steps came, where each may come, behind the beginning of a connection, and however many messages a turn takes. The initiator has seen its whole outbox, and so has
 -- the acceptor where the initiator's finish is answered, or the initiator sends nothing
 abbrev pub SomethingToDo : Type 0
-SomethingToDo = (hi ha : List Entry) (w : World) (steps : List Step) (seen : ℕ) → StartsKnown hi ha w → AllMayStep hi ha w steps
+SomethingToDo = (most_i most_a : ℕ) (hi ha : List Entry) (w : World) (steps : List Step) (seen : ℕ) → StartsKnown hi ha w → AllMayStep hi ha w steps
     → BothGo (world_after w steps) → is_idle (world_after w steps).initiator.facts.connection.phase ≡ false
     → (world_after w steps).acceptor.facts.recorded.sent ≤ seen
     → ((answered (world_after w steps).acceptor.facts ≡ 1) ⊎ (is_absent (world_after w steps).acceptor.config.peer_flow ≡ true) → seen ≡ length ha)
-    → HasToDo hi ha seen (world_after w steps)
+    → HasToDo most_i most_a hi ha seen (world_after w steps)

@@ -34,7 +34,7 @@ EndsAreTold = (hi ha : List Entry) (w : World) (before later : List Step) (now_i
     → AllMayStep hi ha w (before ++ meets now_i now_a ∷ later) → AllByRecursion KeepsLink later
     → BothTold (world_after w (before ++ meets now_i now_a ∷ later))
 
--- so where one has ended or closes it, and not both have ended, one has something to do
+-- so where one has ended or closes it, and not both have ended, one has something to do, however many messages a turn takes
 abbrev pub ClosingToDo : Type 0
-ClosingToDo = (hi ha : List Entry) (seen : ℕ) (w : World) → BothTold w → IsOver w.initiator ⊎ IsOver w.acceptor → (w.initiator.ending ≡ None) ⊎ (w.acceptor.ending ≡ None)
-    → HasToDo hi ha seen w
+ClosingToDo = (most_i most_a : ℕ) (hi ha : List Entry) (seen : ℕ) (w : World) → BothTold w → IsOver w.initiator ⊎ IsOver w.acceptor → (w.initiator.ending ≡ None) ⊎ (w.acceptor.ending ≡ None)
+    → HasToDo most_i most_a hi ha seen w

@@ -39,4 +39,4 @@ WaitedSample =
 
 -- the initiator is to tell its finish, and then to close the connection
 abbrev pub ToDoSample : Type 0
-ToDoSample = HasToDo outbox [] 0 after_repair × HasToDo outbox [] 0 exchanged × HasToDo outbox [] 0 closing
+ToDoSample = HasToDo 16 16 outbox [] 0 after_repair × HasToDo 16 16 outbox [] 0 exchanged × HasToDo 16 16 outbox [] 0 closing

@@ -34,7 +34,7 @@ use std::alloc::{AllocError, Global};
 use std::marker::Model;
 
 /// How many frames `End::reserve` makes room for.
-const RESERVED_FRAMES: u8 = 16;
+const RESERVED_FRAMES: u16 = 256;
 
 /// One end of a session, over any number of connections one after another.
 #[derive(Drop)]
@@ -52,7 +52,7 @@ pub struct End {
     reply: Reply,
     /// The facts from this reply on.
     next: Facts,
-    room: u8,
+    room: u16,
     start: u64,
     last_sent: u64,
     last_received: u64,
@@ -93,7 +93,7 @@ impl Model for End {
 impl End {
     ghost use Rattle.fixp_replies.specs.Events.{heartbeats, lateness};
     ghost use Rattle.fixp_replies.specs.Outcomes.{breaks};
-    ghost use Rattle.fixp_machine.specs.Machine.{fresh, connected, around, wrote, bytes_of, broken_by, ticked, after_closed, after_turn, payload_frames, range_end, rest_of, sent_again, sent_live, reply_applied, after_bad_frame, after_act, link_ended, phase_of, front_of, held_applied, held_until, held_with, Windowed};
+    ghost use Rattle.fixp_machine.specs.Machine.{fresh, frames_reserved, connected, around, wrote, bytes_of, broken_by, ticked, after_closed, after_turn, payload_frames, range_end, rest_of, sent_again, sent_live, reply_applied, after_bad_frame, after_act, link_ended, phase_of, front_of, held_applied, held_until, held_with, Windowed};
     ghost use Rattle.std.specs.Option.{option_map};
     ghost use Rattle.fixp_replies.specs.declared.act.Act.TheVariants.{Apply};
     ghost use Rattle.fixp_machine.specs.Machine.{State};
@@ -190,13 +190,13 @@ impl End {
         );
     }
 
-    /// Makes room for 16 frames.
+    /// Makes room for 256 frames.
     ///
     /// # Errors
     /// Want of memory: nothing has changed.
     pub fn reserve(&mut self) -> Result<(), AllocError>
         requires done { self.old.pending ≡ None }
-        ensures ok { OnOk result (self.new ≡ record self.old { room = 16 }) }
+        ensures ok { OnOk result (self.new ≡ record self.old { room = frames_reserved }) }
         ensures err { OnErr result (self.new ≡ self.old) }
     {
         self.applied.reserve()?;
@@ -215,7 +215,7 @@ impl End {
         requires done { self.old.pending ≡ None }
         requires drained { front_of self.old ≡ None }
         requires room { 0 < self.old.room }
-        requires output { length self.old.unsent ≤ 1000000 }
+        requires output { length self.old.unsent ≤ 5000000 }
         requires time { (self.old.moment ≤ now) × (now < 2 ^ 44) }
         ensures reply { AnswersFrame self.old self.new order message.now at now result }
         ensures takes { CanTake self.old.config.peer_flow self.old.most self.old.facts.recorded (IsApplication (payload_of (record { order = order; message = message.now }))) result }
@@ -354,8 +354,7 @@ impl End {
     pub fn turn_done(&mut self, now: u64)
         requires done { self.old.pending ≡ None }
         requires drained { front_of self.old ≡ None }
-        requires output { length self.old.unsent ≤ 2000000 }
-        requires few { length self.old.untold ≤ 10000 }
+        requires output { length self.old.unsent + 64 * length self.old.untold ≤ 5100000 }
         requires time { (self.old.moment ≤ now) × (now < 2 ^ 44) }
         ensures turn { self.new ≡ after_turn self.old now }
         ensures recorded { self.new.facts.recorded ≡ self.old.facts.recorded }

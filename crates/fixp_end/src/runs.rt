@@ -33,8 +33,7 @@ fn append_run(config: &EndConfig, output: &mut Output, run: Range)
 /// Writes each run that is to be told.
 fn append_runs(config: &EndConfig, output: &mut Output, applied: &Applied)
     requires credentials { length config.now.credentials ≤ 2048 }
-    requires few { length applied.now.untold ≤ 10000 }
-    requires room { length output.old ≤ 2000000 }
+    requires room { length output.old + 64 * length applied.now.untold ≤ 5100000 }
     ensures bytes { output.new ≡ output.old ++ bytes_of (applied_runs (runs_of applied.now.untold)) }
     ensures short { length output.new ≤ length output.old + 64 * length applied.now.untold }
 {
@@ -52,8 +51,7 @@ fn write_runs(
     now: u64,
 )
     requires credentials { length config.now.credentials ≤ 2048 }
-    requires few { length applied.now.untold ≤ 10000 }
-    requires room { length output.old ≤ 2000000 }
+    requires room { length output.old + 64 * length applied.now.untold ≤ 5100000 }
     ensures bytes { output.new ≡ output.old ++ bytes_of (applied_runs (runs_of applied.now.untold)) }
     ensures sent { last_sent.new ≡ sent_at last_sent.old (bytes_of (applied_runs (runs_of applied.now.untold))) now }
     ensures within { last_sent.old ≤ now → last_sent.new ≤ now }
@@ -75,8 +73,7 @@ pub fn write_turn(
     last_sent: &mut u64,
 )
     requires sound { Sound around.now.config.now facts.old }
-    requires few { length applied.now.untold ≤ 10000 }
-    requires room { length output.old ≤ 2000000 }
+    requires room { length output.old + 64 * length applied.now.untold ≤ 5100000 }
     ensures bytes { output.new ≡ output.old ++ bytes_of (turn_ended (around_of around.now) facts.old (runs_of applied.now.untold)).written }
     ensures sent { last_sent.new ≡ sent_at last_sent.old (bytes_of (turn_ended (around_of around.now) facts.old (runs_of applied.now.untold)).written) around.now.moment }
     ensures within { last_sent.old ≤ around.now.moment → last_sent.new ≤ around.now.moment }

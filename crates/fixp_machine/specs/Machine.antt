@@ -234,6 +234,10 @@ abbrev pub served_again : State → Option Range → List (List ℕ) → ℕ →
 served_again s None payloads now = s
 served_again s (Some r) payloads now = sent_again s r payloads now
 
+-- how many frames room is made for at once
+abbrev pub frames_reserved : ℕ
+frames_reserved = 256
+
 abbrev pub step : State → Call → State
 step s (begin now) = connected s now
 step s (frame incoming at now) = after_frame s incoming (reply_of (around s at now) s.facts incoming) now
@@ -246,7 +250,7 @@ step s link_end = link_ended s
 step s (live payloads now) = sent_live s payloads now
 step s (again payloads now) = served_again s s.facts.connection.serving payloads now
 step s (taken count) = record s { unsent = drop count s.unsent }
-step s reserve = record s { room = 16 }
+step s reserve = record s { room = frames_reserved }
 step s held_done = held_applied s (front_of s)
 
 -- a list of calls, one after another

@@ -13,7 +13,7 @@ after_message number = number + 1
 
 -- for how many announcements room is made at once
 abbrev pub announcements_reserved : ℕ
-announcements_reserved = 16
+announcements_reserved = 256
 
 -- the number of the next message; the numbers applied since the receiver was made, and those since the runs were forgotten,
 -- in order; and for how many announcements there is room

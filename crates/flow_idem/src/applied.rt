@@ -12,14 +12,14 @@ use std::alloc::{AllocError, Global};
 use std::marker::Model;
 
 /// For how many announcements room is made at once.
-const RESERVED: u8 = 16;
+const RESERVED: u16 = 256;
 
 /// The receiving end of an idempotent flow (FIXP 1.1, idempotent flow type).
 #[derive(Drop)]
 pub struct Applied {
     all: Runs,
     untold: Runs,
-    room: u8,
+    room: u16,
 }
 
 impl Model for Applied {
@@ -34,7 +34,7 @@ impl Model for Applied {
 }
 
 impl Applied {
-    /// A receiver that applied nothing, where the inbox waits for the number `next`. It has room for 16 announcements.
+    /// A receiver that applied nothing, where the inbox waits for the number `next`. It has room for 256 announcements.
     ///
     /// # Errors
     /// Want of memory.
@@ -48,7 +48,7 @@ impl Applied {
         })
     }
 
-    /// Makes room for 16 announcements and for any number of messages. No other call takes memory.
+    /// Makes room for 256 announcements and for any number of messages. No other call takes memory.
     ///
     /// # Errors
     /// Want of memory. Nothing has changed then.
@@ -70,7 +70,7 @@ impl Applied {
     }
 
     /// For how many announcements there is room.
-    pub fn room(&self) -> u8
+    pub fn room(&self) -> u16
         ensures { result ≡ self.now.room }
     {
         self.room

@@ -61,9 +61,9 @@ opens_same b e e' gate is = is ∙ sym (ap (λ g. outbox_of (opening_of g).histo
 
 -- a connection begins where all before are over
 pub begun : (b : Beginning) (legs : List TurnedLeg) (e e' : DrivenEnd) (now : ℕ) → e'.gate ≡ e.gate → IsInTime now → e'.standing ≡ standings.Open → line_of e'.conn ≡ line_begun (line_of e.conn) now
-    → known e'.pass ≡ known e.pass → e'.inbox ≡ e.inbox → StandsBehind b legs e → (at : ℕ) × RunsOver b legs (begun_leg at) e'
+    → known e'.pass ≡ known e.pass → e'.inbox ≡ e.inbox → StandsBehind b legs e → (at : ℕ) × RunsOver b legs (begun_leg (line_of e.conn).per_turn at) e'
 begun b legs e e' now gate time going line pass box k =
-    let at : During b legs (begun_leg now) (record { line = line_begun (line_of e.conn) now; seen = (known e.pass).seen; inbox = k.inbox }) = leg_begins b legs (now_of e k.inbox) now k.between time in (
+    let at : During b legs (begun_leg (line_of e.conn).per_turn now) (record { line = line_begun (line_of e.conn) now; seen = (known e.pass).seen; inbox = k.inbox }) = leg_begins b legs (now_of e k.inbox) now k.between time in (
       now,
       record {
         opens = opens_same b e e' gate k.opens;
@@ -71,8 +71,8 @@ begun b legs e e' now gate time going line pass box k =
         refused = [];
         whole = λ _. (refl, refl);
         holds = subst (λ x. HoldsBox x k.inbox []) (sym box) k.holds;
-        during = λ _. subst (λ (l : Line). During b legs (begun_leg now) (record { line = l; seen = (known e'.pass).seen; inbox = k.inbox })) (sym line)
-            (subst (λ (p : Part). During b legs (begun_leg now) (record { line = line_begun (line_of e.conn) now; seen = p.seen; inbox = k.inbox })) (sym pass) at);
+        during = λ _. subst (λ (l : Line). During b legs (begun_leg (line_of e.conn).per_turn now) (record { line = l; seen = (known e'.pass).seen; inbox = k.inbox })) (sym line)
+            (subst (λ (p : Part). During b legs (begun_leg (line_of e.conn).per_turn now) (record { line = line_begun (line_of e.conn) now; seen = p.seen; inbox = k.inbox })) (sym pass) at);
         between = λ over. absurd (apart e'.standing going over);
         failed = λ failed. absurd (unfailed e'.standing (ap is_failed going) failed);
       },

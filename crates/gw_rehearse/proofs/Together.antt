@@ -140,8 +140,8 @@ module _ (client server : Flow) where
   }
 
   -- both begin a connection
-  pub both_begin : (i a i' a' : DrivenEnd) (room : ℕ) → ((b : Beginning) (legs : List TurnedLeg) → StandsBehind b legs i → (now : ℕ) × RunsOver b legs (begun_leg now) i')
-      → ((b : Beginning) (legs : List TurnedLeg) → StandsBehind b legs a → (now : ℕ) × RunsOver b legs (begun_leg now) a') → Together client server i a None → Together client server i' a' (Some (new_pipe room))
+  pub both_begin : (i a i' a' : DrivenEnd) (room : ℕ) → ((b : Beginning) (legs : List TurnedLeg) → StandsBehind b legs i → (now : ℕ) × RunsOver b legs (begun_leg (line_of i.conn).per_turn now) i')
+      → ((b : Beginning) (legs : List TurnedLeg) → StandsBehind b legs a → (now : ℕ) × RunsOver b legs (begun_leg (line_of a.conn).per_turn now) a') → Together client server i a None → Together client server i' a' (Some (new_pipe room))
   both_begin i a i' a' room begins begins_a t =
       let x = begins t.lives.begins t.past t.meet.0 in
       let y = begins_a t.lives_a.begins t.past_a t.meet.1 in
@@ -151,7 +151,7 @@ module _ (client server : Flow) where
         past = t.past;
         past_a = t.past_a;
         paired = t.paired;
-        meet = record { leg = begun_leg x.0; leg_a = begun_leg y.0; way = record { homeward = refl; outward = refl }; runs = x.1; runs_a = y.1 };
+        meet = record { leg = begun_leg (line_of i.conn).per_turn x.0; leg_a = begun_leg (line_of a.conn).per_turn y.0; way = record { homeward = refl; outward = refl }; runs = x.1; runs_a = y.1 };
       }
 
   -- the initiator makes a turn

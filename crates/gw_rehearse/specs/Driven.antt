@@ -27,7 +27,7 @@ use Rattle.gw_rehearse.specs.Standing.{Stands, is_given, is_failed}
 
 -- its passes are where they belong, and it stands where it can go on
 abbrev pub IsDriven : DrivenEnd → Type 0
-IsDriven e = HasStaff e.gate e.staff e.pass × Stands e.standing (line_of e.conn) (e.turns * 262240) (known e.pass) e.inbox
+IsDriven e = HasStaff e.gate e.staff e.pass × Stands e.standing (line_of e.conn) (e.turns * 4195840) (known e.pass) e.inbox
 
 -- it has begun no connection in its life, and no call of its inbox's disk has failed
 pub record IsResting (e : DrivenEnd) : Type 0 where
@@ -48,7 +48,7 @@ pub record IsMadeOf (config : EndConfig) (next sent : ℕ) (conn : Conn) : Type 
   pub state : EndState
   pub next_is : state.inbox_next ≡ next
   pub sent_is : state.sent ≡ sent
-  pub line : line_of conn ≡ new_line (fresh config state (2 ^ 24))
+  pub line : line_of conn ≡ new_line (fresh config state (2 ^ 24)) 16
 
 -- its gate opened on the outbox with which its life began
 abbrev pub OpensWith : Beginning → DrivenEnd → Type 0

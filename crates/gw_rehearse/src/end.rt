@@ -47,6 +47,9 @@ use std::thread::Threads;
 /// The most turns of a connection.
 const TURNS: u64 = 1 << 40;
 
+/// How many frames a turn takes at most, and entries of an outbox it sends: what the rounds of a script are counted by.
+const PER_TURN: u16 = 16;
+
 /// The most messages that are answered at once.
 const ANSWERED: usize = 512;
 
@@ -102,10 +105,10 @@ fn opened(alloc: Global, config: EndConfig, state: EndState) -> Result<Conn, All
     requires first { 1 ≤ state.inbox_next }
     requires numbered { state.inbox_next + 1 < 2 ^ 64 }
     requires sent { state.sent < 2 ^ 40 }
-    ensures { IfOk result (λ conn. line_of conn ≡ new_line (fresh config state (2 ^ 24))) }
+    ensures { IfOk result (λ conn. line_of conn ≡ new_line (fresh config state (2 ^ 24)) 16) }
 {
     let end = End::new(alloc, config, state, MOST)?;
-    Conn::new(alloc, end)
+    Conn::new(alloc, end, PER_TURN)
 }
 
 /// A connection that has not begun, of an end that goes on where its journals stand; none where memory runs out, or the outbox
@@ -337,7 +340,7 @@ impl DrivenEnd {
         ensures driven { IsDriven self.new }
         ensures inbox { self.new.inbox ≡ self.old.inbox }
         ensures given { is_given self.new.standing ≡ is_given self.old.standing }
-        ensures begun { (b : Beginning) (legs : List TurnedLeg) → StandsBehind b legs self.old → (now : ℕ) × RunsOver b legs (begun_leg now) self.new }
+        ensures begun { (b : Beginning) (legs : List TurnedLeg) → StandsBehind b legs self.old → (now : ℕ) × RunsOver b legs (begun_leg (line_of self.old.conn).per_turn now) self.new }
     {
         let Standing::Over = self.standing else {
             return;

@@ -46,7 +46,7 @@ pub(crate) fn make_turn<L: Link, R: Wait>(
     ensures place { L.place link.new ≡ L.place link.old }
     ensures number { (known pass.new).number ≡ (known pass.old).number }
     ensures made { (known pass.new).made ≡ (known pass.old).made }
-    ensures stands { Stands result (line_of conn.new) ((line_of conn.old).place + 262240) (known pass.new) inbox.new }
+    ensures stands { Stands result (line_of conn.new) ((line_of conn.old).place + 4195840) (known pass.new) inbox.new }
 {
     Standing::behind(conn.turn(link, gate, pass, inbox, clock, news, rt))
 }

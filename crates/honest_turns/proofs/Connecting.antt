@@ -81,7 +81,7 @@ abbrev pub course_at : Side → Course
 course_at s = beginning s.state s.inbox s.leg.moment
 
 abbrev pub line_at : Side → Line
-line_at s = first_line s.state s.leg.moment
+line_at s = first_line s.leg.per_turn s.state s.leg.moment
 
 pub writes_legal : (s : Side) → IsReady s.outbox s.state s.inbox → IsInTime s.leg.moment → s.state.facts.recorded.sent ≤ length s.outbox.made → WritesLegal s.outbox (course_at s)
 writes_legal s k time enough cs may fits = (written_is_legal s.outbox.made s.state s.inbox s.leg.moment cs k.range enough k.entries time may fits).legal
@@ -98,7 +98,7 @@ pub record Stood (s : Side) (k : MakesTurns s) : Type 0 where
 -- where its last line stands
 last_stands : (s : Side) (k : MakesTurns s) → s.state.facts.recorded.sent ≤ length s.outbox.made → StandsAt s.outbox.made (course_after (course_at s) (flat_map calls_of s.leg.turns)) k.turns.last
 last_stands s k enough =
-    (turns_stand s.outbox.made k.turns.before k.turns.after (line_at s) k.turns.last s.leg.turns (course_at s) (begin_stands s.outbox.made s.state s.inbox s.leg.moment k.ready.awaits enough) k.turns.has k.turns.turns k.turns.faithful).after
+    (turns_stand s.outbox.made k.turns.before k.turns.after (line_at s) k.turns.last s.leg.turns (course_at s) (begin_stands s.outbox.made s.leg.per_turn s.state s.inbox s.leg.moment k.ready.awaits enough) k.turns.has k.turns.turns k.turns.faithful).after
 
 pub behind_is : (s : Side) (k : MakesTurns s) → s.state.facts.recorded.sent ≤ length s.outbox.made → behind s ≡ run k.turns.last.machine (flat_map calls_of (option_to_list s.leg.cut))
 behind_is s k enough =
@@ -249,7 +249,7 @@ pub ahead : (s : Side) (x : State) (turns : List Turn) → (k : MakesTurns s) �
     → turns ≡ all_turns s.leg → Ahead s.outbox (course_at s) x (line_at s).machine [] turns z.m z.held
 ahead s x turns k enough z alike is =
     going (line_at s) k.turns.last k.turns.before k.turns.after s.leg.turns s.leg.cut refl refl
-    (record { calls = []; may = tt; fits = tt; at = begin_stands s.outbox.made s.state s.inbox s.leg.moment k.ready.awaits enough; alike = alike })
+    (record { calls = []; may = tt; fits = tt; at = begin_stands s.outbox.made s.leg.per_turn s.state s.inbox s.leg.moment k.ready.awaits enough; alike = alike })
     k.turns.turns k.turns.faithful (record { begins = k.seen; few = k.turns.has.few }) (subst (λ (ts : List Turn). AllByRecursion IsTimelyTurn ts) (sym is) k.timely.turns) is z.stops
 
 -- what it writes as it begins

@@ -12,3 +12,4 @@ pub mod Timing
 pub mod Renewing
 pub mod Sampled
 pub mod Counted
+pub mod Unsent

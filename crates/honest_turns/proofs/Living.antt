@@ -70,7 +70,7 @@ begun_anew s now = ap (λ (r : EndState). fresh s.config r s.most) (by_case (is_
 
 -- a connection without turns
 abbrev nothing_on : End → Side
-nothing_on e = side_of e (record { moment = 0; turns = []; cut = None })
+nothing_on e = side_of e (record { per_turn = 16; moment = 0; turns = []; cut = None })
 
 -- one whose link the other end never took up
 record Alone (hi ha : List Entry) (z : State) (x y : State) : Type 0 where

@@ -70,7 +70,7 @@ prefix_nil [] p = refl
 prefix_nil (e ∷ h) p = absurd (cc (p.1))
 
 abbrev first_a : Line
-first_a = first_line (begins sample_config) 0
+first_a = first_line 16 (begins sample_config) 0
 
 abbrev mid_a : Line
 mid_a = line_sent (line_ticked first_a 0) (frame_bytes opening) false
@@ -86,7 +86,7 @@ none_held_a : (lines_after 0 (line_received mid_a 0 (frame_bytes answer) work_a.
 unfolding line_after
 none_held_a = refl
 
-none_held_b : (lines_after 0 (line_received (first_line (begins acceptor) 0) 0 (frame_bytes opening) work_b.got) work_b.frames).held ≡ []
+none_held_b : (lines_after 0 (line_received (first_line 16 (begins acceptor) 0) 0 (frame_bytes opening) work_b.got) work_b.frames).held ≡ []
 unfolding line_after
 none_held_b = refl
 
@@ -103,7 +103,7 @@ held_a t =
 held_b : (t : AreTurnsOf [] (begins acceptor) leg_b) → t.last.held ≡ []
 held_b t =
     let k = t.turns in
-    ap (λ (l : Line). l.held) k.6.0 ∙ (held_behind t.before k.2 (first_line (begins acceptor) 0) k.1 work_b k.3 ∙ none_held_b)
+    ap (λ (l : Line). l.held) k.6.0 ∙ (held_behind t.before k.2 (first_line 16 (begins acceptor) 0) k.1 work_b k.3 ∙ none_held_b)
 
 -- a side of turns over what they saw of an outbox without entries
 module _ (config : EndConfig) (leg : TurnedLeg) (range : IsInRange (begins config)) (t : AreTurnsOf [] (begins config) leg) (time : IsTimely leg) where

@@ -199,7 +199,7 @@ turn_steps outbox ha w c before after old new (works a) tail is alike drained ma
     r = lines_after a.now l a.frames
 
     broken : a.broken ≡ None
-    broken = k.served.broken ∙ none_broken (nat_lt (length a.frames) 16) (may_take r) (is_bad (first_of r.held)) r.place (not_bad y.left r.held tail y.legal (y.goes_on tail e))
+    broken = k.served.broken ∙ none_broken (nat_lt (length a.frames) r.per_turn) (may_take r) (is_bad (first_of r.held)) r.place (not_bad y.left r.held tail y.legal (y.goes_on tail e))
 
     last : AllByRecursion (IsOther h) (finish_calls a.now a.finish)
     last = due_unless l (finish_of (closed_at l a) a.at_finish) a.finish (λ (o : Option ℕ). AllByRecursion (IsOther h) (finish_calls a.now o)) k.served.finish tt

@@ -5,3 +5,4 @@ pub mod Lives
 pub mod Sessions
 pub mod Samples
 pub mod Counting
+pub mod Waiting

@@ -8,9 +8,11 @@ mod counting;
 mod lives;
 mod samples;
 mod sessions;
+mod waiting;
 
 pub use connections::{connection_holds, rest_holds, whole_is_equal};
 pub use counting::refused_counts;
 pub use lives::{life_holds, time_is_linked};
 pub use samples::{handshake_sample, rest_sample, unwritten_agree};
 pub use sessions::{new_life_agrees, session_holds};
+pub use waiting::{one_reads, reads_up_to, writes_replies};

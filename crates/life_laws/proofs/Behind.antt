@@ -36,7 +36,7 @@ seen_over : (before after : History) (m : State) (last : Line) (c : Connection) 
 seen_over before after m last c real =
     let k = plain before after m last c real in
     prefix_trans before.made k.seen.made after.made
-    (all_seen before k.seen (first_line m c.leg.moment) last c.leg.turns (plain_are_turns before k.seen (first_line m c.leg.moment) last c.leg.turns k.told k.added k.turns)) k.grows.made
+    (all_seen before k.seen (first_line c.leg.per_turn m c.leg.moment) last c.leg.turns (plain_are_turns before k.seen (first_line c.leg.per_turn m c.leg.moment) last c.leg.turns k.told k.added k.turns)) k.grows.made
 
 pub seen_over_all : (before after : History) (m new : State) (cs : List Connection) → AllEnded before after m new cs → IsPrefix before.made after.made
 seen_over_all before after m new [] all = prefix_equal before.made after.made (ap (λ (x : History). x.made) (sym all.1))

@@ -82,7 +82,7 @@ failed_life opening closing refused m mid i last cs c left o b x w = record {
 
     f : FailsOn h s box c.leg t left
     f = fails_on h s box c.leg x.turns.before x.turns.after last w.now w.received w.frames w.refusal left
-        (subst (λ (l : Line). AreTurns x.turns.before x.turns.after (first_line s c.leg.moment) l c.leg.turns) x.line x.turns.turns) x.turns.has x.turns.faithful x.stands w.short w.is_tried
+        (subst (λ (l : Line). AreTurns x.turns.before x.turns.after (first_line c.leg.per_turn s c.leg.moment) l c.leg.turns) x.line x.turns.turns) x.turns.has x.turns.faithful x.stands w.short w.is_tried
 
     q : RefusedLeg
     q = record { leg = c.leg; refusal = record { calls = f.calls; tried = left } }

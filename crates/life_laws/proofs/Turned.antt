@@ -70,16 +70,16 @@ connection_turned h before after m i last c awaits enough has real faithful =
     let b : Course = beginning m i t.moment in
     let first : List Call = flat_map calls_of t.turns in
     let so_far : Has h k.seen = has_before h k.seen after has k.grows.made in
-    let are : AreTurns before k.seen (first_line m t.moment) last t.turns = plain_are_turns before k.seen (first_line m t.moment) last t.turns k.told k.added k.turns in
+    let are : AreTurns before k.seen (first_line t.per_turn m t.moment) last t.turns = plain_are_turns before k.seen (first_line t.per_turn m t.moment) last t.turns k.told k.added k.turns in
     let turns : AreTurnsOf h m t = record { before = before; after = k.seen; last = last; turns = are; cut = is_cut last t.cut k.cut_told k.cut_added c.refused c.wanted k.cut; has = so_far; faithful = faithful } in
-    let start : StandsAt h b (first_line m t.moment) = begin_stands h m i t.moment awaits enough in
-    let x = turns_stand h before k.seen (first_line m t.moment) last t.turns b start so_far are faithful in
+    let start : StandsAt h b (first_line t.per_turn m t.moment) = begin_stands h t.per_turn m i t.moment awaits enough in
+    let x = turns_stand h before k.seen (first_line t.per_turn m t.moment) last t.turns b start so_far are faithful in
     let joined : course_on m i t ≡ course_after (course_after b first) (flat_map calls_of (option_to_list t.cut)) =
     ap (λ (cs : List Call). course_after b cs) (flat_map-append calls_of t.turns (option_to_list t.cut)) ∙ after_append b first (flat_map calls_of (option_to_list t.cut)) in
     let adds : (course_on m i t).added ≡ c.adds =
     ap (λ (d : Course). d.added) joined
     ∙ (cut_part_adds h (course_after b first) last t.cut k.cut_told k.cut_added c.refused c.wanted x.after k.cut
-    ∙ (ap (λ (rs : List InboxRecord). rs ++ k.cut_added) (turns_add h before k.seen (first_line m t.moment) last t.turns k.told k.added b start so_far k.turns faithful) ∙ sym k.adds)) in
+    ∙ (ap (λ (rs : List InboxRecord). rs ++ k.cut_added) (turns_add h before k.seen (first_line t.per_turn m t.moment) last t.turns k.told k.added b start so_far k.turns faithful) ∙ sym k.adds)) in
     let begun : (course_on m i t).start ≡ i = (calls_go_on h b (calls_on t) (leg_stands h m i t awaits enough turns)).start in
     record {
       turns = turns;

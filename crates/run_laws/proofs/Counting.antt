@@ -67,6 +67,7 @@ pub record CountedOn (s : Side) (refused : List InboxRecord) : Type 0 where
   pub leg : TurnedLeg
   pub link : SameLink s.leg leg
   pub makes : MakesTurns (record s { leg = leg })
+  pub number : leg.per_turn ≡ s.leg.per_turn
   pub moment : leg.moment ≡ s.leg.moment
   pub turns : leg.turns ≡ s.leg.turns
   pub inbox : inbox_behind (record s { leg = leg }) ≡ inbox_behind s ++ refused
@@ -76,6 +77,7 @@ counted_on s tried kept rest k enough w all = record {
   leg = leg;
   link = record { whole = λ none. absurd (some_cut w.is none); initiates = counts.initiates; accepts = counts.accepts; given = λ none. given ∙ none };
   makes = counts.makes;
+  number = refl;
   moment = refl;
   turns = refl;
   inbox = inbox;
@@ -120,7 +122,7 @@ counted_on s tried kept rest k enough w all = record {
     c = course_after b whole
 
     stands : StandsAt h c last
-    stands = (turns_stand h k.turns.before k.turns.after (first_line s.state s.leg.moment) last s.leg.turns b (begin_stands h s.state s.inbox s.leg.moment k.ready.awaits enough) k.turns.has k.turns.turns k.turns.faithful).after
+    stands = (turns_stand h k.turns.before k.turns.after (first_line s.leg.per_turn s.state s.leg.moment) last s.leg.turns b (begin_stands h s.leg.per_turn s.state s.inbox s.leg.moment k.ready.awaits enough) k.turns.has k.turns.turns k.turns.faithful).after
 
     -- the inbox behind its whole turns and this one
     inbox_with : Option Turn → List InboxRecord

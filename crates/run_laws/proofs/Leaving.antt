@@ -16,7 +16,7 @@ use Rattle.run_laws.proofs.Paths.{Path, arrives, connects, opens, along}
 pub record LedTo (e : End) (t : TurnedLeg) (x : Line) : Type 0 where
   pub before : History
   pub after : History
-  pub turns : AreTurns before after (first_line e.state t.moment) x t.turns
+  pub turns : AreTurns before after (first_line t.per_turn e.state t.moment) x t.turns
 
 -- the machine behind a connection: that of the line to which its whole turns lead, or the one that it leaves
 abbrev pub EndsIn : State → End → TurnedLeg → Type 0
@@ -101,20 +101,21 @@ same_config e f (opens j r p) = same_config j f p ∙ r.config
 
 -- ---- turns lead to one line alone
 
-line_same : (x y : Line) → x.machine ≡ y.machine → x.held ≡ y.held → x.place ≡ y.place → x.over ≡ y.over → x.serves ≡ y.serves → x.waits ≡ y.waits → x ≡ y
-line_same x y machine held place over serves waits =
-    ap (λ (m : State). record { machine = m; held = x.held; place = x.place; over = x.over; serves = x.serves; waits = x.waits }) machine
-    ∙ (ap (λ (bs : List ℕ). record { machine = y.machine; held = bs; place = x.place; over = x.over; serves = x.serves; waits = x.waits }) held
-    ∙ (ap (λ (n : ℕ). record { machine = y.machine; held = y.held; place = n; over = x.over; serves = x.serves; waits = x.waits }) place
-    ∙ (ap (λ (b : Bool). record { machine = y.machine; held = y.held; place = y.place; over = b; serves = x.serves; waits = x.waits }) over
-    ∙ (ap (λ (b : Bool). record { machine = y.machine; held = y.held; place = y.place; over = y.over; serves = b; waits = x.waits }) serves
-    ∙ ap (λ (b : Bool). record { machine = y.machine; held = y.held; place = y.place; over = y.over; serves = y.serves; waits = b }) waits))))
+line_same : (x y : Line) → x.machine ≡ y.machine → x.held ≡ y.held → x.place ≡ y.place → x.over ≡ y.over → x.serves ≡ y.serves → x.waits ≡ y.waits → x.per_turn ≡ y.per_turn → x ≡ y
+line_same x y machine held place over serves waits per_turn =
+    ap (λ (m : State). record { machine = m; held = x.held; place = x.place; over = x.over; serves = x.serves; waits = x.waits; per_turn = x.per_turn }) machine
+    ∙ (ap (λ (bs : List ℕ). record { machine = y.machine; held = bs; place = x.place; over = x.over; serves = x.serves; waits = x.waits; per_turn = x.per_turn }) held
+    ∙ (ap (λ (n : ℕ). record { machine = y.machine; held = y.held; place = n; over = x.over; serves = x.serves; waits = x.waits; per_turn = x.per_turn }) place
+    ∙ (ap (λ (b : Bool). record { machine = y.machine; held = y.held; place = y.place; over = b; serves = x.serves; waits = x.waits; per_turn = x.per_turn }) over
+    ∙ (ap (λ (b : Bool). record { machine = y.machine; held = y.held; place = y.place; over = y.over; serves = b; waits = x.waits; per_turn = x.per_turn }) serves
+    ∙ (ap (λ (b : Bool). record { machine = y.machine; held = y.held; place = y.place; over = y.over; serves = y.serves; waits = b; per_turn = x.per_turn }) waits
+    ∙ ap (λ (n : ℕ). record { machine = y.machine; held = y.held; place = y.place; over = y.over; serves = y.serves; waits = y.waits; per_turn = n }) per_turn)))))
 
 turn_same : (b a b' a' : History) (old x y : Line) (t : Turn) → IsTurn b a old x t → IsTurn b' a' old y t → x ≡ y
 turn_same b a b' a' old x y (only_sends now sent lost) k l = k.0.line ∙ sym l.0.line
 turn_same b a b' a' old x y (works w) k l =
     let same : k.behind ≡ l.behind =
-    line_same k.behind l.behind (k.served.machine ∙ sym l.served.machine) (k.served.held ∙ sym l.served.held) (k.served.place ∙ sym l.served.place) (k.served.over ∙ sym l.served.over) (k.served.serves ∙ sym l.served.serves) (k.served.waits ∙ sym l.served.waits) in
+    line_same k.behind l.behind (k.served.machine ∙ sym l.served.machine) (k.served.held ∙ sym l.served.held) (k.served.place ∙ sym l.served.place) (k.served.over ∙ sym l.served.over) (k.served.serves ∙ sym l.served.serves) (k.served.waits ∙ sym l.served.waits) (k.served.per_turn ∙ sym l.served.per_turn) in
     k.sends.line ∙ (ap (λ (z : Line). line_sent z w.sent w.lost) same ∙ sym l.sends.line)
 turn_same b a b' a' old x y (link_lost now) k l = k.0 ∙ sym l.0
 turn_same b a b' a' old x y (cut_short now received frames refused) k l = absurd k

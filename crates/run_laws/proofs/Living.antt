@@ -148,17 +148,18 @@ module _ {J : Type 0} {G : Ghosts J} {tells : Type 0} (at behind : LifeAt J G) (
   there = state_behind_all end (turned k.ended) ∙ (served_is_turned tells at.box at behind m result closing.made inbox k told holds has opens.ready.awaits enough).machine
 
   -- the connection that was given up left that line
-  led_to : (c : Connection) (g : WasGivenUp k.behind behind.seen k.mid (Some c)) (t : TurnedLeg) → t.moment ≡ c.leg.moment → t.turns ≡ c.leg.turns → LedTo (end_after end (turned k.ended)) t g.0
-  led_to c g t moment same = record {
+  led_to : (c : Connection) (g : WasGivenUp k.behind behind.seen k.mid (Some c)) (t : TurnedLeg) → t.per_turn ≡ c.leg.per_turn → t.moment ≡ c.leg.moment → t.turns ≡ c.leg.turns → LedTo (end_after end (turned k.ended)) t g.0
+  led_to c g t number moment same = record {
     before = k.behind;
     after = g.1.behind.seen;
-    turns = subst (λ (s : State). AreTurns k.behind g.1.behind.seen (first_line s t.moment) g.0 t.turns) (sym there)
-        (subst (λ (n : ℕ). AreTurns k.behind g.1.behind.seen (first_line k.mid n) g.0 t.turns) (sym moment)
-        (subst (λ (ts : List Turn). AreTurns k.behind g.1.behind.seen (first_line k.mid c.leg.moment) g.0 ts) (sym same) (turns_of k.behind behind.seen k.mid g.0 c g.1)));
+    turns = subst (λ (s : State). AreTurns k.behind g.1.behind.seen (first_line t.per_turn s t.moment) g.0 t.turns) (sym there)
+        (subst (λ (n : ℕ). AreTurns k.behind g.1.behind.seen (first_line n k.mid t.moment) g.0 t.turns) (sym number)
+        (subst (λ (n : ℕ). AreTurns k.behind g.1.behind.seen (first_line c.leg.per_turn k.mid n) g.0 t.turns) (sym moment)
+        (subst (λ (ts : List Turn). AreTurns k.behind g.1.behind.seen (first_line c.leg.per_turn k.mid c.leg.moment) g.0 ts) (sym same) (turns_of k.behind behind.seen k.mid g.0 c g.1))));
   }
 
   left_by : (t : TurnedLeg) (ts : List TurnedLeg) (o : Option Connection) (g : WasGivenUp k.behind behind.seen k.mid o) (x : Line) → line_given k.behind behind.seen k.mid o g ≡ Some x
-      → ((c : Connection) → o ≡ Some c → (ts ≡ t ∷ []) × (t.moment ≡ c.leg.moment) × (t.turns ≡ c.leg.turns)) → Left (λ f u. LedTo f u x) end (turned k.ended ++ ts)
+      → ((c : Connection) → o ≡ Some c → (ts ≡ t ∷ []) × (t.per_turn ≡ c.leg.per_turn) × (t.moment ≡ c.leg.moment) × (t.turns ≡ c.leg.turns)) → Left (λ f u. LedTo f u x) end (turned k.ended ++ ts)
   left_by t ts None g x e as' = absurd (cc e)
   left_by t ts (Some c) g x e as' =
       let s = as' c refl in
@@ -166,17 +167,17 @@ module _ {J : Type 0} {G : Ghosts J} {tells : Type 0} (at behind : LifeAt J G) (
         front = turned k.ended;
         last = t;
         are = ap (λ (us : List TurnedLeg). turned k.ended ++ us) s.0;
-        led = subst (λ (y : Line). LedTo (end_after end (turned k.ended)) t y) (same_Some g.0 x e) (led_to c g t s.1 s.2);
+        led = subst (λ (y : Line). LedTo (end_after end (turned k.ended)) t y) (same_Some g.0 x e) (led_to c g t s.1 s.2 s.3);
       }
 
   -- so its machine is that of the line
   over_by : (t : TurnedLeg) (ts : List TurnedLeg) (c : Connection) (g : WasGivenUp k.behind behind.seen k.mid (Some c)) (s : State) → g.0.machine ≡ s
-      → ts ≡ t ∷ [] → t.moment ≡ c.leg.moment → t.turns ≡ c.leg.turns → Left (EndsIn s) end (turned k.ended ++ ts)
-  over_by t ts c g s is are moment same = record {
+      → ts ≡ t ∷ [] → t.per_turn ≡ c.leg.per_turn → t.moment ≡ c.leg.moment → t.turns ≡ c.leg.turns → Left (EndsIn s) end (turned k.ended ++ ts)
+  over_by t ts c g s is are number moment same = record {
     front = turned k.ended;
     last = t;
     are = ap (λ (us : List TurnedLeg). turned k.ended ++ us) are;
-    led = inl (g.0, led_to c g t moment same, is);
+    led = inl (g.0, led_to c g t number moment same, is);
   }
 
   -- and where none was given up it is the one behind those that ended
@@ -195,7 +196,7 @@ module _ {J : Type 0} {G : Ghosts J} {tells : Type 0} (at behind : LifeAt J G) (
   over_given : (o : Option Connection) (g : WasGivenUp k.behind behind.seen k.mid o) (s : State) → machine_left k.ended k.mid (line_given k.behind behind.seen k.mid o g) ≡ Some s
       → Left (EndsIn s) end (turned k.ended ++ turned (option_to_list o))
   over_given None g s e = over_ended k.ended s refl e
-  over_given (Some c) g s e = over_by c.leg (c.leg ∷ []) c g s (same_Some g.0.machine s e) refl refl refl
+  over_given (Some c) g s e = over_by c.leg (c.leg ∷ []) c g s (same_Some g.0.machine s e) refl refl refl refl
 
   -- where none of the refused records was kept
   plain : (waiting : List InboxRecord) → waiting ≡ inbox ++ adds_of (all_of k.ended k.given_up) → Legs end k.ended k.given_up line (machine_left k.ended k.mid line) waiting
@@ -213,7 +214,7 @@ module _ {J : Type 0} {G : Ghosts J} {tells : Type 0} (at behind : LifeAt J G) (
     where
       by_given : (o : Option Connection) (g : WasGivenUp k.behind behind.seen k.mid o) (x : Line) → line_given k.behind behind.seen k.mid o g ≡ Some x → Left (λ f u. LedTo f u x) end (turned k.ended ++ turned (option_to_list o))
       by_given None g x e = absurd (cc e)
-      by_given (Some c) g x e = left_by c.leg (c.leg ∷ []) (Some c) g x e (λ d is. let same : c ≡ d = same_Some c d is in (refl, ap (λ (y : Connection). y.leg.moment) same, ap (λ (y : Connection). y.leg.turns) same))
+      by_given (Some c) g x e = left_by c.leg (c.leg ∷ []) (Some c) g x e (λ d is. let same : c ≡ d = same_Some c d is in (refl, ap (λ (y : Connection). y.leg.per_turn) same, ap (λ (y : Connection). y.leg.moment) same, ap (λ (y : Connection). y.leg.turns) same))
 
   -- where those of the connection that was given up were kept
   with_last : (c : Connection) (given_is : k.given_up ≡ Some c) (g : WasGivenUp k.behind behind.seen k.mid (Some c)) (faithful : IsFaithfulLeg c.leg) (kept rest waiting : List InboxRecord)
@@ -229,7 +230,7 @@ module _ {J : Type 0} {G : Ghosts J} {tells : Type 0} (at behind : LifeAt J G) (
             ∙ (x.inbox ∙ (ap (λ (rs : List InboxRecord). rs ++ kept) before ∙ sym is));
         close = all_close end at.seen served.behind served.mid k.ended (x.leg ∷ []) served.on;
         left = λ y e. left_by x.leg (x.leg ∷ []) k.given_up k.gave_up y e
-            (λ d is. let same : c ≡ d = same_Some c d (sym given_is ∙ is) in (refl, x.moment ∙ ap (λ (z : Connection). z.leg.moment) same, x.turns ∙ ap (λ (z : Connection). z.leg.turns) same));
+            (λ d is. let same : c ≡ d = same_Some c d (sym given_is ∙ is) in (refl, x.number ∙ ap (λ (z : Connection). z.leg.per_turn) same, x.moment ∙ ap (λ (z : Connection). z.leg.moment) same, x.turns ∙ ap (λ (z : Connection). z.leg.turns) same));
         over = λ s e. by_over k.given_up k.gave_up given_is s e;
       }
     where
@@ -267,7 +268,7 @@ module _ {J : Type 0} {G : Ghosts J} {tells : Type 0} (at behind : LifeAt J G) (
       by_over None g is s e = absurd (cc is)
       by_over (Some d) g is s e =
           let same : c ≡ d = same_Some c d (sym is) in
-          over_by x.leg (x.leg ∷ []) d g s (same_Some g.0.machine s e) refl (x.moment ∙ ap (λ (z : Connection). z.leg.moment) same) (x.turns ∙ ap (λ (z : Connection). z.leg.turns) same)
+          over_by x.leg (x.leg ∷ []) d g s (same_Some g.0.machine s e) refl (x.number ∙ ap (λ (z : Connection). z.leg.per_turn) same) (x.moment ∙ ap (λ (z : Connection). z.leg.moment) same) (x.turns ∙ ap (λ (z : Connection). z.leg.turns) same)
 
   -- whatever a stop may leave of its inbox
   pub legs : (waiting : List InboxRecord) → IsImage (inbox ++ adds_of (all_of k.ended k.given_up)) (refused_of_all (option_to_list k.given_up)) waiting → Legs end k.ended k.given_up line (machine_left k.ended k.mid line) waiting

@@ -85,7 +85,7 @@ awaits_whole flow h i config mid behind t writer m enough path found peer has nu
 
 -- the line on which the whole turns of a side end, by what is known of it
 line_led : (e : End) (t : TurnedLeg) (m : MakesTurns (side_of e t)) (x : Line) → LedTo e t x → x ≡ m.turns.last
-line_led e t m x l = turns_same l.before l.after m.turns.before m.turns.after (first_line e.state t.moment) x m.turns.last t.turns l.turns m.turns.turns
+line_led e t m x l = turns_same l.before l.after m.turns.before m.turns.after (first_line t.per_turn e.state t.moment) x m.turns.last t.turns l.turns m.turns.turns
 
 machine_led : (e : End) (t : TurnedLeg) (m : MakesTurns (side_of e t)) (s : State) → e.state.facts.recorded.sent ≤ length e.outbox.made → t.cut ≡ None → EndsIn s e t → m.turns.last.machine ≡ s
 machine_led e t m s enough whole (inl l) = ap (λ (z : Line). z.machine) (sym (line_led e t m l.0 l.1)) ∙ l.2

@@ -429,16 +429,16 @@ abbrev pub start_i : State
 start_i = fresh (end_of Initiator configured.link) (found_state with_one) (2 ^ 26)
 
 abbrev ticked_i : Line
-ticked_i = line_ticked (first_line start_i 0) 0
+ticked_i = line_ticked (first_line 16 start_i 0) 0
 
 abbrev last_i : Line
 last_i = line_sent ticked_i of_initiator.taken true
 
 abbrev pub leg_i : TurnedLeg
-leg_i = record { moment = 0; turns = only_sends 0 of_initiator.taken true ∷ []; cut = None }
+leg_i = record { per_turn = 16; moment = 0; turns = only_sends 0 of_initiator.taken true ∷ []; cut = None }
 
 abbrev first_i : TurnAt
-first_i = at_carried carried_nothing with_one (first_line start_i 0)
+first_i = at_carried carried_nothing with_one (first_line 16 start_i 0)
 
 abbrev end_i : TurnAt
 end_i = at_carried of_initiator with_one last_i
@@ -461,7 +461,7 @@ sent_i = record {
 
 is_i : IsConnection with_one with_one start_i last_i connection_i
 is_i = record {
-  began = record { seen_is = refl; line = refl; time = refl };
+  began = record { seen_is = refl; line = refl; number = (omega arith, omega arith); time = refl };
   behind = end_i;
   line = refl;
   told = [];
@@ -489,7 +489,7 @@ abbrev pub start_a : State
 start_a = fresh (end_of Acceptor configured.link) (found_state nothing) (2 ^ 26)
 
 abbrev begun_a : Line
-begun_a = first_line start_a 0
+begun_a = first_line 16 start_a 0
 
 abbrev heard : Work
 heard = record {
@@ -522,6 +522,7 @@ served_a = record {
   over = (lines_after 0 received_a []).over;
   serves = (lines_after 0 received_a []).serves;
   waits = (lines_after 0 received_a []).waits;
+  per_turn = (lines_after 0 received_a []).per_turn;
 }
 
 abbrev mid_a : Line
@@ -551,6 +552,7 @@ works_a = record {
     over = refl;
     serves = refl;
     waits = refl;
+    per_turn = refl;
   };
   sends = record { front = (served_a.machine.unsent, refl); line = refl };
 }
@@ -562,7 +564,7 @@ abbrev last_a : Line
 last_a = record ticked_a { machine = run ticked_a.machine (link_end ∷ []) }
 
 abbrev pub leg_a : TurnedLeg
-leg_a = record { moment = 0; turns = works heard ∷ link_lost 0 ∷ []; cut = None }
+leg_a = record { per_turn = 16; moment = 0; turns = works heard ∷ link_lost 0 ∷ []; cut = None }
 
 abbrev first_a : TurnAt
 first_a = at_carried carried_nothing nothing begun_a
@@ -605,7 +607,7 @@ lost_a = record {
 
 is_a : IsConnection nothing nothing start_a last_a connection_a
 is_a = record {
-  began = record { seen_is = refl; line = refl; time = refl };
+  began = record { seen_is = refl; line = refl; number = (omega arith, omega arith); time = refl };
   behind = end_a;
   line = refl;
   told = [];

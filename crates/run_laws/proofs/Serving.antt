@@ -35,16 +35,16 @@ use Rattle.honest_turns.proofs.Resting.{enough_behind}
 use Rattle.honest_turns.proofs.Living.{ready_behind, life_holds}
 
 -- the whole turns of a connection
-pub turns_of : (before after : History) (m : State) (last : Line) (c : Connection) → (k : IsConnection before after m last c) → AreTurns before k.behind.seen (first_line m c.leg.moment) last c.leg.turns
+pub turns_of : (before after : History) (m : State) (last : Line) (c : Connection) → (k : IsConnection before after m last c) → AreTurns before k.behind.seen (first_line c.leg.per_turn m c.leg.moment) last c.leg.turns
 turns_of before after m last c k =
-    subst (λ (h : History). AreTurns h k.behind.seen (first_line m c.leg.moment) last c.leg.turns) k.began.seen_is
+    subst (λ (h : History). AreTurns h k.behind.seen (first_line c.leg.per_turn m c.leg.moment) last c.leg.turns) k.began.seen_is
     (subst (λ (l : Line). AreTurns c.link.first.seen k.behind.seen l last c.leg.turns) k.began.line
     (subst (λ (l : Line). AreTurns c.link.first.seen k.behind.seen c.link.first.line l c.leg.turns) k.line (were_are_turns c.link.eager c.link.first k.behind c.leg.turns k.told k.added k.turns)))
 
 -- what was seen of the outbox grows over it
 seen_over : (before after : History) (m : State) (last : Line) (c : Connection) → IsConnection before after m last c → BeginsHistory before after
 seen_over before after m last c k =
-    begins_on before k.behind.seen after (all_seen before k.behind.seen (first_line m c.leg.moment) last c.leg.turns (turns_of before after m last c k)) k.grows
+    begins_on before k.behind.seen after (all_seen before k.behind.seen (first_line c.leg.per_turn m c.leg.moment) last c.leg.turns (turns_of before after m last c k)) k.grows
 
 pub seen_all : (before after : History) (m new : State) (cs : List Connection) → AllEnded before after m new cs → BeginsHistory before after
 seen_all before after m new [] k = subst (λ (h : History). BeginsHistory before h) (sym k.1) (begins_self before)

@@ -43,7 +43,7 @@ pub record FailsOn (h : List Entry) (s : State) (inbox : List InboxRecord) (leg 
   pub is : IsRefusedOn h s inbox (failed_leg leg t calls tried)
 
 pub fails_on : (h : List Entry) (s : State) (inbox : List InboxRecord) (leg : TurnedLeg) (before after : History) (l : Line) (now : ℕ) (received : List ℕ) (frames : List TakenFrame) (refusal : Option Refusal)
-    (tried : List InboxRecord) → AreTurns before after (first_line s leg.moment) l leg.turns → Has h after → AllByRecursion IsFaithful leg.turns
+    (tried : List InboxRecord) → AreTurns before after (first_line leg.per_turn s leg.moment) l leg.turns → Has h after → AllByRecursion IsFaithful leg.turns
     → StandsAt h (course_after (beginning s inbox leg.moment) (flat_map calls_of leg.turns)) l → (k : IsCutShort now received frames refusal l) → IsTried now (line_received l now received k.got) frames refusal tried
     → FailsOn h s inbox leg (cut_short now received frames refusal) tried
 fails_on h s inbox leg before after l now received frames refusal tried made has faithful stands k i = record {

@@ -207,7 +207,7 @@ all_read h s t k =
     let is : List Incoming = came (flat_map calls_of t.turns) in
     let cut : List Turn = option_to_list t.cut in
     let start : Reads [] [] [] = record { frames = []; joins = refl; each = tt; are = tt } in
-    let x = last_reads k.last t.cut given is (turns_read k.before k.after (first_line s t.moment) k.last t.turns [] [] start k.turns) k.cut in (
+    let x = last_reads k.last t.cut given is (turns_read k.before k.after (first_line t.per_turn s t.moment) k.last t.turns [] [] start k.turns) k.cut in (
       x.0,
       subst (λ (bs : List ℕ). Reads bs (came (calls_on t)) x.0) (sym (flat_map-append given_in t.turns cut))
           (subst (λ (js : List Incoming). Reads (given ++ flat_map given_in cut) js x.0)

@@ -11,3 +11,4 @@ pub mod Tailing
 pub mod Within
 pub mod Given
 pub mod Failing
+pub mod Numbers

@@ -98,28 +98,28 @@ steady_sent : (h : List Entry) (c : Course) (m : State) → Steady h c m → m.f
 steady_sent h c m s = subst (λ (x : State). x.facts.recorded.sent ≤ length h) s.is s.stands.own.enough
 
 -- a range that is served is sent again
-pub again_goes : (h : List Entry) (c : Course) (m : State) (now : ℕ) (seen : History) → Steady h c m → IsPrefix seen.made h → Goes h c m (again_calls now (served_of (served_now m) seen))
-again_goes h c m now seen s p = by_case m.ending m.facts.connection.serving refl refl
+pub again_goes : (h : List Entry) (c : Course) (m : State) (most now : ℕ) (seen : History) → Steady h c m → IsPrefix seen.made h → Goes h c m (again_calls now (served_of most (served_now m) seen))
+again_goes h c m most now seen s p = by_case m.ending m.facts.connection.serving refl refl
   where
-    by_range : (o : Option Range) → m.ending ≡ None → m.facts.connection.serving ≡ o → Goes h c m (again_calls now (served_of o seen))
+    by_range : (o : Option Range) → m.ending ≡ None → m.facts.connection.serving ≡ o → Goes h c m (again_calls now (served_of most o seen))
     by_range None goes k = nothing h c m s
     by_range (Some r) goes k =
-        let sent : List (List ℕ) = payloads_from seen r.from (min 16 r.count) in
+        let sent : List (List ℕ) = payloads_from seen r.from (min most r.count) in
         one h c m (again sent now) s (record {
           may_call = s.done;
           comes = record {
             is_open = is_open h c m s goes;
             range = r;
             serves = k;
-            within = omega (arith, count_from seen r.from (min 16 r.count), at_most (min 16 r.count) (length seen.made - (r.from - 1)));
-            entries = entries_from h seen r.from (min 16 r.count) (steady_from h c m r s k) p;
+            within = omega (arith, count_from seen r.from (min most r.count), at_most (min most r.count) (length seen.made - (r.from - 1)));
+            entries = entries_from h seen r.from (min most r.count) (steady_from h c m r s k) p;
           };
         }) (still sent)
       where
         still : (sent : List (List ℕ)) → (step m (again sent now)).pending ≡ None
         still sent = ap (λ (o : Option Range). (served_again m o sent now).pending) k ∙ s.done
 
-    by_case : (e : Option Ending) (o : Option Range) → m.ending ≡ e → m.facts.connection.serving ≡ o → Goes h c m (again_calls now (served_of (if is_some e then None else o) seen))
+    by_case : (e : Option Ending) (o : Option Range) → m.ending ≡ e → m.facts.connection.serving ≡ o → Goes h c m (again_calls now (served_of most (if is_some e then None else o) seen))
     by_case (Some x) o e k = nothing h c m s
     by_case None o e k = by_range o e k
 
@@ -141,24 +141,24 @@ lives m = by_case m.ending (is_established m.facts.connection.phase) m.facts.con
     by_case None true None true p q u v t = absurd (true≢false (sym t))
     by_case None true None false p q u v t = record { goes = p; established = q; free = u; present = v }
 
-below : (sent n made all : ℕ) → n ≡ min 16 (made - ((sent + 1) - 1)) → made ≤ all → sent ≤ all → all < 1099511627776 → sent + n < 1099511627776
-below sent n made all is low enough few = omega (arith, is, low, enough, few)
+below : (most sent n made all : ℕ) → n ≡ min most (made - ((sent + 1) - 1)) → made ≤ all → sent ≤ all → all < 1099511627776 → sent + n < 1099511627776
+below most sent n made all is low enough few = omega (arith, is, low, enough, few)
 
-pub live_goes : (h : List Entry) (c : Course) (m : State) (now : ℕ) (seen : History) → Steady h c m → IsPrefix seen.made h → length h < 1099511627776 → Goes h c m (live_calls now (live_of m seen))
-live_goes h c m now seen s p few = by_test (sends_live m) refl
+pub live_goes : (h : List Entry) (c : Course) (m : State) (most now : ℕ) (seen : History) → Steady h c m → IsPrefix seen.made h → length h < 1099511627776 → Goes h c m (live_calls now (live_of most m seen))
+live_goes h c m most now seen s p few = by_test (sends_live m) refl
   where
-    by_test : (b : Bool) → sends_live m ≡ b → Goes h c m (live_calls now (if b then Some (payloads_from seen (m.facts.recorded.sent + 1) 16) else None))
+    by_test : (b : Bool) → sends_live m ≡ b → Goes h c m (live_calls now (if b then Some (payloads_from seen (m.facts.recorded.sent + 1) most) else None))
     by_test false e = nothing h c m s
     by_test true e =
         let sent : ℕ = m.facts.recorded.sent in
         let l : Lives m = lives m e in
-        one h c m (live (payloads_from seen (sent + 1) 16) now) s (record {
-          may_call = (s.done, below sent (length (payloads_from seen (sent + 1) 16)) (length seen.made) (length h) (count_from seen (sent + 1) 16) (prefix_length seen.made h p) (steady_sent h c m s) few);
+        one h c m (live (payloads_from seen (sent + 1) most) now) s (record {
+          may_call = (s.done, below most sent (length (payloads_from seen (sent + 1) most)) (length seen.made) (length h) (count_from seen (sent + 1) most) (prefix_length seen.made h p) (steady_sent h c m s) few);
           comes = record {
             is_open = is_open h c m s l.goes;
             established = l.established;
             flow = l.present;
             free = l.free;
-            entries = entries_from h seen (sent + 1) 16 (omega arith) p;
+            entries = entries_from h seen (sent + 1) most (omega arith) p;
           };
         }) s.done

@@ -75,15 +75,15 @@ pub cut_stands : (h : List Entry) (c : Course) (l : Line) (cut : Option Turn) �
 cut_stands h c l None s k = tt
 cut_stands h c l (Some t) s k = subst (λ (cs : List Call). AllMayStand h c cs) (sym (append-nil (calls_of t))) (cut_may_stand h l t c s k)
 
-pub begin_stands : (h : List Entry) (s : State) (inbox : List InboxRecord) (now : ℕ) → s.facts.recorded.inbox_next ≡ next_number inbox → s.facts.recorded.sent ≤ length h
-    → StandsAt h (beginning s inbox now) (first_line s now)
-begin_stands h s inbox now awaits enough = record { stands = connection_begins h s inbox now awaits enough; machine = refl; done = refl; drained = refl }
+pub begin_stands : (h : List Entry) (per_turn : ℕ) (s : State) (inbox : List InboxRecord) (now : ℕ) → s.facts.recorded.inbox_next ≡ next_number inbox → s.facts.recorded.sent ≤ length h
+    → StandsAt h (beginning s inbox now) (first_line per_turn s now)
+begin_stands h per_turn s inbox now awaits enough = record { stands = connection_begins h s inbox now awaits enough; machine = refl; done = refl; drained = refl }
 
 pub leg_stands : (h : List Entry) (s : State) (inbox : List InboxRecord) (t : TurnedLeg) → s.facts.recorded.inbox_next ≡ next_number inbox → s.facts.recorded.sent ≤ length h → AreTurnsOf h s t
     → AllMayStand h (beginning s inbox t.moment) (calls_on t)
 leg_stands h s inbox t awaits enough k =
     let c : Course = beginning s inbox t.moment in
-    let x = turns_stand h k.before k.after (first_line s t.moment) k.last t.turns c (begin_stands h s inbox t.moment awaits enough) k.has k.turns k.faithful in
+    let x = turns_stand h k.before k.after (first_line t.per_turn s t.moment) k.last t.turns c (begin_stands h t.per_turn s inbox t.moment awaits enough) k.has k.turns k.faithful in
     subst (λ (cs : List Call). AllMayStand h c cs) (sym (flat_map-append calls_of t.turns (option_to_list t.cut)))
     (may_append h c (flat_map calls_of t.turns) (flat_map calls_of (option_to_list t.cut)) x.may
     (cut_stands h (course_after c (flat_map calls_of t.turns)) k.last t.cut x.after k.cut))

@@ -227,11 +227,11 @@ whole_size count (p ∷ later) = by_test (nat_lt count (length (bytes_of_piece p
 pub sent_are_written : SentAreWritten
 sent_are_written h s inbox t awaits enough k =
     let c : Course = beginning s inbox t.moment in
-    let start : StandsAt h c (first_line s t.moment) = begin_stands h s inbox t.moment awaits enough in
+    let start : StandsAt h c (first_line t.per_turn s t.moment) = begin_stands h t.per_turn s inbox t.moment awaits enough in
     let turns : List Call = flat_map calls_of t.turns in
     let cut : List Call = flat_map calls_of (option_to_list t.cut) in
-    let x : Took (course_after c turns) (flat_map sent_in t.turns) = turns_took h k.before k.after (first_line s t.moment) k.last t.turns c start k.has k.turns k.faithful in
-    let y = turns_stand h k.before k.after (first_line s t.moment) k.last t.turns c start k.has k.turns k.faithful in
+    let x : Took (course_after c turns) (flat_map sent_in t.turns) = turns_took h k.before k.after (first_line t.per_turn s t.moment) k.last t.turns c start k.has k.turns k.faithful in
+    let y = turns_stand h k.before k.after (first_line t.per_turn s t.moment) k.last t.turns c start k.has k.turns k.faithful in
     let more = calls_go_on h (course_after c turns) cut (cut_stands h (course_after c turns) k.last t.cut y.after k.cut) in
     let joined : course_on s inbox t ≡ course_after (course_after c turns) cut = ap (λ (cs : List Call). course_after c cs) (flat_map-append calls_of t.turns (option_to_list t.cut)) ∙ after_append c turns cut in
     let sent : sent_on t ≡ flat_map sent_in t.turns = flat_map-append sent_in t.turns (option_to_list t.cut) ∙ (ap (λ (bs : List ℕ). flat_map sent_in t.turns ++ bs) (cut_sends k.last t.cut k.cut) ∙ append-nil (flat_map sent_in t.turns)) in

@@ -33,17 +33,17 @@ broken_open count l broken is = subst (λ (o : Option ℕ). IfSome o (λ (_ : �
 
     by_test : (b : Bool) → is_unframed count l ≡ b → IfSome (if b then Some l.place else None) (λ (_ : ℕ). l.machine.ending ≡ None)
     by_test false e = tt
-    by_test true e = by_ending l.machine.ending (nat_lt count 16) (is_bad (first_of l.held)) refl e
+    by_test true e = by_ending l.machine.ending (nat_lt count l.per_turn) (is_bad (first_of l.held)) refl e
 
 finish_go : (h : List Entry) (c : Course) (m : State) (now : ℕ) (finish : Option ℕ) → Steady h c m → IsDrained m → Goes h c m (finish_calls now finish)
 finish_go h c m now None s drained = nothing h c m s
 finish_go h c m now (Some last) s drained = finish_goes h c m last now s drained
 
 -- entries go live where none was sent again
-beside_goes : (h : List Entry) (c : Course) (m : State) (now : ℕ) (seen : History) (again : Option (List (List ℕ))) → Steady h c m → IsPrefix seen.made h → length h < 1099511627776
-    → Goes h c m (live_calls now (live_beside again (live_of m seen)))
-beside_goes h c m now seen None s begins few = live_goes h c m now seen s begins few
-beside_goes h c m now seen (Some again) s begins few = nothing h c m s
+beside_goes : (h : List Entry) (c : Course) (m : State) (most now : ℕ) (seen : History) (again : Option (List (List ℕ))) → Steady h c m → IsPrefix seen.made h → length h < 1099511627776
+    → Goes h c m (live_calls now (live_beside again (live_of most m seen)))
+beside_goes h c m most now seen None s begins few = live_goes h c m most now seen s begins few
+beside_goes h c m most now seen (Some again) s begins few = nothing h c m s
 
 -- the outbox is served
 outbox_goes : (h : List Entry) (c : Course) (before after : History) (l behind : Line) (w : Work) → Steady h c (closed_at l w) → IsDrained (closed_at l w) → Has h after → Served before after l behind w → IsFaithful (works w) → Goes h c (closed_at l w) (outbox_calls w)
@@ -55,12 +55,12 @@ outbox_goes h c before after l behind w s drained has v faithful =
     let last : IsPrefix w.at_finish.made h = subst (λ (x : History). IsPrefix x.made h) (sym v.seen) has.begins in
     let mid : IsPrefix w.at_live.made h = prefix_trans w.at_live.made w.at_finish.made h v.seen_finish.made last in
     let first : IsPrefix w.at_again.made h = prefix_trans w.at_again.made w.at_live.made h v.seen_live.made mid in
-    let x : Goes h c k agains = due_unless l (served_of (served_now k) w.at_again) w.again (λ (o : Option (List (List ℕ))). Goes h c k (again_calls w.now o)) (faithful.0 ∙ v.due_again) (nothing h c k s)
-    (again_goes h c k w.now w.at_again s first) in
+    let x : Goes h c k agains = due_unless l (served_of l.per_turn (served_now k) w.at_again) w.again (λ (o : Option (List (List ℕ))). Goes h c k (again_calls w.now o)) (faithful.0 ∙ v.due_again) (nothing h c k s)
+    (again_goes h c k l.per_turn w.now w.at_again s first) in
     let d : Course = course_after c agains in
     let m : State = run k agains in
-    let y : Goes h d m lives = due_unless l (live_beside w.again (live_of m w.at_live)) w.live (λ (o : Option (List (List ℕ))). Goes h d m (live_calls w.now o)) (faithful.1 ∙ v.due_live) (nothing h d m x.after)
-    (beside_goes h d m w.now w.at_live w.again x.after mid has.few) in
+    let y : Goes h d m lives = due_unless l (live_beside w.again (live_of l.per_turn m w.at_live)) w.live (λ (o : Option (List (List ℕ))). Goes h d m (live_calls w.now o)) (faithful.1 ∙ v.due_live) (nothing h d m x.after)
+    (beside_goes h d m l.per_turn w.now w.at_live w.again x.after mid has.few) in
     and_then h c k agains (lives ++ ends) x (and_then h d m lives ends y (finish_go h (course_after d lives) (run m lives) w.now w.finish y.after
     (live_calls_drained m w.now w.live (again_calls_drained k w.now w.again drained))))
 

@@ -26,15 +26,17 @@ AreTurns before after old new (t ∷ later) =
     (old.machine.ending ≡ None) × (mid : Line) × (between : History) × IsTurn before between old mid t
     × (found : History) × BeginsHistory between found × AreTurns found after mid new later
 
--- a connection of a life: the moment of its beginning, its whole turns, and the one behind them that was cut short, if one was
+-- a connection of a life: how many frames a turn of it takes at most, the moment of its beginning, its whole turns, and the one behind them
+-- that was cut short, if one was
 pub record TurnedLeg : Type 0 where
+  pub per_turn : ℕ
   pub moment : ℕ
   pub turns : List Turn
   pub cut : Option Turn
 
 -- the same with this turn behind its whole ones, in which it was cut short
 abbrev pub cut_leg : TurnedLeg → Turn → TurnedLeg
-cut_leg t turn = record { moment = t.moment; turns = t.turns; cut = Some turn }
+cut_leg t turn = record { per_turn = t.per_turn; moment = t.moment; turns = t.turns; cut = Some turn }
 
 abbrev pub all_turns : TurnedLeg → List Turn
 all_turns t = t.turns ++ option_to_list t.cut
@@ -42,16 +44,16 @@ all_turns t = t.turns ++ option_to_list t.cut
 abbrev pub calls_on : TurnedLeg → List Call
 calls_on t = flat_map calls_of (all_turns t)
 
--- the line of a connection that begins in this state
-abbrev pub first_line : State → ℕ → Line
-first_line s now = record { machine = connected s now; held = []; place = 0; over = false; serves = false; waits = false }
+-- the line of a connection that begins in this state, a turn of which takes so many frames at most
+abbrev pub first_line : (per_turn : ℕ) → State → ℕ → Line
+first_line per_turn s now = record { machine = connected s now; held = []; place = 0; over = false; serves = false; waits = false; per_turn = per_turn }
 
 -- such a connection is made of these turns, over an outbox that begins with all that was seen, of which each turn sent what it had seen
 pub record AreTurnsOf (h : List Entry) (s : State) (t : TurnedLeg) : Type 0 where
   pub before : History
   pub after : History
   pub last : Line
-  pub turns : AreTurns before after (first_line s t.moment) last t.turns
+  pub turns : AreTurns before after (first_line t.per_turn s t.moment) last t.turns
   pub cut : IfSome t.cut (IsCut last)
   pub has : Has h after
   pub faithful : AllByRecursion IsFaithful t.turns

@@ -48,7 +48,7 @@ module _ {J : Type 0} {G : Ghosts J} where
     pub received : List ℕ
     pub frames : List TakenFrame
     pub refusal : Option Refusal
-    pub few : length frames ≤ 16
+    pub few : length frames ≤ old.line.per_turn
     pub made : MadeCut eager (turn_at old before) (turn_at new after) now received frames refusal
     pub timely : IsTimelyTurn (cut_short now received frames refusal)
     pub tried : List InboxRecord

@@ -115,7 +115,7 @@ during_stands h b past leg e awaits has d =
     let s : State = machine_behind b past in
     let i : List InboxRecord = list_behind b past in
     let r = life_behind h b past awaits d.behind in
-    turns_stand h d.before e.seen (first_line s leg.moment) e.line leg.turns (beginning s i leg.moment) (begin_stands h s i leg.moment r.awaits r.enough) has d.made d.faithful
+    turns_stand h d.before e.seen (first_line leg.per_turn s leg.moment) e.line leg.turns (beginning s i leg.moment) (begin_stands h leg.per_turn s i leg.moment r.awaits r.enough) has d.made d.faithful
 
 -- one more connection was made
 made_more : (h : List Entry) (b : Beginning) (past : List TurnedLeg) (leg : TurnedLeg) → WereMade h b past → AreTurnsOf h (machine_behind b past) leg → IsTimely leg → WereMade h b (past ++ leg ∷ [])
@@ -133,7 +133,7 @@ leg_begins b legs e now k time h has =
     record {
       behind = r.made;
       before = e.seen;
-      made = (ap (λ (x : State). record { machine = x; held = []; place = 0; over = false; serves = false; waits = false }) (r.next now), refl);
+      made = (ap (λ (x : State). record { machine = x; held = []; place = 0; over = false; serves = false; waits = false; per_turn = e.line.per_turn }) (r.next now), refl);
       faithful = tt;
       uncut = refl;
       in_time = record { begins = time; turns = tt };
@@ -154,7 +154,7 @@ turn_goes_on b past leg e e' t awaits k unended grows is faithful timely adds h 
     record {
       behind = d.behind;
       before = d.before;
-      made = turns_append d.before e.seen e'.seen (first_line s leg.moment) e.line e'.line leg.turns t d.made unended is;
+      made = turns_append d.before e.seen e'.seen (first_line leg.per_turn s leg.moment) e.line e'.line leg.turns t d.made unended is;
       faithful = all_append IsFaithful leg.turns (t ∷ []) d.faithful (faithful, tt);
       uncut = d.uncut;
       in_time = record {

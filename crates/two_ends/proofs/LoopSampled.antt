@@ -40,6 +40,7 @@ served_in old w = record {
   over = (lines_after w.now (received_in old w) w.frames).over;
   serves = (lines_after w.now (received_in old w) w.frames).serves;
   waits = (lines_after w.now (received_in old w) w.frames).waits;
+  per_turn = (lines_after w.now (received_in old w) w.frames).per_turn;
 }
 
 abbrev sent_in : Line → Work → Line
@@ -64,7 +65,7 @@ same = record { made = prefix_self []; alone = λ _. refl }
 
 -- the turns of each end
 abbrev first_a : Line
-first_a = first_line (begins sample_config) 0
+first_a = first_line 16 (begins sample_config) 0
 
 abbrev mid_a : Line
 mid_a = line_sent (line_ticked first_a 0) (frame_bytes opening) false
@@ -100,6 +101,7 @@ works_a = record {
     over = refl;
     serves = refl;
     waits = refl;
+    per_turn = refl;
   };
   sends = record { front = ((served_in mid_a work_a).machine.unsent, refl); line = refl };
 }
@@ -116,7 +118,7 @@ of_a = record {
 }
 
 abbrev first_b : Line
-first_b = first_line (begins acceptor) 0
+first_b = first_line 16 (begins acceptor) 0
 
 abbrev work_b : Work
 work_b = hears opening (frame_bytes answer)
@@ -146,6 +148,7 @@ works_b = record {
     over = refl;
     serves = refl;
     waits = refl;
+    per_turn = refl;
   };
   sends = record { front = ([], refl); line = refl };
 }

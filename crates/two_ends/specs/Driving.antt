@@ -40,12 +40,12 @@ pub record WereMade (h : List Entry) (b : Beginning) (legs : List TurnedLeg) : T
   pub turns : AllAreTurns h b.machine b.inbox legs
   pub timely : AllByRecursion IsTimely legs
 
--- a connection that begins at this moment, and one with one more turn
-abbrev pub begun_leg : ℕ → TurnedLeg
-begun_leg now = record { moment = now; turns = []; cut = None }
+-- a connection that begins at this moment, whose turns take so many frames at most, and one with one more turn
+abbrev pub begun_leg : (per_turn : ℕ) → ℕ → TurnedLeg
+begun_leg per_turn now = record { per_turn = per_turn; moment = now; turns = []; cut = None }
 
 abbrev pub with_turn : TurnedLeg → Turn → TurnedLeg
-with_turn t turn = record { moment = t.moment; turns = t.turns ++ turn ∷ []; cut = t.cut }
+with_turn t turn = record { per_turn = t.per_turn; moment = t.moment; turns = t.turns ++ turn ∷ []; cut = t.cut }
 
 -- Connections of a life, one behind another, over an outbox with these entries: they are turns, and all over. A connection that begins now begins
 -- as behind them, and the inbox holds what they add
@@ -58,7 +58,7 @@ pub record IsBetween (h : List Entry) (b : Beginning) (legs : List TurnedLeg) (e
 pub record IsDuring (h : List Entry) (b : Beginning) (past : List TurnedLeg) (leg : TurnedLeg) (e : EndNow) : Type 0 where
   pub behind : WereMade h b past
   pub before : History
-  pub made : AreTurns before e.seen (first_line (machine_behind b past) leg.moment) e.line leg.turns
+  pub made : AreTurns before e.seen (first_line leg.per_turn (machine_behind b past) leg.moment) e.line leg.turns
   pub faithful : AllByRecursion IsFaithful leg.turns
   pub uncut : leg.cut ≡ None
   pub in_time : IsTimely leg

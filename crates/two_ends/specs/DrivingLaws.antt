@@ -22,7 +22,7 @@ use Rattle.two_ends.specs.Stories.{IsOver, Story}
 -- a connection begins
 abbrev pub LegBegins : Type 0
 LegBegins = (b : Beginning) (legs : List TurnedLeg) (e : EndNow) (now : ℕ) → Between b legs e → IsInTime now
-    → During b legs (begun_leg now) (record e { line = first_line e.line.machine now })
+    → During b legs (begun_leg e.line.per_turn now) (record e { line = first_line e.line.per_turn e.line.machine now })
 
 -- it goes on by a turn that sent of the outbox what it had seen
 abbrev pub TurnGoesOn : Type 0

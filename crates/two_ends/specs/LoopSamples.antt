@@ -51,10 +51,10 @@ hears m sent = record {
 
 -- the initiator sends what it wrote as it began, and then hears the answer; the acceptor hears it, and sends its answer
 abbrev pub leg_a : TurnedLeg
-leg_a = record { moment = 0; turns = only_sends 0 (frame_bytes opening) false ∷ works (hears answer []) ∷ []; cut = None }
+leg_a = record { per_turn = 16; moment = 0; turns = only_sends 0 (frame_bytes opening) false ∷ works (hears answer []) ∷ []; cut = None }
 
 abbrev pub leg_b : TurnedLeg
-leg_b = record { moment = 0; turns = works (hears opening (frame_bytes answer)) ∷ []; cut = None }
+leg_b = record { per_turn = 16; moment = 0; turns = works (hears opening (frame_bytes answer)) ∷ []; cut = None }
 
 abbrev pub begins : EndConfig → State
 begins config = fresh config recorded 100

@@ -34,6 +34,21 @@ fn push_heard(line: &mut String, receiver: &mut Applied) -> Result<(), AllocErro
     write!(line, "applies {number}")
 }
 
+/// Adds how often a number was announced that jumps over one, each time with a message behind it.
+fn push_jumping(line: &mut String, receiver: &mut Applied, count: u64) -> Result<(), AllocError> {
+    for jumps in 0..count {
+        if receiver.room() == 0 || receiver.next() == u64::MAX {
+            return write!(line, "{jumps} jumps");
+        }
+        let next = receiver.next() + 1;
+        let _ = receiver.announce(next);
+        if receiver.next() < u64::MAX {
+            let _ = receiver.on_app();
+        }
+    }
+    write!(line, "{count} jumps")
+}
+
 /// Adds the runs that are to be told.
 fn push_told(line: &mut String, receiver: &Applied) -> Result<(), AllocError> {
     line.push_str("told")?;
@@ -71,6 +86,7 @@ fn push_plain(line: &mut String, receiver: &mut Applied, word: &str) -> Result<(
 fn push_event(line: &mut String, receiver: &mut Applied, word: &str) -> Result<(), AllocError> {
     match word.split_once("-") {
         Some(("announce", digits)) => push_announced(line, receiver, number(digits)),
+        Some(("jumping", digits)) => push_jumping(line, receiver, number(digits)),
         Some(("applied", digits)) => {
             let is_applied = receiver.is_applied(number(digits));
             write!(line, "{digits} {is_applied}")

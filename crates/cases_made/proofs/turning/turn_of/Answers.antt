@@ -15,7 +15,7 @@ pub returns-clause-stands : goal.returns-clause-stands
 returns-clause-stands g c =
     let e = c.turn.ensures in
     let behind = c.turn.new.self in
-    subst (λ s. Stands s (line_in behind) ((line_in c.args.end.now).place + 262240) (pass_in behind) behind.inbox.now) (sym c.behind.ensures)
-    (stands_behind c.turn.result (line_in behind) ((line_in c.args.end.now).place + 262240) (pass_in behind) behind.inbox.now
-    (on_ok_weaker c.turn.result (turn_place _ _ _ (in_turn _ _ c.args.end.now []) (in_turn _ _ behind _) c.turn.result) e.did)
+    subst (λ s. Stands s (line_in behind) ((line_in c.args.end.now).place + 4195840) (pass_in behind) behind.inbox.now) (sym c.behind.ensures)
+    (stands_behind c.turn.result (line_in behind) ((line_in c.args.end.now).place + 4195840) (pass_in behind) behind.inbox.now
+    (on_ok_weaker c.turn.result (λ did. turn_place _ _ _ (in_turn _ _ c.args.end.now []) (in_turn _ _ behind _) c.turn.result did c.args.end.now.conn.now.number.1) e.did)
     (λ goes. (e.goes goes).goes) e.leaves e.leaves_lost e.answer (λ lost. ap is_some (e.ended_lost lost)))

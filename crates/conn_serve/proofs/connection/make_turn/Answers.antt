@@ -27,8 +27,8 @@ returns-clause-few g c =
     let windowed = subst (λ (s : State). Windowed s.config s.most s.facts s.ending s.held) c.end.ensures c.windowed.ensures in
     let held = held_few m.config m.most m.facts m.ending m.held windowed c.requires.may.goes.drained in
     on_both _ _ _ c.close_of.result (returns-clause-whole g c) (returns-clause-cut g c)
-    (was_few _ _ _ (in_turn _ _ c.args.end.now []) (in_turn _ _ c.turn.new.self _) refl held)
-    (λ why. cut_is_few _ _ _ (in_turn _ _ c.args.end.now []) (in_turn _ _ c.turn.new.self _) why refl held)
+    (was_few _ _ _ (in_turn _ _ c.args.end.now []) (in_turn _ _ c.turn.new.self _) refl c.args.end.now.conn.now.number.1 held)
+    (λ why. cut_is_few _ _ _ (in_turn _ _ c.args.end.now []) (in_turn _ _ c.turn.new.self _) why refl c.args.end.now.conn.now.number.1 held)
 
 pub returns-clause-goes : goal.returns-clause-goes
 returns-clause-goes g c = λ e. goes_made _ c.turn.result c.turn.ensures.goes (sym c.close_of.ensures ∙ e)

@@ -42,7 +42,7 @@ pub turn_once-requires-clause-place : goal.turn_once-requires-clause-place
 turn_once-requires-clause-place g c =
     omega (
       arith,
-      turned_place _ _ (connection_in _ _ _ c.loop.end) _ c.loop.invariant.turned.0,
+      turned_place _ _ (connection_in _ _ _ c.loop.end) _ c.loop.invariant.turned.0 c.begin.new.self.conn.now.number.1,
       ap (λ (l : Line). l.place) c.begin.ensures.begun,
       c.loop-test.true,
     )

@@ -13,7 +13,7 @@ use Rattle.conn_serve.proofs.life.serve_next.Goals as goal
 pub returns-in-Err-answer-clause-round : goal.returns-in-Err-answer-clause-round
 returns-in-Err-answer-clause-round g c =
     round_given _ c.args.number (life_at _ _ _ c.args.inbox.now) (life_at _ _ _ c.lent_connection-answer.new.inbox) _ _ c.in-Err-answer.fault c.in-Err-answer.ensures.of_connection
-    (gave_one (λ adds. AnswersMore (IsOfTurn c.in-Err-answer.fault → ⊥) (business_at g.B.Business.stands g.B.Business.plan g.B.Business.count g.B.Business.part c.args.answering.now) (business_at g.B.Business.stands g.B.Business.plan g.B.Business.count g.B.Business.part c.lent_connection-answer.new.answering) c.args.inbox.now adds) g.N.Link.Link c.in-Ok-Some.link c.lent_connection-answer.new.link _ _ _ _ _ _ _ _ _ _ (line_of c.args.conn.now) (line_of c.lent_connection-answer.new.conn) c.args.inbox.now c.lent_connection-answer.new.inbox (subst (λ o. IsNext g.N.Link.Link.carried (g.N.Dialer.told c.args.dialer.now) (g.N.Dialer.told c.next_link.new.dialer) (Ok o)) c.in-Ok-Some.field-0-is c.in-Ok-Some.ensures.next)
+    (gave_one (λ adds. AnswersMore (IsOfTurn c.in-Err-answer.fault → ⊥) (business_at g.B.Business.stands g.B.Business.plan g.B.Business.count g.B.Business.part c.args.answering.now) (business_at g.B.Business.stands g.B.Business.plan g.B.Business.count g.B.Business.part c.lent_connection-answer.new.answering) c.args.inbox.now adds) g.N.Link.Link c.in-Ok-Some.link c.lent_connection-answer.new.link _ _ _ _ _ _ _ _ _ _ (line_of c.args.conn.now) (line_of c.lent_connection-answer.new.conn) c.args.inbox.now c.lent_connection-answer.new.inbox c.args.conn.now.number (subst (λ o. IsNext g.N.Link.Link.carried (g.N.Dialer.told c.args.dialer.now) (g.N.Dialer.told c.next_link.new.dialer) (Ok o)) c.in-Ok-Some.field-0-is c.in-Ok-Some.ensures.next)
     c.in-Err-answer.ensures.given_up c.back.ensures.told)
 
 pub returns-in-Ok-None-clause-round : goal.returns-in-Ok-None-clause-round
@@ -27,7 +27,7 @@ returns-in-Err-clause-round g c =
 pub returns-in_default-clause-round : goal.returns-in_default-clause-round
 returns-in_default-clause-round g c =
     inl
-    (gave_one (λ adds. AnswersMore ⊤ (business_at g.B.Business.stands g.B.Business.plan g.B.Business.count g.B.Business.part c.args.answering.now) (business_at g.B.Business.stands g.B.Business.plan g.B.Business.count g.B.Business.part c.lent_connection-answer.new.answering) c.args.inbox.now adds) g.N.Link.Link c.in-Ok-Some.link c.lent_connection-answer.new.link _ _ _ _ _ _ _ _ _ _ (line_of c.args.conn.now) (line_of c.lent_connection-answer.new.conn) c.args.inbox.now c.lent_connection-answer.new.inbox (subst (λ o. IsNext g.N.Link.Link.carried (g.N.Dialer.told c.args.dialer.now) (g.N.Dialer.told c.next_link.new.dialer) (Ok o)) c.in-Ok-Some.field-0-is c.in-Ok-Some.ensures.next)
+    (gave_one (λ adds. AnswersMore ⊤ (business_at g.B.Business.stands g.B.Business.plan g.B.Business.count g.B.Business.part c.args.answering.now) (business_at g.B.Business.stands g.B.Business.plan g.B.Business.count g.B.Business.part c.lent_connection-answer.new.answering) c.args.inbox.now adds) g.N.Link.Link c.in-Ok-Some.link c.lent_connection-answer.new.link _ _ _ _ _ _ _ _ _ _ (line_of c.args.conn.now) (line_of c.lent_connection-answer.new.conn) c.args.inbox.now c.lent_connection-answer.new.inbox c.args.conn.now.number (subst (λ o. IsNext g.N.Link.Link.carried (g.N.Dialer.told c.args.dialer.now) (g.N.Dialer.told c.next_link.new.dialer) (Ok o)) c.in-Ok-Some.field-0-is c.in-Ok-Some.ensures.next)
     (c.lent_connection-answer.ensures.stopped (c.in-Ok.is ∙ ap Ok c.in_default.is)) c.back.ensures.told)
 
 pub returns-in-Err-tell_close-clause-round : goal.returns-in-Err-tell_close-clause-round
@@ -35,7 +35,7 @@ returns-in-Err-tell_close-clause-round g c =
     let one = c.lent_connection-answer.ensures in
     let is = c.in-Ok.is ∙ ap Ok c.in-Some.is in
     round_lacking _ c.args.number (life_at _ _ _ c.args.inbox.now) (life_at _ _ _ c.lent_connection-answer.new.inbox) _ _ c.in-Some.close c.in-Err-tell_close.fault _ c.in-Err-tell_close.ensures.cause
-    (ended_one (λ adds. AnswersMore (IsOfTurn c.in-Err-tell_close.fault → ⊥) (business_at g.B.Business.stands g.B.Business.plan g.B.Business.count g.B.Business.part c.args.answering.now) (business_at g.B.Business.stands g.B.Business.plan g.B.Business.count g.B.Business.part c.lent_connection-answer.new.answering) c.args.inbox.now adds) g.N.Link.Link c.in-Ok-Some.link c.lent_connection-answer.new.link c.args.number _ _ _ _ _ _ _ _ _ _ _ (line_of c.args.conn.now) (line_of c.lent_connection-answer.new.conn) c.args.inbox.now c.lent_connection-answer.new.inbox c.in-Some.close
+    (ended_one (λ adds. AnswersMore (IsOfTurn c.in-Err-tell_close.fault → ⊥) (business_at g.B.Business.stands g.B.Business.plan g.B.Business.count g.B.Business.part c.args.answering.now) (business_at g.B.Business.stands g.B.Business.plan g.B.Business.count g.B.Business.part c.lent_connection-answer.new.answering) c.args.inbox.now adds) g.N.Link.Link c.in-Ok-Some.link c.lent_connection-answer.new.link c.args.number _ _ _ _ _ _ _ _ _ _ _ (line_of c.args.conn.now) (line_of c.lent_connection-answer.new.conn) c.args.inbox.now c.lent_connection-answer.new.inbox c.in-Some.close c.args.conn.now.number
     (subst (λ o. IsNext g.N.Link.Link.carried (g.N.Dialer.told c.args.dialer.now) (g.N.Dialer.told c.next_link.new.dialer) (Ok o)) c.in-Ok-Some.field-0-is c.in-Ok-Some.ensures.next) ((one.turned c.in-Some.close is).0, more_weaker (business_at g.B.Business.stands g.B.Business.plan g.B.Business.count g.B.Business.part c.args.answering.now) (business_at g.B.Business.stands g.B.Business.plan g.B.Business.count g.B.Business.part c.lent_connection-answer.new.answering) c.args.inbox.now ⊤ (IsOfTurn c.in-Err-tell_close.fault → ⊥) (one.turned c.in-Some.close is).0.turned.adds (λ _. tt) (one.turned c.in-Some.close is).1) c.back.ensures.told (one.closed c.in-Some.close is) (lost_at _ c.in-Some.close c.lent_connection-answer.result is one.lost) c.in-Err-tell_close.ensures.front)
 
 pub returns-clause-round : goal.returns-clause-round
@@ -44,7 +44,7 @@ returns-clause-round g c =
     let is = c.in-Ok.is ∙ ap Ok c.in-Some.is in
     round_at _ _ _ _ (business_at g.B.Business.stands g.B.Business.plan g.B.Business.count g.B.Business.part c.args.answering.now) (business_at g.B.Business.stands g.B.Business.plan g.B.Business.count g.B.Business.part c.lent_connection-answer.new.answering) c.args.inbox.now c.args.number (life_at _ _ _ c.args.inbox.now) (life_at _ _ _ c.lent_connection-answer.new.inbox) _ _ _ _ (sym c.end_behind.ensures)
     (round_ended _ c.args.number (life_at _ _ _ c.args.inbox.now) (life_at _ _ _ c.lent_connection-answer.new.inbox) _ _ c.in-Some.close
-    (ended_one (λ adds. AnswersMore (AnsweredEach (end_behind c.in-Some.close)) (business_at g.B.Business.stands g.B.Business.plan g.B.Business.count g.B.Business.part c.args.answering.now) (business_at g.B.Business.stands g.B.Business.plan g.B.Business.count g.B.Business.part c.lent_connection-answer.new.answering) c.args.inbox.now adds) g.N.Link.Link c.in-Ok-Some.link c.lent_connection-answer.new.link c.args.number _ _ _ _ _ _ _ _ _ _ _ (line_of c.args.conn.now) (line_of c.lent_connection-answer.new.conn) c.args.inbox.now c.lent_connection-answer.new.inbox c.in-Some.close
+    (ended_one (λ adds. AnswersMore (AnsweredEach (end_behind c.in-Some.close)) (business_at g.B.Business.stands g.B.Business.plan g.B.Business.count g.B.Business.part c.args.answering.now) (business_at g.B.Business.stands g.B.Business.plan g.B.Business.count g.B.Business.part c.lent_connection-answer.new.answering) c.args.inbox.now adds) g.N.Link.Link c.in-Ok-Some.link c.lent_connection-answer.new.link c.args.number _ _ _ _ _ _ _ _ _ _ _ (line_of c.args.conn.now) (line_of c.lent_connection-answer.new.conn) c.args.inbox.now c.lent_connection-answer.new.inbox c.in-Some.close c.args.conn.now.number
     (subst (λ o. IsNext g.N.Link.Link.carried (g.N.Dialer.told c.args.dialer.now) (g.N.Dialer.told c.next_link.new.dialer) (Ok o)) c.in-Ok-Some.field-0-is c.in-Ok-Some.ensures.next) ((one.turned c.in-Some.close is).0, more_weaker (business_at g.B.Business.stands g.B.Business.plan g.B.Business.count g.B.Business.part c.args.answering.now) (business_at g.B.Business.stands g.B.Business.plan g.B.Business.count g.B.Business.part c.lent_connection-answer.new.answering) c.args.inbox.now ⊤ (AnsweredEach (end_behind c.in-Some.close)) (one.turned c.in-Some.close is).0.turned.adds (λ _. tt) (one.turned c.in-Some.close is).1) c.back.ensures.told (one.closed c.in-Some.close is) (lost_at _ c.in-Some.close c.lent_connection-answer.result is one.lost) c.in_default-tell_close.ensures.told))
 
 pub returns-clause-goes : goal.returns-clause-goes

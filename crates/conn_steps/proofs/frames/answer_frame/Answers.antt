@@ -34,7 +34,7 @@ returns-clause-refused g c =
     c.gather_held.ensures.lacks
 
 pub returns-clause-in_turn : goal.returns-clause-in_turn
-returns-clause-in_turn g c = λ frames h. c.gather_held.ensures.in_turn c.args.now frames (c.in_ok-answer_act.ensures.in_turn frames h)
+returns-clause-in_turn g c = λ frames bytes h. c.gather_held.ensures.in_turn c.args.now frames bytes (c.in_ok-answer_act.ensures.in_turn frames bytes h)
 
 pub returns-clause-agrees : goal.returns-clause-agrees
 returns-clause-agrees g c =

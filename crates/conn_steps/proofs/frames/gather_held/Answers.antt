@@ -15,7 +15,7 @@ pub loop-message-init : goal.loop-message-init
 loop-message-init c = record {
   draining = draining_none c.args.end.now (payloads_in c.args.gathered.now);
   done = c.requires.done;
-  in_turn = λ now frames h. h;
+  in_turn = λ now frames bytes h. h;
   applications = λ all. all;
   own = keeps_self c.args.end.now;
 }
@@ -34,7 +34,7 @@ loop-message-preserved c =
       draining = draining_more c.args.end.now m n first (payloads_in c.args.gathered.now) (payloads_in c.loop-message.gathered) (payloads_in c.gather_held.new.self)
           before.draining awaits d.applied more d.recorded (omega (arith, takes.1, takes.2, before.own.most));
       done = d.done;
-      in_turn = λ now frames h. in_turn_held m n now frames d.stays.begun d.done d.stays.moment d.room d.stays.config d.unsent d.untold (before.in_turn now frames h);
+      in_turn = λ now frames bytes h. in_turn_held m n now frames bytes d.stays.begun d.done d.stays.moment d.room d.stays.config d.unsent d.untold (before.in_turn now frames bytes h);
       applications = λ all. subst (λ (ps : List (List ℕ)). AllByRecursion IsApplication ps) (sym more)
           (all_append IsApplication (payloads_in c.loop-message.gathered) (first.payload ∷ []) (before.applications all) (takes.0, tt));
       own = keeps_on c.args.end.now m n before.own (keeps_held m n (m.facts.recorded.inbox_next + 1) d.stays.config d.stays.most d.recorded);
@@ -69,6 +69,6 @@ returns-clause-numbers c = λ some.
     d.numbers (omega (arith, some, all_drained c.args.end.now c.loop-message.end (payloads_in c.args.gathered.now) (payloads_in c.loop-message.gathered) d none))
 
 pub returns-clause-in_turn : goal.returns-clause-in_turn
-returns-clause-in_turn c = λ now frames h.
+returns-clause-in_turn c = λ now frames bytes h.
     let none : front_of c.loop-message.end ≡ None = sym c.in_default.ensures.value in
-    in_turn_drained c.loop-message.end now frames none (c.loop-message.invariant.in_turn now frames h)
+    in_turn_drained c.loop-message.end now frames bytes none (c.loop-message.invariant.in_turn now frames bytes h)

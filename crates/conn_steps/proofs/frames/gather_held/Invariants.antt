@@ -10,7 +10,7 @@ abbrev pub invariant-loop-message : goal.invariant-loop-message
 invariant-loop-message l = record {
   draining : Draining l.initial.end l.end (payloads_in l.initial.gathered) (payloads_in l.gathered);
   done : l.end.pending ≡ None;
-  in_turn : (now frames : ℕ) → IsInTurn (unheld l.initial.end) now frames → IsInTurn (unheld l.end) now frames;
+  in_turn : (now frames bytes : ℕ) → IsInTurn (unheld l.initial.end) now frames bytes → IsInTurn (unheld l.end) now frames bytes;
   applications : AllByRecursion IsApplication (payloads_in l.initial.gathered) → AllByRecursion IsApplication (payloads_in l.gathered);
   own : KeepsOwn l.initial.end l.end;
 }

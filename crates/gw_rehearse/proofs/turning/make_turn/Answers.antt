@@ -11,9 +11,9 @@ use Rattle.gw_rehearse.proofs.turning.make_turn.Goals as goal
 pub returns-clause-stands : goal.returns-clause-stands
 returns-clause-stands g c =
     let e = c.turn.ensures in
-    subst (λ s. Stands s (line_of c.turn.new.self) ((line_of c.args.conn.now).place + 262240) (known c.turn.new.pass) c.turn.new.inbox) (sym c.behind.ensures)
-    (stands_behind c.turn.result (line_of c.turn.new.self) ((line_of c.args.conn.now).place + 262240) (known c.turn.new.pass) c.turn.new.inbox
-    (on_ok_weaker c.turn.result (turn_place _ _ _ (live_end _ _ _ (line_of c.args.conn.now) c.args.inbox.now []) (live_end _ _ _ (line_of c.turn.new.self) c.turn.new.inbox _) c.turn.result) e.did)
+    subst (λ s. Stands s (line_of c.turn.new.self) ((line_of c.args.conn.now).place + 4195840) (known c.turn.new.pass) c.turn.new.inbox) (sym c.behind.ensures)
+    (stands_behind c.turn.result (line_of c.turn.new.self) ((line_of c.args.conn.now).place + 4195840) (known c.turn.new.pass) c.turn.new.inbox
+    (on_ok_weaker c.turn.result (λ did. turn_place _ _ _ (live_end _ _ _ (line_of c.args.conn.now) c.args.inbox.now []) (live_end _ _ _ (line_of c.turn.new.self) c.turn.new.inbox _) c.turn.result did c.args.conn.now.number.1) e.did)
     e.goes e.leaves e.leaves_lost e.answer (λ lost. ap is_some (e.ended_lost lost)))
 
 pub returns-clause-turned : goal.returns-clause-turned

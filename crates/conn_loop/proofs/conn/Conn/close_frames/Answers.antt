@@ -28,6 +28,7 @@ returns-clause-closed c =
     (ap (λ (l : Line). l.over) ended ∙ ap (λ (l : Line). l.over) told)
     (ap (λ (l : Line). l.serves) ended ∙ ap (λ (l : Line). l.serves) told)
     (ap (λ (l : Line). l.waits) ended ∙ ap (λ (l : Line). l.waits) told)
+    (ap (λ (l : Line). l.per_turn) ended ∙ ap (λ (l : Line). l.per_turn) told)
 
 pub returns-clause-told : goal.returns-clause-told
 returns-clause-told c = λ goes. c.turn_done.ensures.told (sym (ap (λ (s : State). s.ending) c.turn_done.ensures.turn ∙ turn_keeps c.tell_end.new.self.end c.args.now) ∙ goes)

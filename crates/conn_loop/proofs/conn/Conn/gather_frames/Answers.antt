@@ -1,4 +1,6 @@
-use Rattle.std.proofs.Common.{◌≡◌, ◌-◌, ℕ, refl, subst, arith}
+use Rattle.std.proofs.Common.{◌≡◌, ◌+◌, ◌-◌, ℕ, refl, ap, subst, ◌∙◌, arith}
+use Rattle.conn_turns.specs.Lines.{Line}
+use Rattle.conn_turns.proofs.Taking.{after_waits, after_number}
 use Rattle.conn_turns.specs.News.{items_of}
 use Rattle.conn_steps.specs.Ends.{intake, gathering_end, taking_end}
 use Rattle.conn_steps.proofs.Cutting.{cut_frame}
@@ -13,7 +15,9 @@ pub loop-taken-init : goal.loop-taken-init
 loop-taken-init g c =
     record {
       gathered = gathered_none c.args.now (line_of c.args.self.now) c.args.inbox.now (items_of c.args.news.now) (gathered_by c.args.self.now) c.requires.none;
-      in_turn = c.requires.in_turn;
+      in_turn = in_turn_less c.args.self.now.end c.args.now c.args.self.now.per_turn (c.args.self.now.per_turn - 0) _ (omega arith) c.requires.in_turn;
+      number = refl;
+      waits = refl;
       place = omega arith;
       agrees = agrees_none c.args.self.now.end c.args.inbox.now (gathered_by c.args.self.now) c.requires.none c.requires.agrees;
       own = record { config = refl; most = refl; sent = omega arith; finish = refl };
@@ -27,12 +31,16 @@ loop-taken-preserved g c =
     let one = c.in-Ok-true.ensures in
     let mid = c.loop-taken.self.end in
     let new = c.take_frame.new.self.end in
-    let left = 15 - c.loop-taken.taken in
+    let left = c.args.self.now.per_turn - (c.loop-taken.taken + 1) in
+    let more = c.loop-taken-test.true in
+    let took = one.took (cc) in
     record {
       gathered = gathered_more c.args.now c.loop-taken.taken (taking_end (line_of c.args.self.now) c.args.inbox.now (items_of c.args.news.now))
           (gathering_end (line_of c.loop-taken.self) (intake c.loop-taken.inbox (items_of c.loop-taken.news) (gathered_by c.loop-taken.self)))
-          (gathering_end (line_of c.take_frame.new.self) (intake c.take_frame.new.inbox (items_of c.take_frame.new.news) (gathered_by c.take_frame.new.self))) before.gathered (one.took (cc));
-      in_turn = in_turn_less new c.args.now left _ (omega arith) (one.in_turn left (in_turn_less mid c.args.now _ _ (omega (arith, c.loop-taken-test.true)) before.in_turn) (cc));
+          (gathering_end (line_of c.take_frame.new.self) (intake c.take_frame.new.inbox (items_of c.take_frame.new.news) (gathered_by c.take_frame.new.self))) before.gathered took;
+      in_turn = in_turn_less new c.args.now left _ _ (omega arith) (one.in_turn left _ (in_turn_less mid c.args.now _ _ _ (omega (arith, more, c.from-most.ensures)) before.in_turn) (cc));
+      number = ap (λ (l : Line). l.per_turn) took.line ∙ (after_number c.args.now (line_of c.loop-taken.self) took.frame ∙ before.number);
+      waits = ap (λ (l : Line). l.waits) took.line ∙ (after_waits c.args.now (line_of c.loop-taken.self) took.frame ∙ before.waits);
       place = omega (arith, before.place, one.place (cc));
       agrees = one.agrees;
       own = keeps_on c.args.self.now.end mid new before.own one.own;
@@ -45,7 +53,7 @@ returns-in-Err-clause-cut g c =
     cut_frame c.args.now c.loop-taken.taken (taking_end (line_of c.args.self.now) c.args.inbox.now (items_of c.args.news.now))
     (gathering_end (line_of c.loop-taken.self) (intake c.loop-taken.inbox (items_of c.loop-taken.news) (gathered_by c.loop-taken.self)))
     (gathering_end (line_of c.take_frame.new.self) (intake c.take_frame.new.inbox (items_of c.take_frame.new.news) (gathered_by c.take_frame.new.self))) c.in-Err.fault
-    (omega (arith, c.loop-taken-test.true)) c.loop-taken.invariant.gathered c.in-Err.ensures.refused
+    (omega (arith, c.loop-taken-test.true, c.from-most.ensures)) c.loop-taken.invariant.gathered c.in-Err.ensures.refused
 
 pub returns-in-Ok-false-clause-gathered : goal.returns-in-Ok-false-clause-gathered
 returns-in-Ok-false-clause-gathered g c =
@@ -56,6 +64,6 @@ returns-in-Ok-false-clause-gathered g c =
 
 pub returns-clause-gathered : goal.returns-clause-gathered
 returns-clause-gathered g c =
-    let all : c.loop-taken.taken ≡ 16 = omega (arith, c.loop-taken-test.false, c.loop-taken.auto.taken-end) in
+    let all : c.loop-taken.taken ≡ c.from-most.result = omega (arith, c.loop-taken-test.false, c.loop-taken.auto.taken-end) in
     subst (λ (n : ℕ). GatheredFrames c.args.now n (taking_end (line_of c.args.self.now) c.args.inbox.now (items_of c.args.news.now))
     (gathering_end (line_of c.loop-taken.self) (intake c.loop-taken.inbox (items_of c.loop-taken.news) (gathered_by c.loop-taken.self)))) all c.loop-taken.invariant.gathered

@@ -13,7 +13,7 @@ pub returns-then-is_empty-clause-received : goal.returns-then-is_empty-clause-re
 returns-then-is_empty-clause-received g c = record {
   received = [];
   bytes = All-nil (λ (b : ℕ). b < 256);
-  line = line_is _ _ refl (sym (append-nil c.args.self.now.framer.held)) refl (or_no c.args.self.now.over) refl refl;
+  line = line_is _ _ refl (sym (append-nil c.args.self.now.framer.held)) refl (or_no c.args.self.now.over) refl refl refl;
   found = search rules;
   moved = moved_none (g.L.Link.told c.args.link.now) (g.L.Link.carried c.args.link.now);
 }

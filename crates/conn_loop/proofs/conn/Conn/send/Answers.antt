@@ -20,7 +20,7 @@ returns-in-Ok-clause-sent g c =
       lost = false;
       front = (drop n u, take-append-drop n u);
       line = line_is _ _ (c.taken.ensures ∙ ap (λ (k : ℕ). record m { unsent = drop k u }) (sym (length-take-le n u within))) refl refl refl refl
-          (c.has_unsent-self.ensures ∙ ap (λ (s : State). not (length s.unsent == 0)) (c.taken.ensures ∙ ap (λ (k : ℕ). record m { unsent = drop k u }) (sym (length-take-le n u within))));
+          (c.has_unsent-self.ensures ∙ ap (λ (s : State). not (length s.unsent == 0)) (c.taken.ensures ∙ ap (λ (k : ℕ). record m { unsent = drop k u }) (sym (length-take-le n u within)))) refl;
       whole = λ _. sym (take-append-drop n u) ∙ ap (λ (bytes : List ℕ). take n u ++ bytes) (sym rest);
       full = λ _ some. c.in-Ok.ensures.full (omega (arith, some, ap (λ (bytes : List ℕ). length bytes) rest, length-drop n u, long));
       answer = λ e. absurd (true≢false (sym e));
@@ -36,7 +36,7 @@ returns-in-Err-clause-sent g c =
       sent = take took.count u;
       lost = true;
       front = (drop took.count u, take-append-drop took.count u);
-      line = c.lose_link.ensures.line ∙ line_is _ _ refl refl refl refl refl (c.has_unsent-self-in-Err.ensures ∙ ap (λ (bytes : List ℕ). not (length bytes == 0)) (sym (link_keeps c.args.self.now.end).0));
+      line = c.lose_link.ensures.line ∙ line_is _ _ refl refl refl refl refl (c.has_unsent-self-in-Err.ensures ∙ ap (λ (bytes : List ℕ). not (length bytes == 0)) (sym (link_keeps c.args.self.now.end).0)) refl;
       whole = λ e. absurd (true≢false e);
       full = λ e. absurd (true≢false e);
       answer = λ _. c.lose_link.ensures.answer;

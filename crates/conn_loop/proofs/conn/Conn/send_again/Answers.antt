@@ -64,12 +64,12 @@ returns-in-Ok-clause-again g c =
     let served = served_some m c.in-Some.range goes serving in
     record {
       sent = Some pays;
-      as_due = subst (λ (o : Option Range). IsAsDue (served_of o h) (Some pays)) (sym served)
+      as_due = subst (λ (o : Option Range). IsAsDue (served_of c.args.self.now.per_turn o h) (Some pays)) (sym served)
           (subst (λ (n : ℕ). IsAsDue (Some (payloads_from h from n)) (Some pays)) c.entries_of-most.ensures
           (due_given h from most c.as_slice.result.now given (applied_as c.as_slice.ensures.value c.in-Ok.ensures.applications)));
       told = λ tells. told_given h from most c.as_slice.result.now given tells
-          ∙ (ap (λ (n : ℕ). Some (payloads_from h from n)) c.entries_of-most.ensures ∙ ap (λ (o : Option Range). served_of o h) (sym served));
-      line = line_is _ _ (again_is m c.send_again.new.self m.facts.connection.serving c.in-Some.range _ _ c.args.now serving refl c.send_again.ensures.again) refl refl refl refl refl;
+          ∙ (ap (λ (n : ℕ). Some (payloads_from h from n)) c.entries_of-most.ensures ∙ ap (λ (o : Option Range). served_of c.args.self.now.per_turn o h) (sym served));
+      line = line_is _ _ (again_is m c.send_again.new.self m.facts.connection.serving c.in-Some.range _ _ c.args.now serving refl c.send_again.ensures.again) refl refl refl refl refl refl;
     }
 
 pub returns-in-Ok-clause-serve : goal.returns-in-Ok-clause-serve

@@ -15,20 +15,20 @@ pub send_live-requires-clause-last : goal.send_live-requires-clause-last
 send_live-requires-clause-last g c =
     let h = (known c.look.new.pass).seen in
     let given = given_as c.as_slice.ensures.value c.in-Ok.ensures.given in
-    omega (arith, length_given h (c.sent.result + 1) 16 c.as_slice.result.now given, c.sent.ensures, c.requires.serve.sent, c.look.ensures.few)
+    omega (arith, length_given h (c.sent.result + 1) c.args.self.now.per_turn c.as_slice.result.now given, c.sent.ensures, c.requires.serve.sent, c.look.ensures.few)
 
 pub send_live-requires-clause-numbered : goal.send_live-requires-clause-numbered
 send_live-requires-clause-numbered g c =
     let h = (known c.look.new.pass).seen in
     let given = given_as c.as_slice.ensures.value c.in-Ok.ensures.given in
-    subst (λ (n : ℕ). AreFrom (n + 1) c.as_slice.result.now) c.sent.ensures (numbers_given h (c.sent.result + 1) 16 c.as_slice.result.now given)
+    subst (λ (n : ℕ). AreFrom (n + 1) c.as_slice.result.now) c.sent.ensures (numbers_given h (c.sent.result + 1) c.args.self.now.per_turn c.as_slice.result.now given)
 
 pub send_live-requires-clause-output : goal.send_live-requires-clause-output
 send_live-requires-clause-output g c =
     let given = given_as c.as_slice.ensures.value c.in-Ok.ensures.given in
     omega (
       arith,
-      length_given (known c.look.new.pass).seen (c.sent.result + 1) 16 c.as_slice.result.now given,
+      length_given (known c.look.new.pass).seen (c.sent.result + 1) c.args.self.now.per_turn c.as_slice.result.now given,
       frames_fit c.as_slice.result.now (sized c.as_slice.ensures.value c.in-Ok.ensures.sizes),
       c.requires.serve.little,
     )
@@ -41,14 +41,14 @@ returns-in-Ok-clause-live g c =
     let sends : sends_live m ≡ true = cc in
     let from : c.sent.result + 1 ≡ m.facts.recorded.sent + 1 = ap (λ (n : ℕ). n + 1) c.sent.ensures in
     let pays = payloads_of c.as_slice.result.now in
-    let due : Some (payloads_from h (c.sent.result + 1) 16) ≡ live_of m h =
-    ap (λ (n : ℕ). Some (payloads_from h n 16)) from ∙ sym (ap (λ (b : Bool). if b then Some (payloads_from h (m.facts.recorded.sent + 1) 16) else None) sends) in
+    let due : Some (payloads_from h (c.sent.result + 1) c.args.self.now.per_turn) ≡ live_of c.args.self.now.per_turn m h =
+    ap (λ (n : ℕ). Some (payloads_from h n c.args.self.now.per_turn)) from ∙ sym (ap (λ (b : Bool). if b then Some (payloads_from h (m.facts.recorded.sent + 1) c.args.self.now.per_turn) else None) sends) in
     record {
       sent = Some pays;
       as_due = subst (λ (o : Option (List (List ℕ))). IsAsDue o (Some pays)) due
-          (due_given h (c.sent.result + 1) 16 c.as_slice.result.now given (applied_as c.as_slice.ensures.value c.in-Ok.ensures.applications));
-      told = λ tells. told_given h (c.sent.result + 1) 16 c.as_slice.result.now given tells ∙ due;
-      line = line_is _ _ c.send_live.ensures.live refl refl refl refl refl;
+          (due_given h (c.sent.result + 1) c.args.self.now.per_turn c.as_slice.result.now given (applied_as c.as_slice.ensures.value c.in-Ok.ensures.applications));
+      told = λ tells. told_given h (c.sent.result + 1) c.args.self.now.per_turn c.as_slice.result.now given tells ∙ due;
+      line = line_is _ _ c.send_live.ensures.live refl refl refl refl refl refl;
     }
 
 pub returns-in-Ok-clause-mark : goal.returns-in-Ok-clause-mark
@@ -64,7 +64,7 @@ returns-in-Ok-clause-serve g c =
     let h = (known c.look.new.pass).seen in
     let given = given_as c.as_slice.ensures.value c.in-Ok.ensures.given in
     let live = c.send_live.ensures.live in
-    let many = length_given h (c.sent.result + 1) 16 c.as_slice.result.now given in
+    let many = length_given h (c.sent.result + 1) c.args.self.now.per_turn c.as_slice.result.now given in
     let pays = length_payloads c.as_slice.result.now in
     let sent = ap (λ (s : State). s.facts.recorded.sent) live in
     record {

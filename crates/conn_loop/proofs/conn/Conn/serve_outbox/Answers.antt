@@ -18,7 +18,7 @@ returns-in-Ok-send_beside-clause-served g c =
     let between : Line = line_of c.send_beside.new.self in
     served_outbox _ c.args.now (known c.args.pass.now).seen (known c.send_again.new.pass).seen (known c.send_beside.new.pass).seen
     (line_of c.args.self.now) (line_of c.send_again.new.self) (line_of c.send_beside.new.self) (line_of c.tell_finish.new.self)
-    again.looks.seen live.looks.seen again.again (subst (λ (b : Bool). SentDue g.J.Journal.tells (if b then None else live_of (line_of c.send_again.new.self).machine (known c.send_beside.new.pass).seen) (live_calls c.args.now) (line_of c.send_again.new.self) (line_of c.send_beside.new.self)) again.some live.live)
+    again.looks.seen live.looks.seen again.again (subst (λ (b : Bool). SentDue g.J.Journal.tells (if b then None else live_of (line_of c.send_again.new.self).per_turn (line_of c.send_again.new.self).machine (known c.send_beside.new.pass).seen) (live_calls c.args.now) (line_of c.send_again.new.self) (line_of c.send_beside.new.self)) again.some live.live)
     (c.tell_finish.ensures.finish ∙ ap (λ (o : Option ℕ). record between { machine = run between.machine (finish_calls c.args.now o) }) live.mark) again.same.config (cc)
 
 pub returns-in-Ok-send_beside-clause-serve : goal.returns-in-Ok-send_beside-clause-serve

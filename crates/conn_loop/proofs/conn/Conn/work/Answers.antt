@@ -1,9 +1,10 @@
-use Rattle.std.proofs.Common.{ap, ◌∙◌, arith}
+use Rattle.std.proofs.Common.{◌≡◌, Bool, if◌then◌else◌, sym, ap, subst, ◌∙◌, arith}
 use Rattle.std.proofs.lemmas.Result.{on_ok_weaker, IfErr-weaker}
 use Rattle.fixp_shake.specs.Flows.{is_absent}
 use Rattle.fixp_shake.specs.declared.config.EndConfig.{EndConfig}
 use Rattle.gate_turn.specs.Places.{known}
 use Rattle.conn_turns.specs.declared.answer.TurnFault.{TurnFault}
+use Rattle.conn_steps.specs.Agreeing.{IsInTurn}
 use Rattle.conn_steps.proofs.Inboxes.{kind_on, kind_at}
 use Rattle.conn_turns.specs.Lines.{Line}
 use Rattle.conn_turns.proofs.Taking.{lines_wait}
@@ -14,6 +15,13 @@ use Rattle.conn_loop.proofs.conn.Conn.work.Goals as goal
 
 pub take_frames-requires-clause-agrees : goal.take_frames-requires-clause-agrees
 take_frames-requires-clause-agrees g c = agrees_at (line_of c.args.self.now).machine c.args.inbox.now c.at.new.self c.at.ensures.same c.requires.agrees
+
+pub close_frames-requires-clause-in_turn : goal.close_frames-requires-clause-in_turn
+close_frames-requires-clause-in_turn g c =
+    let took = c.in-Ok.ensures.took in
+    let waits : (line_of c.take_frames.new.self).waits ≡ (line_of c.args.self.now).waits
+    = ap (λ (l : Line). l.waits) took.line ∙ lines_wait c.args.now (line_of c.args.self.now) took.frames in
+    subst (λ (b : Bool). IsInTurn (line_of c.take_frames.new.self).machine c.args.now 0 (if b then 4900000 else 700000)) (sym waits) c.in-Ok.ensures.in_turn
 
 pub returns-in-Err-clause-no_link : goal.returns-in-Err-clause-no_link
 returns-in-Err-clause-no_link g c = c.in-Err.ensures.blames.no_other.no_link

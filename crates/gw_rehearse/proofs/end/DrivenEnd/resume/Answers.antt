@@ -12,8 +12,8 @@ returns-clause-driven g c =
     let h = c.requires.driven in
     let came = c.resume-answer in (
       staff_kept e.gate e.staff came.new.self e.pass e.pass h.0 came.ensures.seated came.ensures.count h.0.own h.0.free refl refl,
-      subst (λ s. Stands s (line_of e.conn) (e.turns * 262240) (known e.pass) came.new.inbox) (sym c.resumed-self.ensures)
-          (rests_stands _ (line_of e.conn) (e.turns * 262240) (known e.pass) came.new.inbox (resumed_closed came.result)
+      subst (λ s. Stands s (line_of e.conn) (e.turns * 4195840) (known e.pass) came.new.inbox) (sym c.resumed-self.ensures)
+          (rests_stands _ (line_of e.conn) (e.turns * 4195840) (known e.pass) came.new.inbox (resumed_closed came.result)
           (resumed_rests (line_of e.conn).machine (known e.pass) e.inbox came.new.inbox came.ensures.content came.ensures.kind (h.1.begins c.requires.rests.over))),
     )
 
