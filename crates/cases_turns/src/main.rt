@@ -1,7 +1,8 @@
-//! Cases of two ends of a session turn by turn, over journals and pipes in memory. What the program has to print stands in `stdout`,
+//! Cases of ends of sessions turn by turn, over journals and pipes in memory. What the program has to print stands in `stdout`,
 //! worked out by hand.
 #![tactic(auto)]
 
+mod one_transport;
 mod turns;
 
 use cases_words::{asked, begins};
@@ -11,6 +12,9 @@ fn main(rt: HostRuntime) -> io::Result<()> {
     let asked = asked(&rt)?;
     if begins(&rt, &asked, "turns")? {
         turns::print(&rt)?;
+    }
+    if begins(&rt, &asked, "one_transport")? {
+        one_transport::print(&rt)?;
     }
     Ok(())
 }

@@ -145,12 +145,12 @@ follows_released place at calls named writing old mid new (inr other) behind =
     subst F other.1 (record { id = behind.id; kept = behind.kept; input = behind.input; output = behind.output })
 
 -- the session at a place before a call
-record Before (sessions : List Session) (at : ℕ) (Was : Session → Type 0) : Type 0 where
-  session : Session
-  stands : slice_get sessions at ≡ Some session
-  was : Was session
+pub record Before (sessions : List Session) (at : ℕ) (Was : Session → Type 0) : Type 0 where
+  pub session : Session
+  pub stands : slice_get sessions at ≡ Some session
+  pub was : Was session
 
-fed_before : (R : Session → Session → Type 0) (old new : List Session) (at : ℕ) (t : Session) → AllPairs R old new → slice_get new at ≡ Some t → Before old at (λ s. R s t)
+pub fed_before : (R : Session → Session → Type 0) (old new : List Session) (at : ℕ) (t : Session) → AllPairs R old new → slice_get new at ≡ Some t → Before old at (λ s. R s t)
 fed_before R [] [] at t all stands = absurd (cc stands)
 fed_before R [] (u ∷ new) at t all stands = absurd all
 fed_before R (s ∷ old) [] at t all stands = absurd all

@@ -1,4 +1,14 @@
+mod Answering
 mod Apart
-mod Partings
+mod Beginning
+mod BytesIn
+mod BytesOut
+mod Composing
+mod Doing
+mod Given
+mod Linked
+pub mod Partings
+mod Placing
+mod Pumps
 mod Sampled
-mod Spelling
+pub mod Spelling

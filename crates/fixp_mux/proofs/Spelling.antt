@@ -1,12 +1,12 @@
 -- A frame names the session whose Context it spells.
-use Rattle.std.proofs.Common.{◌≡◌, ℕ, ◌+◌, ◌≤◌, Bool, true, false, if◌then◌else◌, ◌&&◌, List, ◌++◌, length, take, drop, refl, sym, ◌∙◌, ap, arith}
+use Rattle.std.proofs.Common.{◌≡◌, ℕ, ◌+◌, ◌≤◌, Bool, true, false, if◌then◌else◌, ◌&&◌, List, [], ◌∷◌, ◌++◌, length, take, drop, refl, sym, ◌∙◌, ap, arith}
 use Rattle.std.proofs.lemmas.List.{length-append, take-take}
 use Rattle.std.proofs.Math.Seq.{take-append_seam}
 use Rattle.std.proofs.lemmas.Bool.Decides.{nat_tests}
-use Rattle.std.specs.Int.{w16, w64, to_le_bytes}
+use Rattle.std.specs.Int.{w16, w32, w64, to_be_bytes, to_le_bytes}
 use Rattle.sbe_prim.specs.declared.Order.{Order}
 use Rattle.sbe_prim.specs.declared.Order.TheVariants.{Little, Big}
-use Rattle.sofh_frame.specs.Framing.{Frame}
+use Rattle.sofh_frame.specs.Framing.{Frame, header_of, spelled}
 use Rattle.fixp_msgs.specs.Header.{block_length_in, template_in, schema_in, session_schema}
 use Rattle.fixp_msgs.specs.Table.{null}
 use Rattle.fixp_mux.specs.Context.{context_block, context_template, SpellsContext, names, malformed, carries, is_little, has_template, has_block, says, context_message, context_frame, ContextIsSpelled, ContextNames}
@@ -109,3 +109,13 @@ context_names id long =
       stands = record { covers = omega arith; whole = omega (arith, long, length-context_message id); stated = refl; rest = refl };
       named = sym first ∙ sym (take-take 16 24 (id ++ behind) (omega arith));
     })
+
+-- the bytes of a Context
+pub context_spelled : (id : List ℕ) → length id ≡ 16
+    → spelled (context_frame id)
+    ≡ 0x00 ∷ 0x00 ∷ 0x00 ∷ 0x26 ∷ 0xEB ∷ 0x50 ∷ 0x18 ∷ 0x00 ∷ 0x11 ∷ 0x00 ∷ 0x11 ∷ 0xF0 ∷ 0x00 ∷ 0x00 ∷ (id ++ 0xFF ∷ 0xFF ∷ 0xFF ∷ 0xFF ∷ 0xFF ∷ 0xFF ∷ 0xFF ∷ 0xFF ∷ [])
+unfolding header_of
+context_spelled id size =
+    let nulls : List ℕ = 0xFF ∷ 0xFF ∷ 0xFF ∷ 0xFF ∷ 0xFF ∷ 0xFF ∷ 0xFF ∷ 0xFF ∷ [] in
+    let long : length (context_message id) ≡ 32 = omega (arith, length-append id nulls, size) in
+    ap (λ (n : ℕ). (to_be_bytes w32 (6 + n) ++ to_be_bytes w16 0xEB50) ++ context_message id) long

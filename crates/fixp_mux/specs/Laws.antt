@@ -1,11 +1,15 @@
 -- The laws of several sessions on one transport: not one byte of one session reaches another.
-use Rattle.std.specs.Prelude.{◌≡◌, ℕ, false, List, [], ◌∷◌, ◌++◌, Option, Some, None, slice_get}
+use Rattle.std.specs.Prelude.{◌≡◌, ℕ, false, List, [], ◌∷◌, ◌++◌, Option, Some, None, Result, slice_get}
 use Rattle.sofh_frame.specs.Framing.{Frame}
 use Rattle.sofh_frame.specs.Splits.{spelled_all}
+use Rattle.gw_links.specs.Links.{Carried, LinkTold}
 use Rattle.fixp_mux.specs.Context.{says}
 use Rattle.fixp_mux.specs.Parts.{named_by, named_behind, own, part_of}
+use Rattle.fixp_mux.specs.Pumping.{DidPump}
 use Rattle.fixp_mux.specs.State.{Session, State, new_mux}
-use Rattle.fixp_mux.specs.Calls.{Call, Ran, given_in, begun_in, received_in, sent_in}
+use Rattle.fixp_mux.specs.declared.pump.MuxFault.{MuxFault}
+use Rattle.fixp_mux.specs.declared.pump.Pumped.{Pumped}
+use Rattle.fixp_mux.specs.Calls.{Call, Happens, pumped, Ran, given_in, begun_in, received_in, sent_in}
 
 -- whether a frame belongs to a session is decided by the last Context before it, and by nothing else
 abbrev pub PartByLastContext : Type 0
@@ -32,3 +36,10 @@ abbrev pub SessionsApart : Type 0
 SessionsApart =
     (ids : List (List ℕ)) (calls : List Call) (last : State) (place : ℕ) (s : Session)
     → Ran (new_mux ids) calls last → slice_get last.sessions place ≡ Some s → IsApart calls place s
+
+-- one pump is such a call
+abbrev pub APumpHappens : Type 0
+APumpHappens =
+    (told told' : Option LinkTold) (carried carried' : Option Carried) (old new : State) (result : Result Pumped MuxFault)
+    → DidPump told told' carried carried' old new result
+    → (given : List Frame) × ((begun : List Frame) × Happens old (pumped given begun) new)

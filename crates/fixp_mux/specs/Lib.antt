@@ -1,6 +1,14 @@
+pub mod Begun
 pub mod Calls
 pub mod Context
+pub mod Giving
+pub mod Holding
 pub mod Laws
+pub mod Linking
 pub mod Parts
+pub mod Pumping
+pub mod Routing
 pub mod Samples
+pub mod Saying
 pub mod State
+pub mod Stepping

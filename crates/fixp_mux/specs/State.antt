@@ -81,4 +81,5 @@ pub record Pumps (old new : State) (given begun : List Frame) (came sent : List 
   pub writes : sent ++ new.unsent ≡ old.unsent ++ spelled_all begun
   pub at : new.at ≡ counted old.at (length (spelled_all given))
   pub well : WellRouted (IsOf (ids_of old.sessions)) old.named given
+  pub known : WellRouted (IsOf (ids_of old.sessions)) old.writing begun
   pub tight : Tight old.writing begun

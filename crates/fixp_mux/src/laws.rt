@@ -2,7 +2,7 @@
 //! Each function has an empty body; its clause is a statement about the definitions that the calls of this crate meet.
 
 ghost use Rattle.fixp_mux.specs.Context.{ContextIsSpelled, ContextNames};
-ghost use Rattle.fixp_mux.specs.Laws.{BelongsToOne, PartByLastContext, SessionsApart};
+ghost use Rattle.fixp_mux.specs.Laws.{APumpHappens, BelongsToOne, PartByLastContext, SessionsApart};
 
 /// A frame names the session whose Context it spells, and no other frame names one.
 pub fn context_is_spelled()
@@ -28,4 +28,9 @@ pub fn belongs_to_one()
 /// frames written is what it sent.
 pub fn sessions_apart()
     ensures law { SessionsApart }
+{}
+
+/// One pump is one of the calls that `sessions_apart` speaks of; what a link's `recv` and `send` and a `release` do is said in its words.
+pub fn a_pump_happens()
+    ensures law { APumpHappens }
 {}

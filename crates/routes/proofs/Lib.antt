@@ -1,4 +1,4 @@
-mod Adding
+pub mod Adding
 mod Keys
-mod Searching
-mod Standing
+pub mod Searching
+pub mod Standing
