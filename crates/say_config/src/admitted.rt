@@ -212,6 +212,14 @@ pub fn in_settings(key: &str) -> Admitted {
     admitted_in(SETTINGS, key).unwrap_or(Admitted::Other("admitted here"))
 }
 
+/// What stands at the key of several sessions, or at a place of their list, which has no key.
+pub fn in_sessions(key: &str) -> Admitted {
+    if key.is_empty() {
+        return Admitted::Other("a table");
+    }
+    Admitted::Other("a list of 1 to 64 tables, each of one session")
+}
+
 /// What stands at a key of a script, or of a step; a step has no key.
 pub fn in_script(key: &str) -> Admitted {
     if key.is_empty() {

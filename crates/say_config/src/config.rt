@@ -1,9 +1,10 @@
 //! What is wrong with CONFIG: the place, what was found there, and what would be right.
 
 use crate::admitted::{
-    Admitted, Asked, asked_by, asked_by_script, in_datagrams, in_schema, in_script, in_settings,
+    Admitted, Asked, asked_by, asked_by_script, in_datagrams, in_schema, in_script, in_sessions,
+    in_settings,
 };
-use cmd_config::Purpose;
+use cmd_config::{Purpose, Sessions};
 use say_toml::{Broken, found_at, last_key, list_key, push_value, push_where, schema_fault};
 use say_words::push_path;
 use sbe_schema::SchemaFault;
@@ -11,13 +12,15 @@ use sbe_value::Path;
 use schema_toml::{ConfigFault, TEXT_LIMIT};
 use std::alloc::{AllocError, Global};
 use toml::Value;
-use toml_walk::TomlFault;
+use toml_walk::{Reader, TomlFault};
 
 /// What a command reads CONFIG as.
 #[derive(Clone, Copy)]
 pub enum Wanted {
     /// The configuration of a session, for this purpose.
     Session(Purpose),
+    /// The sessions of one transport.
+    Sessions,
     /// The script of a rehearsal.
     Script,
     /// The script of messages in datagrams.
@@ -30,6 +33,7 @@ pub enum Wanted {
 fn admitted_at(wanted: Wanted, key: &str, found: Option<&Value>) -> Admitted {
     match wanted {
         Wanted::Session(_) => in_settings(key),
+        Wanted::Sessions => in_sessions(key),
         Wanted::Script => in_script(key),
         Wanted::Datagrams => in_datagrams(key),
         Wanted::Schema => in_schema(key, found),
@@ -59,7 +63,7 @@ fn asked_at(wanted: Wanted, key: &str, found: Option<&Value>) -> Option<Asked> {
     match wanted {
         Wanted::Session(purpose) => asked_by(purpose, key, found),
         Wanted::Script => asked_by_script(key, found),
-        Wanted::Datagrams | Wanted::Schema => None,
+        Wanted::Sessions | Wanted::Datagrams | Wanted::Schema => None,
     }
 }
 
@@ -211,6 +215,40 @@ fn found_in<'a>(table: Option<&'a Value>, path: &Path) -> Option<&'a Value> {
     }
 }
 
+/// What the text at a path is read as: within the table of one of several sessions, as the configuration of a session.
+fn wanted_at(wanted: Wanted, path: &Path) -> Wanted {
+    match wanted {
+        Wanted::Sessions if path.len() > 2 => Wanted::Session(Purpose::Recorded),
+        _ => wanted,
+    }
+}
+
+/// Whether a value that is out of range is an identifier that would do by itself: then an earlier session has it.
+fn is_repeated(
+    alloc: Global,
+    wanted: Wanted,
+    fault: &TomlFault,
+    path: &Path,
+    found: Option<&Value>,
+) -> bool {
+    match (wanted, fault, found) {
+        (Wanted::Sessions, TomlFault::Range(_), Some(value)) => {
+            path.len() == 3
+                && last_key(path) == "session"
+                && Sessions::read(alloc, (), value).is_ok()
+        }
+        _ => false,
+    }
+}
+
+/// Adds that an earlier session has this identifier.
+fn push_repeated(line: &mut String, value: Option<&Value>) -> Result<(), AllocError> {
+    if let Some(value) = value {
+        push_value(line, value)?;
+    }
+    line.push_str(" is the identifier of an earlier session too")
+}
+
 /// Adds a place, its line and its names where it lies in a list, and what is wrong there.
 fn push_at(
     alloc: Global,
@@ -226,13 +264,11 @@ fn push_at(
     if let Some(table) = &table {
         push_where(alloc, line, table, path, text)?;
     }
-    push_cause(
-        line,
-        wanted,
-        fault,
-        last_key(path),
-        found_in(table.as_ref(), path),
-    )
+    let found = found_in(table.as_ref(), path);
+    if is_repeated(alloc, wanted, fault, path, found) {
+        return push_repeated(line, found);
+    }
+    push_cause(line, wanted_at(wanted, path), fault, last_key(path), found)
 }
 
 /// Adds what is wrong with a text, without the fault's name.

@@ -1,0 +1,12 @@
+pub mod Given
+pub mod Lined
+pub mod Arrivals
+pub mod Seating
+pub mod Routing
+pub mod Repeated
+pub mod Fronts
+pub mod Rounds
+pub mod Once
+pub mod Owns
+pub mod Wires
+pub mod Apart
