@@ -10,7 +10,8 @@ use Rattle.sbe_layout.specs.declared.plan.Plan.{Plan}
 use Rattle.conn_told.specs.declared.end.ToldEnd.{ToldEnd}
 use Rattle.conn_told.specs.declared.end.ToldEnd.TheVariants as ends
 use Rattle.conn_told.specs.Told as told
-use Rattle.cmd_delivered.specs.declared.outcome.Outcome.{Outcome}
+use Rattle.conn_told.specs.declared.end.Wrong.{Wrong}
+use Rattle.cmd_by_schema.specs.declared.outcome.Outcome.{Outcome}
 use Rattle.cmd_delivered.specs.Promise.{Gave, outcome_of}
 
 -- nothing was given behind the beginning, which failed
@@ -31,7 +32,7 @@ behind plan lines before mid after (ends.Refused line wrong) nothing g = record 
 behind plan lines before mid after ends.Memory nothing g = record { text = g.text; front = g.front; gave = Appends-trans before mid after [] g.text nothing g.gave }
 
 -- and by the plan that the schema says
-pub told_behind : (read plan : Plan) (schema : Result Plan ConfigFault) (lines : List ℕ) (before mid after : Option (List ℕ)) (end : ToldEnd) (outcome : Outcome) → schema ≡ Ok read → schema ≡ Ok plan
+pub told_behind : (read plan : Plan) (schema : Result Plan ConfigFault) (lines : List ℕ) (before mid after : Option (List ℕ)) (end : ToldEnd) (outcome : Outcome Wrong) → schema ≡ Ok read → schema ≡ Ok plan
     → outcome ≡ outcome_of end → Appends before mid [] → told.Gave read (lines_in lines) mid after end → Gave plan lines before after outcome
 told_behind read plan schema lines before mid after end outcome one other is nothing g =
     let same : read ≡ plan = cc in

@@ -1,53 +1,26 @@
--- What a run gives OUT, and what its outcome says of the schema and of the lines (this project's profile).
-use Rattle.std.specs.Prelude.{◌≡◌, ℕ, List, codes, Option, Result, Ok, Err, IsOk}
-use Rattle.std.specs.Io.KnownBytes.{Appends, Keeps}
+-- What a run gives OUT (this project's profile).
+use Rattle.std.specs.Prelude.{ℕ, List, Option}
+use Rattle.std.specs.Io.KnownBytes.{Keeps}
 use Rattle.text_words.specs.Lines.{lines_in}
-use Rattle.schema_toml.specs.declared.fault.ConfigFault.{ConfigFault}
 use Rattle.sbe_layout.specs.declared.plan.Plan.{Plan}
+use Rattle.conn_told.specs.declared.end.Wrong.{Wrong}
 use Rattle.conn_told.specs.declared.end.ToldEnd.{ToldEnd}
 use Rattle.conn_told.specs.declared.end.ToldEnd.TheVariants as ends
 use Rattle.conn_told.specs.Told as told
-use Rattle.cmd_delivered.specs.declared.outcome.Outcome.{Outcome}
-use Rattle.cmd_delivered.specs.declared.outcome.Outcome.TheVariants as outcomes
-use Rattle.cmd_delivered.specs.declared.outcome.Text.TheVariants.{Schema, Lines}
-
--- the numbers and the words of outcomes, which are those of every command
-abbrev pub code_of : Outcome → ℕ
-code_of outcomes.Done = 0
-code_of (outcomes.Config fault) = 2
-code_of (outcomes.InputFault text) = 3
-code_of outcomes.OutputFault = 4
-code_of (outcomes.Refused line wrong) = 12
-code_of outcomes.Memory = 14
-
-abbrev pub name_of : Outcome → List ℕ
-name_of outcomes.Done = codes "done"
-name_of (outcomes.Config fault) = codes "config"
-name_of (outcomes.InputFault text) = codes "input-fault"
-name_of outcomes.OutputFault = codes "output-fault"
-name_of (outcomes.Refused line wrong) = codes "message"
-name_of outcomes.Memory = codes "memory"
+use Rattle.cmd_by_schema.specs.declared.outcome.Outcome.{Outcome}
+use Rattle.cmd_by_schema.specs.declared.outcome.Outcome.TheVariants as outcomes
+use Rattle.cmd_by_schema.specs.declared.outcome.Text.TheVariants.{Schema, Lines}
 
 -- how the telling of lines ends a run
-abbrev pub outcome_of : ToldEnd → Outcome
+abbrev pub outcome_of : ToldEnd → Outcome Wrong
 outcome_of ends.Done = outcomes.Done
 outcome_of ends.Input = outcomes.InputFault Lines
 outcome_of ends.Output = outcomes.OutputFault
 outcome_of (ends.Refused line wrong) = outcomes.Refused line wrong
 outcome_of ends.Memory = outcomes.Memory
 
--- SCHEMA is refused with its fault exactly where it has one, unless a device or memory failed before
-abbrev pub Judges : Outcome → Result Plan ConfigFault → Type 0
-Judges (outcomes.Config fault) schema = schema ≡ Err fault
-Judges outcomes.Done schema = IsOk schema
-Judges (outcomes.Refused line wrong) schema = IsOk schema
-Judges outcomes.OutputFault schema = IsOk schema
-Judges (outcomes.InputFault Lines) schema = IsOk schema
-Judges (outcomes.InputFault Schema) schema = Unit {0}
-Judges outcomes.Memory schema = Unit {0}
-
 -- OUT gained what the lines say, as far as the outcome tells, and nothing where there is no schema
-abbrev pub Gave : Plan → List ℕ → Option (List ℕ) → Option (List ℕ) → Outcome → Type 0
+abbrev pub Gave : Plan → List ℕ → Option (List ℕ) → Option (List ℕ) → Outcome Wrong → Type 0
 Gave plan text before after outcomes.Done = told.GaveAll plan (lines_in text) before after
 Gave plan text before after (outcomes.Refused line wrong) = told.GaveRefused plan (lines_in text) line wrong before after
 Gave plan text before after (outcomes.InputFault Lines) = told.GaveFirst plan (lines_in text) before after
@@ -55,15 +28,3 @@ Gave plan text before after (outcomes.InputFault Schema) = Keeps before after
 Gave plan text before after outcomes.OutputFault = told.GaveFront plan (lines_in text) before after
 Gave plan text before after outcomes.Memory = told.GaveFirst plan (lines_in text) before after
 Gave plan text before after (outcomes.Config fault) = Keeps before after
-
--- the outcomes of a text that gives no schema: OUT and LINES are the very devices that were given
-abbrev pub StopsAtSchema : Outcome → Type 0
-StopsAtSchema (outcomes.Config fault) = Unit {0}
-StopsAtSchema (outcomes.InputFault Schema) = Unit {0}
-StopsAtSchema _ = ⊥
-
-abbrev pub IsRefusal : Outcome → Type 0
-IsRefusal (outcomes.Config fault) = Unit {0}
-IsRefusal (outcomes.InputFault Schema) = Unit {0}
-IsRefusal outcomes.Memory = Unit {0}
-IsRefusal _ = ⊥

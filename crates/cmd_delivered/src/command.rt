@@ -1,19 +1,18 @@
 //! The whole of `delivered`: SCHEMA first, then the lines.
 
-ghost use Rattle.std.specs.Prelude.{◌≡◌, ◌≤◌, ◌+◌, ℕ, List, Some, Ok, IfOk, IfErr, IsErrOf};
+ghost use Rattle.std.specs.Prelude.{◌≡◌, ◌≤◌, ◌+◌, ℕ, List, Some, Ok};
 ghost use Rattle.gw_outside.specs.Faults.{HasRisen};
 ghost use Rattle.schema_toml.specs.Faults.{text_limit};
 ghost use Rattle.schema_load.specs.Load.{plan_of_text};
-ghost use Rattle.sbe_layout.specs.Legal.{LegalPlan};
 ghost use Rattle.sbe_layout.specs.declared.plan.Plan as plans;
 ghost use Rattle.cmd_base.specs.Texts.{ReadsWithin};
-ghost use Rattle.cmd_delivered.specs.Promise.{Gave, IsRefusal, Judges, StopsAtSchema, outcome_of};
+ghost use Rattle.cmd_by_schema.specs.Outcomes.{Judges, StopsAtSchema};
+ghost use Rattle.cmd_delivered.specs.Promise.{Gave, outcome_of};
 
-use crate::outcome::{Outcome, Text};
-use cmd_base::{Status, begin, read_config};
-use conn_told::{ToldEnd, tell_lines};
+use cmd_base::begin;
+use cmd_by_schema::{Outcome, Text, plan_from};
+use conn_told::{ToldEnd, Wrong, tell_lines};
 use gw_outside::{Sink, Source};
-use sbe_layout::Plan;
 use std::alloc::Global;
 use std::sync::Wait;
 
@@ -25,30 +24,8 @@ pub struct DeliveredDevices<S, K> {
     pub out: K,
 }
 
-/// The plan of the schema that a source gives.
-///
-/// # Errors
-/// `Config` with the fault of the text, `InputFault` where the source failed, and `Memory`.
-fn plan_from<S: Source>(alloc: Global, schema: &mut S) -> Result<Plan, Outcome>
-    ensures legal { IfOk result LegalPlan }
-    ensures ok { IfOk result (λ plan. (text : List ℕ) → S.left schema.old ≡ Some text → plan_of_text text ≡ Ok plan) }
-    ensures refused { IfErr result (λ outcome. (text : List ℕ) → S.left schema.old ≡ Some text → Judges outcome (plan_of_text text)) }
-    ensures within { ReadsWithin (S.left schema.old) (S.left schema.new) (text_limit + 1) }
-    ensures counted { S.faults schema.old ≤ S.faults schema.new }
-    ensures fault { IsErrOf result (Outcome.InputFault Text.Schema) → HasRisen (S.faults schema.old) (S.faults schema.new) }
-    ensures refusal { IfErr result IsRefusal }
-{
-    match read_config::<S, Plan>(alloc, (), schema) {
-        Ok(plan) => Ok(plan),
-        Err(Status::Config(fault)) => Err(Outcome::Config(fault)),
-        Err(Status::InputFault) => Err(Outcome::InputFault { text: Text::Schema }),
-        // No status but want of memory is left.
-        Err(_) => Err(Outcome::Memory),
-    }
-}
-
 /// How the telling of lines ends a run.
-fn outcome_of(end: ToldEnd) -> Outcome
+fn outcome_of(end: ToldEnd) -> Outcome<Wrong>
     ensures { result ≡ outcome_of end }
 {
     match end {
@@ -66,7 +43,7 @@ pub fn run_delivered<R: Wait, S: Source, K: Sink>(
     rt: &R,
     alloc: Global,
     devices: &mut DeliveredDevices<S, K>,
-) -> Outcome
+) -> Outcome<Wrong>
     ensures verdict { (text : List ℕ) → S.left devices.old.schema ≡ Some text → Judges result (plan_of_text text) }
     ensures gave { (text lines : List ℕ) → S.left devices.old.schema ≡ Some text → S.left devices.old.lines ≡ Some lines → (plan : plans.Plan) → plan_of_text text ≡ Ok plan
         → Gave plan lines (K.taken devices.old.out) (K.taken devices.new.out) result }

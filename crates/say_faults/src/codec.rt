@@ -232,11 +232,11 @@ fn element_at<'a>(plan: &'a Plan, message: Option<&'a Message>, path: &Path) -> 
 
 /// A message of a text, and the lines before it.
 #[derive(Clone, Copy)]
-struct Placed<'a> {
+pub(crate) struct Placed<'a> {
     /// How many lines stand before it.
-    lines_before: u64,
+    pub(crate) lines_before: u64,
     /// The text from it on.
-    text: &'a [u8],
+    pub(crate) text: &'a [u8],
 }
 
 /// Adds the line of a message in which this element stands, in brackets.
@@ -269,7 +269,7 @@ fn push_path_fault(
 }
 
 /// Adds why a message may not be written.
-fn push_message_fault(
+pub(crate) fn push_message_fault(
     alloc: Global,
     line: &mut String,
     plan: &Plan,
@@ -391,6 +391,17 @@ pub fn push_text_fault(
     number: u64,
 ) -> Result<(), AllocError> {
     write!(line, "line {number}: ")?;
+    push_text_fault_at(alloc, line, plan, text, number)
+}
+
+/// Adds what has to stand at the line of this number in a text.
+pub(crate) fn push_text_fault_at(
+    alloc: Global,
+    line: &mut String,
+    plan: &Plan,
+    text: &[u8],
+    number: u64,
+) -> Result<(), AllocError> {
     let mut path = Vec::new(alloc);
     let awaited = push_awaited(alloc, &mut path, plan, text, number)?;
     push_awaited_fault(line, plan, line_at(text, number), path.as_slice(), awaited)

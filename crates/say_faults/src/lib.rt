@@ -9,6 +9,7 @@ mod plan;
 mod reject;
 mod session;
 mod told;
+mod unplanned;
 mod walk;
 
 pub use codec::{push_decode_fault, push_encode_fault, push_text_fault};
@@ -17,3 +18,4 @@ pub use plan::push_plan_fault;
 pub use reject::push_rejected;
 pub use session::push_broken_rule;
 pub use told::push_told_fault;
+pub use unplanned::push_unplanned;

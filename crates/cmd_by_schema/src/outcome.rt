@@ -1,8 +1,7 @@
-//! How a run of `delivered` ended: the status that is printed, and that the program exits with.
+//! How a run ended: the status that is printed, and that the program exits with.
 
 ghost use Rattle.std.specs.Prelude.{◌≡◌};
 
-use conn_told::Wrong;
 use schema_toml::ConfigFault;
 use thiserror::Error;
 
@@ -11,35 +10,35 @@ use thiserror::Error;
 pub enum Text {
     /// SCHEMA, which is read first.
     Schema,
-    /// LINES.
+    /// The lines.
     Lines,
 }
 
-/// How a run ended.
+/// How a run ended; `W` is why a line is refused.
 #[derive(Debug, Drop, Error)]
-pub enum Outcome {
-    /// All lines were told, and the text was written.
+pub enum Outcome<W> {
+    /// All lines were taken, and what they make was written.
     #[error("done")]
     Done,
     /// SCHEMA is no schema: the fault, and its place.
     #[error("config: SCHEMA is no schema")]
     Config(ConfigFault),
     /// A text could not be read.
-    #[error("input: SCHEMA or LINES could not be read")]
+    #[error("input: a text could not be read")]
     InputFault { text: Text },
     /// OUT could not be written.
     #[error("output: OUT could not be written")]
     OutputFault,
-    /// The line of this number, from 1 on, is refused; the text of those before it was written.
-    #[error("message: a line of LINES is refused")]
-    Refused { line: u64, wrong: Wrong },
+    /// The line of this number, from 1 on, is refused; what those before it make was written.
+    #[error("message: a line is refused")]
+    Refused { line: u64, wrong: W },
     /// Want of memory.
     #[error("out of memory")]
     Memory,
 }
 
-impl Outcome {
-    ghost use Rattle.cmd_delivered.specs.Promise.{code_of, name_of};
+impl<W> Outcome<W> {
+    ghost use Rattle.cmd_by_schema.specs.Outcomes.{code_of, name_of};
 
     /// The number that the program exits with.
     pub fn code(&self) -> u8

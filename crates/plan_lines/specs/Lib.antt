@@ -1,0 +1,5 @@
+pub mod Entries
+pub mod Laws
+pub mod Lines
+pub mod Planned
+pub mod Progress
