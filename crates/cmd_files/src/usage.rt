@@ -6,7 +6,7 @@ use say_words::quoted;
 use session_files::{are_both_standard, role_of};
 use std::alloc::{AllocError, Global};
 
-pub const VERSION: &str = "fixpgw 0.5.0";
+pub const VERSION: &str = "fixpgw 0.6.0";
 
 const USAGE: &str =
     "fixpgw: an order gateway for sessions of the FIX Performance Session Layer (FIXP) 1.1
@@ -17,6 +17,8 @@ const USAGE: &str =
                                         a session as the initiator: makes up to N connections to ADDRESS
   fixpgw accept|connect .. OUT ACCEPTED the same, with INPUT sent as it comes, and told on ACCEPTED line by line
   fixpgw answer CONFIG INPUT WIRE OUT   answers the recorded client in INPUT: replies to WIRE, messages to OUT
+  fixpgw muxanswer CONFIG INPUT WIRE OUT
+                                        answers the recorded client of several sessions in INPUT, each as answer would
   fixpgw check CONFIG OUT               checks the schema in CONFIG, and prints its layout to OUT
   fixpgw decode CONFIG INPUT OUT        prints the messages in the frames of INPUT as text to OUT
   fixpgw delivered SCHEMA LINES OUT     prints the messages that the lines of a session's OUT tell of as text to OUT
@@ -26,6 +28,7 @@ const USAGE: &str =
   fixpgw format OUTBOX INBOX            makes the two journals of a new session
   fixpgw journal OUTBOX INBOX OUT       prints both journals to OUT
   fixpgw migrate OLD NEW                moves a journal of format 1 to a file of its own, in the format of today
+  fixpgw plan SCHEMA TEXT OUT           prints the messages in TEXT as lines of INPUT for their senders
   fixpgw datagram CONFIG OUT            packs messages into datagrams, delivers those that CONFIG lists, and prints what comes to OUT
   fixpgw rehearse CONFIG OUT            runs two ends in memory by the script in CONFIG, and prints what both hold to OUT
   fixpgw soak N OUT                     runs two ends in memory over N messages, with cuts, and prints what both hold to OUT
@@ -35,7 +38,7 @@ const USAGE: &str =
   fixpgw --quiet COMMAND ..             accept and connect say on standard error only what is refused, broken or lost
 
 OUT may be -, which is standard output; so may ACCEPTED, where OUT is not. The last line on standard output is `status N NAME`, but where OUT of
-delivered, dump or extends is -, then it is on standard error. N is the exit status: 0 done, 1 words, 2 config, 3 input-fault, 4 output-fault,
+delivered, dump, extends or plan is -, then it is on standard error. N is the exit status: 0 done, 1 words, 2 config, 3 input-fault, 4 output-fault,
 5 journal-fault, 6 journal-bad, 7 dial-fault, 8 unfinished, 9 rejected, 10 full, 11 turns, 12 message, 13 undrained, 14 memory.";
 
 const ACCEPT: &str = "usage: fixpgw accept ADDRESS N CONFIG INPUT OUTBOX INBOX OUT [ACCEPTED]
@@ -83,6 +86,17 @@ The acceptor's session over the recorded bytes of a client.
   INPUT    the bytes that the client sent (read)
   WIRE     the acceptor's replies (written)
   OUT      a line `deliver N HEX` for each message applied (written); - is standard output";
+
+const MUXANSWER: &str = "usage: fixpgw muxanswer CONFIG INPUT WIRE OUT
+
+Several acceptors' sessions over the recorded bytes of one client, each of whose frames belongs to the session that the last Context before
+it names. Each session is answered as answer would answer its own frames.
+
+  CONFIG   the sessions, as TOML: a list `session` of 1 to 64 tables, each with the keys of answer (read)
+  INPUT    the bytes that the client sent (read)
+  WIRE     the replies, each behind a Context where another session wrote before (written)
+  OUT      `S deliver N HEX` for each message applied by session S, which counts from 1 in CONFIG, and `S violation V` where S broke rule V
+           (written); - is standard output";
 
 const CHECK: &str = "usage: fixpgw check CONFIG OUT
 
@@ -158,6 +172,17 @@ for INBOX. The first byte of NEW is written last: cut off at any moment, it leav
   OLD      the journal of format 1 (read, and kept to this process meanwhile; it stays as it is)
   NEW      the journal of format 2 (made where it is missing; else it is empty, or what was begun of this journal)";
 
+const PLAN: &str = "usage: fixpgw plan SCHEMA TEXT OUT [--numbered [--from S K]..]
+
+Prints the messages of a text as lines of INPUT for accept and connect, each as soon as its last line is there. A line `sender S` before a message gives
+it, and those behind it, to sender S, from 1 to 16; messages before any such line are those of sender 1. A line `finish` between messages is printed as it is.
+
+  SCHEMA      the schema of the messages, as TOML (read); - is standard input
+  TEXT        the lines of the messages, as decode prints them, and of their senders (read); - is standard input, where SCHEMA is not
+  OUT         lines `S HEX` (written); - is standard output, and then the status goes to standard error
+  --numbered  lines `S K HEX`, where K counts the messages of S from 1
+  --from S K  the first message of sender S is its K-th; once for each sender";
+
 const DATAGRAM: &str = "usage: fixpgw datagram CONFIG OUT
 
 Numbers messages of a recoverable or an idempotent flow, packs them into datagrams, and delivers these to a receiver as CONFIG lists
@@ -200,6 +225,8 @@ fn usage_of(command: &str) -> Option<&'static str> {
         "format" => Some(FORMAT),
         "journal" => Some(JOURNAL),
         "migrate" => Some(MIGRATE),
+        "muxanswer" => Some(MUXANSWER),
+        "plan" => Some(PLAN),
         "datagram" => Some(DATAGRAM),
         "rehearse" => Some(REHEARSE),
         "soak" => Some(SOAK),

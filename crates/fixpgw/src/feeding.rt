@@ -91,7 +91,7 @@ fn kept_out_of<'a, R: Print>(
 }
 
 /// The devices of a session over this dialer and these files, watched by this teller.
-fn devices<'a, 't, R: Files<File = File> + Print + AllocGlobal, I, A, D, N>(
+fn devices<'a, 't, R: Clock + Files<File = File> + Print + AllocGlobal, I, A, D, N>(
     rt: &'a R,
     session: Session<'a>,
     files: SessionFiles<'a, D>,

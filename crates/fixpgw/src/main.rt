@@ -6,7 +6,9 @@ mod datagrams;
 mod dumping;
 mod extending;
 mod feeding;
+mod muxes;
 mod piped;
+mod planning;
 mod progress;
 mod rehearsals;
 mod sessions;
@@ -21,6 +23,8 @@ use extending::{ExtendsFiles, extends_over_files};
 use feeding::{AcceptedFile, Feeds, feed_over_sockets};
 use gw_fed_files::ComingFile;
 use gw_real::{FileDisk, Opening};
+use muxes::{MuxFiles, answer_over_files};
+use planning::{PlanFiles, plan_over_files};
 use rehearsals::{RehearsalFiles, rehearse_over_files};
 use session_files::Session;
 use sessions::{SessionFiles, hold_stream, run_over_sockets};
@@ -94,8 +98,14 @@ fn run_words<R: Threads + Wait + Sync + Clock + Files<File = File> + Print + Epr
     if let Some(files) = ExtendsFiles::of(words) {
         return extends_over_files(rt, files);
     }
+    if let Some(files) = PlanFiles::of(words) {
+        return plan_over_files(rt, files);
+    }
     if let Some(files) = DeliveredFiles::of(words) {
         return tell_over_files(rt, files);
+    }
+    if let Some(files) = MuxFiles::of(words) {
+        return answer_over_files(rt, files);
     }
     if let Some(files) = DumpFiles::of(words) {
         return dump_over_files(rt, files);

@@ -53,7 +53,7 @@ pub fn out_of<'a, R: Print>(
 }
 
 /// The devices of a session over this dialer and these files, watched by this teller.
-fn devices<'a, 't, R: Files<File = File> + Print + AllocGlobal, D, N>(
+fn devices<'a, 't, R: Clock + Files<File = File> + Print + AllocGlobal, D, N>(
     rt: &'a R,
     session: Session<'a>,
     files: SessionFiles<'a, D>,

@@ -2,7 +2,9 @@
 
 use crate::piped::{Ended, finish_piped, input_path, is_closed, named, push_unread, said};
 use crate::sessions::out_of;
-use cmd_delivered::{DeliveredDevices, Outcome, Text, run_delivered};
+use cmd_by_schema::{Outcome, Text};
+use cmd_delivered::{DeliveredDevices, run_delivered};
+use conn_told::Wrong;
 use gw_outside::{Sink, Source};
 use gw_real::{FileSink, FileSource, Named, STANDARD_OUTPUT};
 use say_config::{Wanted, push_config_fault};
@@ -58,7 +60,7 @@ impl<'a> DeliveredFiles<'a> {
         &self,
         rt: &R,
         line: &mut String,
-        outcome: &Outcome,
+        outcome: &Outcome<Wrong>,
         devices: &Devices<'_, R>,
     ) -> Result<(), AllocError> {
         let schema = devices.schema.kept().bytes();
@@ -93,7 +95,7 @@ fn run_over<R: Wait, S: Source, K: Sink>(
     rt: &R,
     alloc: Global,
     devices: &mut DeliveredDevices<S, K>,
-) -> Outcome {
+) -> Outcome<Wrong> {
     run_delivered(rt, alloc, devices)
 }
 
