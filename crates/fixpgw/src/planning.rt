@@ -1,5 +1,7 @@
 //! The messages of a text as lines of INPUT, over the files that its words name.
 
+ghost use Rattle.std.specs.Prelude.{◌<◌, IfSome};
+
 use crate::piped::{Ended, finish_piped, input_path, is_closed, named, push_unread, said};
 use crate::sessions::out_of;
 use cmd_by_schema::{Outcome, Text};
@@ -34,7 +36,9 @@ pub struct PlanFiles<'a> {
 }
 
 /// The place of a sender among all, from 0, which a word names from 1 on.
-fn place_of(word: &str) -> Option<usize> {
+fn place_of(word: &str) -> Option<usize>
+    ensures { IfSome result (λ place. place < 16) }
+{
     match number(word.as_bytes()) {
         Some(sender) if sender >= 1 && sender <= SENDERS => Some(sender as usize - 1),
         _ => None,
