@@ -163,7 +163,7 @@ fn applied(alloc: Global, disks: Disks, peer: Sends) -> Option<u8> {
     let mut count: u8 = 0;
     for record in &records(alloc, inbox)? {
         if let Record::Apply { number, payload } = record {
-            if *number != u64::from(count) + 1
+            if *number != u64::from(count).saturating_add(1)
                 || payload.as_slice() != &message(peer.template, count)[..]
             {
                 return None;
