@@ -14,8 +14,7 @@ ghost use Rattle.sbe_text.specs.Tokens.{value_on, is_line};
 ghost use Rattle.sbe_text.specs.Reading.{read_item, read_datum, read_elements, read_entries, read_group, read_groups, named, layout_on, read_message, alone, message_of_text};
 
 use crate::error::{Refusal, TextError};
-use crate::path::begin_names;
-use crate::spare::Spare;
+use crate::path::{open_entry, open_group};
 use crate::token::{Count, behind, datum, entry_count, value, value_on};
 use sbe_layout::{BlockPlan, DataPlan, GroupPlan, ItemPlan, MessagePlan, MessagePlans, Plan};
 use sbe_value::{Block, Blocks, Bytes, Datum, Datums, Group, Groups, Item, Items, Message};
@@ -39,8 +38,7 @@ pub fn parse_message(alloc: Global, plan: &Plan, lines: &[u8]) -> Result<Message
 fn parse(alloc: Global, plan: &Plan, lines: &[u8]) -> Result<Message, TextError>
     ensures { Tells result (message_of_text plan.now lines.now) }
 {
-    let mut spare = Spare::new(alloc);
-    match read_whole(alloc, &mut spare, plan, lines) {
+    match read_whole(alloc, plan, lines) {
         Ok(message) => Ok(message),
         Err(Refusal::Left(left)) => Err(refused_line(lines, left)),
         Err(Refusal::Memory) => Err(TextError::Memory),
@@ -60,24 +58,7 @@ pub fn first_message<'a>(
     ensures told { Gives (λ x. (x.0, lines_in x.1.now)) result (read_message plan.now.messages (lines_in text.now)) }
     ensures shorter { IfOk result (λ x. length (lines_in x.1.now) < length (lines_in text.now)) }
 {
-    let mut spare = Spare::new(alloc);
-    next_message(alloc, &mut spare, plan, text)
-}
-
-/// The same, with room of messages before it, which [`Spare::keep`] kept.
-///
-/// # Errors
-/// As [`first_message`].
-pub fn next_message<'a>(
-    alloc: Global,
-    spare: &mut Spare,
-    plan: &Plan,
-    text: &'a [u8],
-) -> Result<(Message, &'a [u8]), Refusal>
-    ensures told { Gives (λ x. (x.0, lines_in x.1.now)) result (read_message plan.now.messages (lines_in text.now)) }
-    ensures shorter { IfOk result (λ x. length (lines_in x.1.now) < length (lines_in text.now)) }
-{
-    read_message(alloc, spare, plan, text)
+    read_message(alloc, plan, text)
 }
 
 /// The number of the line of a text, from 1, at which so many lines are left.
@@ -99,15 +80,10 @@ fn refused(text: &[u8]) -> Refusal
 }
 
 // The message that a whole text spells.
-fn read_whole(
-    alloc: Global,
-    spare: &mut Spare,
-    plan: &Plan,
-    text: &[u8],
-) -> Result<Message, Refusal>
+fn read_whole(alloc: Global, plan: &Plan, text: &[u8]) -> Result<Message, Refusal>
     ensures { Gives (λ m. m) result (alone (read_message plan.now.messages (lines_in text.now))) }
 {
-    let (message, rest) = read_message(alloc, spare, plan, text)?;
+    let (message, rest) = read_message(alloc, plan, text)?;
     match first_line(rest) {
         None => Ok(message),
         Some(_) => Err(refused(rest)),
@@ -117,14 +93,13 @@ fn read_whole(
 // The message at the front of a text.
 fn read_message<'a>(
     alloc: Global,
-    spare: &mut Spare,
     plan: &Plan,
     left: &'a [u8],
 ) -> Result<(Message, &'a [u8]), Refusal>
     ensures { Gives (λ x. (x.0, lines_in x.1.now)) result (read_message plan.now.messages (lines_in left.now)) }
 {
     let (layout, rest) = read_layout(&plan.messages, left)?;
-    let (root, rest) = read_block(alloc, spare, b"", &layout.root, rest)?;
+    let (root, rest) = read_block(alloc, b"", &layout.root, rest)?;
     let rest = read_end(rest)?;
     Ok((
         Message {
@@ -135,8 +110,8 @@ fn read_message<'a>(
     ))
 }
 
-// The layout that the line of a message names.
-fn read_layout<'p, 'a>(
+/// The layout that the line of a message names.
+pub fn read_layout<'p, 'a>(
     messages: &'p MessagePlans,
     left: &'a [u8],
 ) -> Result<(&'p MessagePlan, &'a [u8]), Refusal>
@@ -172,8 +147,8 @@ fn named<'p>(messages: &'p [MessagePlan], name: &[u8]) -> Option<&'p MessagePlan
     None
 }
 
-// The line `end`.
-fn read_end(left: &[u8]) -> Result<&[u8], Refusal>
+/// The line `end`.
+pub fn read_end(left: &[u8]) -> Result<&[u8], Refusal>
     ensures { Gives (λ rest. (codes "end", lines_in rest.now)) result (read_line (is_line (codes "end")) (lines_in left.now)) }
 {
     match first_line(left) {
@@ -182,8 +157,12 @@ fn read_end(left: &[u8]) -> Result<&[u8], Refusal>
     }
 }
 
-// The value on the line of an element.
-fn element<'a>(before: &[u8], name: &Bytes, left: &'a [u8]) -> Result<(&'a [u8], &'a [u8]), Refusal>
+/// The value on the line of an element.
+pub fn element<'a>(
+    before: &[u8],
+    name: &Bytes,
+    left: &'a [u8],
+) -> Result<(&'a [u8], &'a [u8]), Refusal>
     ensures { Gives (λ x. (x.0.now, lines_in x.1.now)) result (read_line (value_on before.now name.now) (lines_in left.now)) }
 {
     let Some((line, rest)) = first_line(left) else {
@@ -212,14 +191,13 @@ fn read_item<'a>(
 
 fn read_items<'a>(
     alloc: Global,
-    spare: &mut Spare,
     before: &[u8],
     plans: &[ItemPlan],
     left: &'a [u8],
 ) -> Result<(Vec<Item>, &'a [u8]), Refusal>
     ensures { Gives (λ x. (x.0.items, lines_in x.1.now)) result (read_each (read_item before.now) plans.now (lines_in left.now)) }
 {
-    let mut items = spare.room(alloc, plans.len())?;
+    let mut items = Vec::with_capacity(alloc, plans.len())?;
     let mut left = left;
     for plan in plans {
         let (item, rest) = read_item(alloc, before, plan, left)?;
@@ -266,15 +244,14 @@ fn read_data<'a>(
 #[cycle(groups)]
 fn read_block<'a>(
     alloc: Global,
-    spare: &mut Spare,
     before: &[u8],
     plan: &BlockPlan,
     left: &'a [u8],
 ) -> Result<(Block, &'a [u8]), Refusal>
     ensures { Gives (λ x. (entry_of x.0, lines_in x.1.now)) result (read_elements before.now plan.now.items (read_groups before.now plan.now.groups) plan.now.vars (lines_in left.now)) }
 {
-    let (items, left) = read_items(alloc, spare, before, plan.items.as_slice(), left)?;
-    let (groups, left) = read_groups(alloc, spare, before, plan.groups.as_slice(), left)?;
+    let (items, left) = read_items(alloc, before, plan.items.as_slice(), left)?;
+    let (groups, left) = read_groups(alloc, before, plan.groups.as_slice(), left)?;
     let (vars, left) = read_data(alloc, before, plan.vars.as_slice(), left)?;
     Ok((
         Block {
@@ -289,7 +266,6 @@ fn read_block<'a>(
 #[cycle(groups)]
 fn read_groups<'a>(
     alloc: Global,
-    spare: &mut Spare,
     before: &[u8],
     plans: &[GroupPlan],
     left: &'a [u8],
@@ -299,7 +275,7 @@ fn read_groups<'a>(
     let mut groups = Vec::with_capacity(alloc, plans.len())?;
     let mut left = left;
     for plan in plans {
-        let (group, rest) = read_group(alloc, spare, before, plan, left)?;
+        let (group, rest) = read_group(alloc, before, plan, left)?;
         groups.push(group)?;
         left = rest;
     }
@@ -310,7 +286,6 @@ fn read_groups<'a>(
 #[cycle(groups)]
 fn read_group<'a>(
     alloc: Global,
-    spare: &mut Spare,
     before: &[u8],
     plan: &GroupPlan,
     left: &'a [u8],
@@ -322,7 +297,7 @@ fn read_group<'a>(
         None => Err(refused(left)),
         Some(Count::Absent) => Ok((Group::Absent, rest)),
         Some(Count::Entries(count)) => {
-            let (entries, rest) = read_entries(alloc, spare, before, plan, count, rest)?;
+            let (entries, rest) = read_entries(alloc, before, plan, count, rest)?;
             Ok((Group::Entries(Blocks::from(entries)), rest))
         }
     }
@@ -332,7 +307,6 @@ fn read_group<'a>(
 #[cycle(groups)]
 fn read_entries<'a>(
     alloc: Global,
-    spare: &mut Spare,
     before: &[u8],
     plan: &GroupPlan,
     count: u128,
@@ -342,10 +316,13 @@ fn read_entries<'a>(
 {
     let mut entries = room_for(alloc, &plan.block, count)?;
     let mut inner = Vec::new(alloc);
+    inner.extend_from_slice(before)?;
+    open_group(&plan.name, &mut inner)?;
+    let opened = inner.len();
     let mut left = left;
     for at in 0..count {
-        begin_names(before, plan, at, &mut inner)?;
-        let (entry, rest) = read_block(alloc, spare, inner.as_slice(), &plan.block, left)?;
+        open_entry(opened, at, &mut inner)?;
+        let (entry, rest) = read_block(alloc, inner.as_slice(), &plan.block, left)?;
         entries.push(entry)?;
         left = rest;
     }
