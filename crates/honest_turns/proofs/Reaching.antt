@@ -3,6 +3,7 @@ use Rattle.std.proofs.Common.{◌≡◌, ℕ, List, [], ◌∷◌, ◌++◌, map
 use Rattle.session_model.specs.Journal.{Entry}
 use Rattle.connection_laws.specs.Writing.{Piece}
 use Rattle.honest_ends.specs.Worlds.{World, Step, meets, initiator_reads, acceptor_reads, initiator_does, acceptor_does, initiator_read, acceptor_read, after, MayStep, world_after, AllMayStep}
+use Rattle.honest_turns.specs.Steps.{turned_step}
 
 -- steps lead from one world to another, and each may come
 pub record Reaches (hi ha : List Entry) (w v : World) : Type 0 where
@@ -31,16 +32,13 @@ and_then hi ha w v u x y = record {
   there = after_append w x.steps y.steps ∙ (ap (λ (k : World). world_after k y.steps) x.there ∙ y.there);
 }
 
+-- the same steps lead to a world by another name
+pub leads : (hi ha : List Entry) (w v u : World) → Reaches hi ha w v → v ≡ u → Reaches hi ha w u
+leads hi ha w v u x e = record { steps = x.steps; may = x.may; there = x.there ∙ e }
+
 -- the world seen from its other end
 abbrev pub turned : World → World
 turned w = record { initiator = w.acceptor; acceptor = w.initiator; outward = w.homeward; homeward = w.outward }
-
-abbrev turned_step : Step → Step
-turned_step (meets now_i now_a) = meets now_a now_i
-turned_step (initiator_reads at now) = acceptor_reads at now
-turned_step (acceptor_reads at now) = initiator_reads at now
-turned_step (initiator_does call) = acceptor_does call
-turned_step (acceptor_does call) = initiator_does call
 
 acceptor_turned : (w : World) (ps : List Piece) (at now : ℕ) → acceptor_read (turned w) ps at now ≡ turned (initiator_read w ps at now)
 acceptor_turned w [] at now = refl
@@ -50,7 +48,7 @@ initiator_turned : (w : World) (ps : List Piece) (at now : ℕ) → initiator_re
 initiator_turned w [] at now = refl
 initiator_turned w (p ∷ later) at now = refl
 
-after_turned : (w : World) (s : Step) → after (turned w) (turned_step s) ≡ turned (after w s)
+pub after_turned : (w : World) (s : Step) → after (turned w) (turned_step s) ≡ turned (after w s)
 after_turned w (meets now_i now_a) = refl
 after_turned w (initiator_reads at now) = acceptor_turned w w.homeward at now
 after_turned w (acceptor_reads at now) = initiator_turned w w.outward at now

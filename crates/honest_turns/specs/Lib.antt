@@ -5,4 +5,5 @@ pub mod Lives
 pub mod Sessions
 pub mod Samples
 pub mod Counting
+pub mod Steps
 pub mod Waiting

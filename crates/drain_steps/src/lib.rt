@@ -1,0 +1,6 @@
+//! Laws of the steps of two ends of one session, one behind another. Each function has an empty body; its clause is a statement.
+#![tactic(auto)]
+
+mod ranges;
+
+pub use ranges::ranges_hold;
