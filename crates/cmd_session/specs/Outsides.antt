@@ -7,6 +7,8 @@ use Rattle.gw_links.specs.declared.dialer.Dialer.{Ghosts as DialerGhosts}
 use Rattle.gw_links.specs.declared.link.Link.{Ghosts as LinkGhosts}
 use Rattle.gw_links.specs.declared.clock.Clock.{Ghosts as ClockGhosts}
 use Rattle.gw_links.specs.Dialers.{DialerTold}
+use Rattle.jr_dated.specs.declared.journal.Journal.{Ghosts}
+use Rattle.conn_serve.specs.declared.life.Lent.{Lent}
 use Rattle.cmd_base.specs.Causes.{SessionCounts}
 use Rattle.cmd_base.specs.Contents.{Disks}
 use Rattle.cmd_session.specs.declared.outside.Live.{Live}
@@ -103,3 +105,8 @@ module _ {S K D N C : Type 0} where
   pub record KeepsBehindConfig (before after : SessionOutside S K D N C) : Type 0 where
     pub out_disk : after.out_disk ≡ before.out_disk
     pub behind : KeepsBehindOutbox before after
+
+module _ {K N C O I : Type 0} {G : Ghosts O} {H : Ghosts I} where
+  -- of what is lent to a life, OUT, the dialer and the clock
+  abbrev pub live_in : Lent K N O I C G H → Live K N C
+  live_in lent = record { out = lent.out; dialer = lent.dialer; clock = lent.clock }

@@ -20,6 +20,9 @@ use Rattle.life_laws.specs.PlanLives.{clocked, LivesOnceClosed}
 use Rattle.life_laws.specs.Answered.{answering}
 use Rattle.life_laws.specs.AnsweredLives.{AreParted}
 use Rattle.cmd_session.specs.Answers.{desks_of, plan_of}
+use Rattle.gate_senders.specs.Gate.{opening_of}
+use Rattle.conn_serve.specs.Hears as lives
+use Rattle.cmd_session.proofs.Opened.{seen_by, opens_with}
 use Rattle.cmd_session.proofs.Crossing.{hand_send, desks_send, book_desk_send}
 use Rattle.cmd_session.proofs.Parted.{none_began, answerer_goes_on}
 use Rattle.cmd_session.proofs.answering.serve_answerer.Goals as goal
@@ -46,28 +49,48 @@ serve_business-requires-in-Ok-new-send-B g c κs within =
     let all : IsSend (BookDesk.the_row o g.O.Journal) = book_desk_send o g.O.Journal desk c.form_sends.ensures c.book_sends.ensures in
     record { owned = all.owned; leaving = (param_send 5 (BookDesk.the_row o g.O.Journal) all).leaving }
 
+pub serve_business-requires-clause-may : goal.serve_business-requires-clause-may
+serve_business-requires-clause-may g c κs within =
+    let took = c.take_connection-pass.ensures in
+    let n = desks_of c.args.answerer in
+    let counted = c.desks-count.ensures in
+    let at_last = c.requires.made.each (n + 1) (record { from_one = omega arith; up_to = omega arith }) in
+    let opened = seen_by c.take_connection-pass.result (n + 1) (n + 1) (opening_of c.args.gate.now) (subst (λ m. known c.take_connection-pass.result ≡ known_at c.args.passes (m + 1)) counted took.part ∙ at_last.1) in
+    opens_with (lives.hears g.K.Sink g.N.Dialer g.N.Link.Link g.C.Clock) c.args.gate.now c.args.config _ took.own took.free opened c.requires.sent c.requires.lent c.requires.config c.requires.flow c.requires.limit
+    c.requires.numbered
+
+pub serve_business-requires-in-Ok-new-clause-may : goal.serve_business-requires-in-Ok-new-clause-may
+serve_business-requires-in-Ok-new-clause-may g c κs within =
+    let took = c.take_connection-pass.ensures in
+    let n = desks_of c.args.answerer in
+    let counted = c.desks-count.ensures in
+    let at_last = c.requires.made.each (n + 1) (record { from_one = omega arith; up_to = omega arith }) in
+    let opened = seen_by c.take_connection-pass.result (n + 1) (n + 1) (opening_of c.args.gate.now) (subst (λ m. known c.take_connection-pass.result ≡ known_at c.args.passes (m + 1)) counted took.part ∙ at_last.1) in
+    opens_with (lives.hears g.K.Sink g.N.Dialer g.N.Link.Link g.C.Clock) c.args.gate.now c.args.config _ took.own took.free opened c.requires.sent c.requires.lent c.requires.config c.requires.flow c.requires.limit
+    c.requires.numbered
+
 pub returns-in-Ok-clause-lived : goal.returns-in-Ok-clause-lived
 returns-in-Ok-clause-lived g c =
     let served = c.serve_business in
     let made = c.in-Ok.ensures.made in
     let terms = c.in-Desks.terms in
-    let over = clocked g.O.Journal.tells g.N.Link.Link (g.C.Clock.last c.args.devices.now.clock) (g.C.Clock.last served.new.devices.clock) in
-    let old = beside (g.N.Dialer.told c.args.devices.now.dialer) (g.K.Sink.taken c.args.devices.now.out) c.args.inbox.now in
-    let new = beside (g.N.Dialer.told served.new.devices.dialer) (g.K.Sink.taken served.new.devices.out) served.new.inbox in
+    let over = clocked g.O.Journal.tells g.N.Link.Link (g.C.Clock.last c.args.devices.clock) (g.C.Clock.last served.result.devices.clock) in
+    let old = beside (g.N.Dialer.told c.args.devices.dialer) (g.K.Sink.taken c.args.devices.out) c.args.inbox in
+    let new = beside (g.N.Dialer.told served.result.devices.dialer) (g.K.Sink.taken served.result.devices.out) served.result.inbox in
     let same : answering (desks.plan_of c.in-Ok.desks) c.in-Ok.desks.desks ≡ answering (plan_of c.args.answerer) (desks_of c.args.answerer) =
     ap (λ p. answering p c.in-Ok.desks.desks) made.plan
     ∙ (ap (λ n. answering (desk_plan terms.desks terms.version terms.reference) n) made.desks ∙ ap (λ a. answering (plan_of a) (desks_of a)) (sym c.in-Desks.is)) in
-    subst (λ (s : Senders). LivesOnceClosed over c.args.config s old new c.args.gate.now served.result.1 served.result.0) same served.ensures.lived
+    subst (λ (s : Senders). LivesOnceClosed over c.args.config s old new c.args.gate.now served.result.passes served.result.answer) same served.ensures.lived
 
 pub returns-in-Ok-new-clause-lived : goal.returns-in-Ok-new-clause-lived
 returns-in-Ok-new-clause-lived g c =
     let served = c.serve_business-in-Ok-new in
-    let over = clocked g.O.Journal.tells g.N.Link.Link (g.C.Clock.last c.args.devices.now.clock) (g.C.Clock.last served.new.devices.clock) in
-    let old = beside (g.N.Dialer.told c.args.devices.now.dialer) (g.K.Sink.taken c.args.devices.now.out) c.args.inbox.now in
-    let new = beside (g.N.Dialer.told served.new.devices.dialer) (g.K.Sink.taken served.new.devices.out) served.new.inbox in
+    let over = clocked g.O.Journal.tells g.N.Link.Link (g.C.Clock.last c.args.devices.clock) (g.C.Clock.last served.result.devices.clock) in
+    let old = beside (g.N.Dialer.told c.args.devices.dialer) (g.K.Sink.taken c.args.devices.out) c.args.inbox in
+    let new = beside (g.N.Dialer.told served.result.devices.dialer) (g.K.Sink.taken served.result.devices.out) served.result.inbox in
     let same : answering (book_desk.plan_of c.in-Ok-new.book) (book_desk.count_of c.in-Ok-new.book) ≡ answering (plan_of c.args.answerer) (desks_of c.args.answerer) =
     ap (λ p. answering p 1) c.in-Ok-new.ensures.plan ∙ ap (λ a. answering (plan_of a) (desks_of a)) (sym c.in-Book.is) in
-    subst (λ (s : Senders). LivesOnceClosed over c.args.config s old new c.args.gate.now served.result.1 served.result.0) same served.ensures.lived
+    subst (λ (s : Senders). LivesOnceClosed over c.args.config s old new c.args.gate.now served.result.passes served.result.answer) same served.ensures.lived
 
 pub returns-in-Err-clause-lived : goal.returns-in-Err-clause-lived
 returns-in-Err-clause-lived g c =
@@ -78,16 +101,20 @@ returns-in-Err-clause-lived g c =
     let passes : (k : ℕ) → In n k → known_at c.in-Err.passes k ≡ known_at c.args.passes k = λ k h.
     ap (λ p. known_at p k) c.in-Err.ensures.back ∙ took.parts k (subst (λ m. In m k) (sym counted) h) in
     let at_last = c.requires.made.each (n + 1) (record { from_one = omega arith; up_to = omega arith }) in
-    subst (λ r. LivesOnceClosed (clocked g.O.Journal.tells g.N.Link.Link (g.C.Clock.last c.args.devices.now.clock) (g.C.Clock.last c.args.devices.now.clock)) c.args.config (answering (plan_of c.args.answerer) n) (beside (g.N.Dialer.told c.args.devices.now.dialer) (g.K.Sink.taken c.args.devices.now.out) c.args.inbox.now) (beside (g.N.Dialer.told c.args.devices.now.dialer) (g.K.Sink.taken c.args.devices.now.out) c.args.inbox.now) c.args.gate.now none.result.1 r) (sym none.ensures.answer)
-    (none_began g.N.Link.Link _ c.args.gate.now none.result.1 c.args.config _ _ c.args.inbox.now (plan_of c.args.answerer) n (λ k. known_at c.args.passes k) (known c.take_connection-pass.result) c.requires.in_sound c.requires.held (answerer_goes_on c.args.answerer)
+    let old = beside (g.N.Dialer.told c.args.devices.dialer) (g.K.Sink.taken c.args.devices.out) c.args.inbox in
+    let lived = λ devices inbox answer. LivesOnceClosed (clocked g.O.Journal.tells g.N.Link.Link (g.C.Clock.last c.args.devices.clock) (g.C.Clock.last devices.clock)) c.args.config (answering (plan_of c.args.answerer) n) old (beside (g.N.Dialer.told devices.dialer) (g.K.Sink.taken devices.out) inbox) c.args.gate.now none.result.passes answer in
+    subst (λ l. lived l none.result.inbox none.result.answer) (sym none.ensures.devices)
+    (subst (λ b. lived c.args.devices b none.result.answer) (sym none.ensures.inbox)
+    (subst (λ r. lived c.args.devices c.args.inbox r) (sym none.ensures.answer)
+    (none_began g.N.Link.Link _ c.args.gate.now none.result.passes c.args.config _ _ c.args.inbox (plan_of c.args.answerer) n (λ k. known_at c.args.passes k) (known c.take_connection-pass.result) c.requires.in_sound c.requires.held (answerer_goes_on c.args.answerer)
     (record {
       business = λ k h. (c.requires.made.each k (let up_to = h.up_to in record { from_one = h.from_one; up_to = omega (arith, up_to) })).1;
       connection = subst (λ m. known c.take_connection-pass.result ≡ known_at c.args.passes (m + 1)) counted took.part ∙ at_last.1;
     })
     (record {
       business = λ k h. sym (none.ensures.parts k (subst (λ m. In m k) (sym counted) h) ∙ passes k h);
-      connection = subst (λ m. known c.take_connection-pass.result ≡ known_at none.result.1 (m + 1)) counted (sym none.ensures.last);
-    }))
+      connection = subst (λ m. known c.take_connection-pass.result ≡ known_at none.result.passes (m + 1)) counted (sym none.ensures.last);
+    }))))
 
 pub returns-in-Err-new-clause-lived : goal.returns-in-Err-new-clause-lived
 returns-in-Err-new-clause-lived g c =
@@ -98,13 +125,17 @@ returns-in-Err-new-clause-lived g c =
     let passes : (k : ℕ) → In n k → known_at c.in-Err-new.passes k ≡ known_at c.args.passes k = λ k h.
     ap (λ p. known_at p k) c.in-Err-new.ensures.back ∙ took.parts k (subst (λ m. In m k) (sym counted) h) in
     let at_last = c.requires.made.each (n + 1) (record { from_one = omega arith; up_to = omega arith }) in
-    subst (λ r. LivesOnceClosed (clocked g.O.Journal.tells g.N.Link.Link (g.C.Clock.last c.args.devices.now.clock) (g.C.Clock.last c.args.devices.now.clock)) c.args.config (answering (plan_of c.args.answerer) n) (beside (g.N.Dialer.told c.args.devices.now.dialer) (g.K.Sink.taken c.args.devices.now.out) c.args.inbox.now) (beside (g.N.Dialer.told c.args.devices.now.dialer) (g.K.Sink.taken c.args.devices.now.out) c.args.inbox.now) c.args.gate.now none.result.1 r) (sym none.ensures.answer)
-    (none_began g.N.Link.Link _ c.args.gate.now none.result.1 c.args.config _ _ c.args.inbox.now (plan_of c.args.answerer) n (λ k. known_at c.args.passes k) (known c.take_connection-pass.result) c.requires.in_sound c.requires.held (answerer_goes_on c.args.answerer)
+    let old = beside (g.N.Dialer.told c.args.devices.dialer) (g.K.Sink.taken c.args.devices.out) c.args.inbox in
+    let lived = λ devices inbox answer. LivesOnceClosed (clocked g.O.Journal.tells g.N.Link.Link (g.C.Clock.last c.args.devices.clock) (g.C.Clock.last devices.clock)) c.args.config (answering (plan_of c.args.answerer) n) old (beside (g.N.Dialer.told devices.dialer) (g.K.Sink.taken devices.out) inbox) c.args.gate.now none.result.passes answer in
+    subst (λ l. lived l none.result.inbox none.result.answer) (sym none.ensures.devices)
+    (subst (λ b. lived c.args.devices b none.result.answer) (sym none.ensures.inbox)
+    (subst (λ r. lived c.args.devices c.args.inbox r) (sym none.ensures.answer)
+    (none_began g.N.Link.Link _ c.args.gate.now none.result.passes c.args.config _ _ c.args.inbox (plan_of c.args.answerer) n (λ k. known_at c.args.passes k) (known c.take_connection-pass.result) c.requires.in_sound c.requires.held (answerer_goes_on c.args.answerer)
     (record {
       business = λ k h. (c.requires.made.each k (let up_to = h.up_to in record { from_one = h.from_one; up_to = omega (arith, up_to) })).1;
       connection = subst (λ m. known c.take_connection-pass.result ≡ known_at c.args.passes (m + 1)) counted took.part ∙ at_last.1;
     })
     (record {
       business = λ k h. sym (none.ensures.parts k (subst (λ m. In m k) (sym counted) h) ∙ passes k h);
-      connection = subst (λ m. known c.take_connection-pass.result ≡ known_at none.result.1 (m + 1)) counted (sym none.ensures.last);
-    }))
+      connection = subst (λ m. known c.take_connection-pass.result ≡ known_at none.result.passes (m + 1)) counted (sym none.ensures.last);
+    }))))
