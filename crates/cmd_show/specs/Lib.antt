@@ -1,0 +1,4 @@
+pub mod Shown
+pub mod Words
+pub mod Promise
+pub mod Progress
