@@ -3,7 +3,6 @@
 #![tactic(auto)]
 
 mod book;
-mod desks;
 mod orders;
 
 use cases_words::{asked, begins};
@@ -13,9 +12,6 @@ fn main(rt: HostRuntime) -> io::Result<()> {
     let asked = asked(&rt)?;
     if begins(&rt, &asked, "orders")? {
         orders::print(&rt)?;
-    }
-    if begins(&rt, &asked, "desks")? {
-        desks::print(&rt)?;
     }
     if begins(&rt, &asked, "book")? {
         book::print(&rt)?;

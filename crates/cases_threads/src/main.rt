@@ -1,12 +1,10 @@
-//! What threads do together: senders at a gate, and a sender beside the connection that fetches; and sockets of this machine. A word on
-//! the command line names one section. What the program has to print stands in `stdout`, worked out by hand, and is the same whatever
-//! the threads' order.
+//! What threads do together: senders at a gate, and a sender beside the connection that fetches. A word on the command line names one
+//! section. What the program has to print stands in `stdout`, worked out by hand, and is the same whatever the threads' order.
 #![tactic(auto)]
 
 mod made;
 mod sender_at_gate;
 mod senders_at_once;
-mod sockets;
 
 use cases_words::{asked, begins};
 use std::io;
@@ -18,9 +16,6 @@ fn main(rt: HostRuntime) -> io::Result<()> {
     }
     if begins(&rt, &asked, "sender_at_gate")? {
         sender_at_gate::print(&rt)?;
-    }
-    if begins(&rt, &asked, "sockets")? {
-        sockets::print(&rt)?;
     }
     Ok(())
 }

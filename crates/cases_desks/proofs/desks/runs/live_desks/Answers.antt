@@ -9,8 +9,8 @@ use Rattle.gate_turn.specs.Rule.{In}
 use Rattle.gate_business.specs.Business.{lock_of}
 use Rattle.order_gate.specs.contracts.hand.Hand as Hand
 use Rattle.order_gate.specs.contracts.desks.Desks as Desks
-use Rattle.cases_orders.proofs.Sending.{hand_send, desks_send}
-use Rattle.cases_orders.proofs.desks.runs.live_desks.Goals as goal
+use Rattle.cases_desks.proofs.Sending.{hand_send, desks_send}
+use Rattle.cases_desks.proofs.desks.runs.live_desks.Goals as goal
 
 pub live-requires-clause-own : goal.live-requires-clause-own
 live-requires-clause-own g c κs within = c.in-Ok.ensures.own (lock_of c.args.gate.now) c.requires.these

@@ -4,8 +4,8 @@ use Rattle.gw_fakes.specs.contracts.disk.MemDiskDisk.TheImpl as on_disk
 use Rattle.jr_segments.specs.contracts.journal.SegJournal as journal
 use Rattle.jr_segments.specs.contracts.journal.SegJournalJournal.TheImpl as of_journal
 use Rattle.order_book_gate.specs.contracts.book_desk.BookDesk as BookDesk
-use Rattle.cases_orders.proofs.Sending.{book_desk_send}
-use Rattle.cases_orders.proofs.desks.runs.live_book.Goals as goal
+use Rattle.cases_desks.proofs.Sending.{book_desk_send}
+use Rattle.cases_desks.proofs.desks.runs.live_book.Goals as goal
 
 pub live-requires-send-B : goal.live-requires-send-B
 live-requires-send-B g c κs within =

@@ -1,6 +1,6 @@
 use Rattle.std.proofs.Common.{rules, ◌≡◌, ◌+◌, ◌<◌, ◌∙◌, arith}
 use Rattle.gate_turn.specs.Listed.{known_at}
-use Rattle.cases_orders.proofs.desks.runs.left.Goals as goal
+use Rattle.cases_desks.proofs.desks.runs.left.Goals as goal
 
 pub give_connection-requires : goal.give_connection-requires
 give_connection-requires g c =

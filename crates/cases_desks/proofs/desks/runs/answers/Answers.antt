@@ -7,7 +7,7 @@ use Rattle.jr_dated.specs.Dated.{Dated}
 use Rattle.jr_boxes.specs.declared.notes.Notes.{Notes}
 use Rattle.jr_kept.specs.Notes.{StandsAs, HoldsAs}
 use Rattle.gate_turn.specs.Rule.{In}
-use Rattle.cases_orders.proofs.desks.runs.answers.Goals as goal
+use Rattle.cases_desks.proofs.desks.runs.answers.Goals as goal
 
 -- it stands for the list that it holds
 stands_of : {J : Type 0} {stands : J → List Dated → Type 0} {leaves : J → Option (List Dated) → Type 0} {j : J} {flow : Flow} {n : Notes} {i : List InboxRecord}
