@@ -1,6 +1,7 @@
 -- The first line of a text, by the place of its first line feed.
-use Rattle.std.proofs.Common.{◌≡◌, ℕ, zero, suc, ◌+◌, ◌<◌, ◌≤◌, ◌==◌, Bool, true, false, ◌&&◌, not, if◌then◌else◌, List, [], ◌∷◌, ◌++◌, length, take, drop, get_or, refl, ap, sym, ◌∙◌, arith, add-one}
-use Rattle.std.proofs.lemmas.Bool.{false≢true}
+use Rattle.std.proofs.Common.{◌≡◌, ◌≢◌, ℕ, zero, suc, ◌+◌, ◌<◌, ◌≤◌, ◌==◌, Bool, true, false, ◌&&◌, not, if◌then◌else◌, List, [], ◌∷◌, ◌++◌, length, take, drop, get_or, refl, ap, sym, ◌∙◌, arith, add-one}
+use Rattle.std.proofs.lemmas.Bool.{false≢true, eqb-true}
+use Rattle.memchr.specs.Find.{Nowhere, NoneBefore, Passes, is_byte}
 use Rattle.text_words.specs.Lines.{lines_in, in_first, begins_with, unreturned}
 
 -- no byte is a line feed
@@ -64,13 +65,23 @@ first_at xs i p h e = ap lines_in (parted xs i p e) ∙ first_of_lines (take i x
     parted (x ∷ xs) zero p e = ap (λ b. b ∷ xs) e
     parted (x ∷ xs) (suc i) p e = ap (λ bs. x ∷ bs) (parted xs i (omega arith) e)
 
-pub no_more_feeds : (xs : List ℕ) (i : ℕ) → i < length xs → no_feeds (take i xs) ≡ true → (get_or xs i 0 == 10) ≡ false → no_feeds (take (i + 1) xs) ≡ true
-no_more_feeds xs i p h e = rw add-one (grow xs i p h e)
-  where
-    grow : (xs : List ℕ) (i : ℕ) → i < length xs → no_feeds (take i xs) ≡ true → (get_or xs i 0 == 10) ≡ false → no_feeds (take (suc i) xs) ≡ true
-    grow [] i p h e = absurd (omega arith)
-    grow (x ∷ xs) zero p h e = rw e refl
-    grow (x ∷ xs) (suc i) p h e = rw (not_feed x (take i xs) h) (grow xs i (omega arith) (no_more x (take i xs) h) e)
+untrue : (t : Bool) → (t ≡ true → ⊥) → t ≡ false
+untrue true h = absurd (h refl)
+untrue false h = refl
+
+-- no line feed stands before the first that is found
+none_before : (xs : List ℕ) (i : ℕ) → Nowhere (Passes (is_byte 10) xs) 0 i → no_feeds (take i xs) ≡ true
+none_before xs zero h = refl
+none_before [] (suc i) h = refl
+none_before (x ∷ xs) (suc i) h =
+    rw (untrue (x == 10) (h 0 (omega arith) (omega arith))) (none_before xs i (λ k low high. h (suc k) (omega arith) (omega arith)))
+
+pub feed_found : (xs : List ℕ) (i : ℕ) → NoneBefore (Passes (is_byte 10) xs) 0 (length xs) i → Passes (is_byte 10) xs i → lines_in xs ≡ unreturned (take i xs) ∷ lines_in (drop 1 (drop i xs))
+feed_found xs i h is = first_at xs i h.high (none_before xs i h.before) (eqb-true (get_or xs i 0) 10 is)
+
+pub no_feed_found : (xs : List ℕ) → Nowhere (Passes (is_byte 10) xs) 0 (length xs) → xs ≢ [] → lines_in xs ≡ xs ∷ []
+no_feed_found [] h some = absurd (some refl)
+no_feed_found (x ∷ xs) h some = rest_is_line (x ∷ xs) (length (x ∷ xs)) (omega arith) (none_before (x ∷ xs) (length (x ∷ xs)) h) (omega arith)
 
 -- a carriage return at the end of a line is dropped
 pub unreturned_last : (ys : List ℕ) (x : ℕ) → unreturned (ys ++ x ∷ []) ≡ (if x == 13 then ys else ys ++ x ∷ [])

@@ -3,22 +3,20 @@
 ghost use Rattle.std.specs.Prelude.{◌≡◌, [], ◌∷◌, length, MatchOption};
 ghost use Rattle.text_words.specs.Lines.{lines_in, unreturned};
 
+use memchr::memchr;
+
 /// The first line of a text, without what ends it, and the text behind it; none where the text is empty.
-#[tactic(auto, using(crate::proofs::Feeds::first_at, crate::proofs::Feeds::no_more_feeds, crate::proofs::Feeds::rest_is_line))]
 pub fn first_line(text: &[u8]) -> Option<(&[u8], &[u8])>
     ensures { MatchOption result (lines_in text.now ≡ []) (λ r. lines_in text.now ≡ r.0.now ∷ lines_in r.1.now) }
 {
-    for (at, byte) in text.iter().enumerate() {
-        if *byte == b'\n' {
+    match memchr(b'\n', text) {
+        Some(at) => {
             let (line, rest) = text.split_at(at);
             let (_, behind) = rest.split_at(1);
-            return Some((without_return(line), behind));
+            Some((without_return(line), behind))
         }
-    }
-    if text.is_empty() {
-        None
-    } else {
-        Some((text, &[]))
+        None if text.is_empty() => None,
+        None => Some((text, &[])),
     }
 }
 
