@@ -6,7 +6,6 @@
 
 use sbe_layout::Plan;
 use sbe_text::{TextError, parse_message, print_message};
-use sbe_value::Message;
 use std::alloc::{AllocError, Global};
 
 /// Adds what the text of a message is read as.
@@ -18,21 +17,18 @@ pub fn add_read(
 ) -> Result<(), AllocError> {
     let text = lines.replace(alloc, " ; ", "\n")?;
     match parse_message(alloc, plan, text.as_bytes()) {
-        Ok(message) => add_printed(alloc, plan, &message, told),
+        Ok(message) => {
+            let text = print_message(alloc, plan, &message)?;
+            add_shown(alloc, text.as_slice(), told)
+        }
         Err(TextError::Line(line)) => write!(told, "\nline {line}"),
         Err(TextError::Memory) => Err(AllocError),
     }
 }
 
-/// Adds the lines of a message in one line.
-fn add_printed(
-    alloc: Global,
-    plan: &Plan,
-    message: &Message,
-    told: &mut String,
-) -> Result<(), AllocError> {
-    let text = print_message(alloc, plan, message)?;
-    let lines = str::from_utf8(text.as_slice()).unwrap_or("?");
+/// Adds the lines of a text in one line.
+fn add_shown(alloc: Global, text: &[u8], told: &mut String) -> Result<(), AllocError> {
+    let lines = str::from_utf8(text).unwrap_or("?");
     let shown = lines.replace(alloc, "\n", " ; ")?;
     told.push_str("\n")?;
     told.push_str(shown.trim_end())
