@@ -1,26 +1,40 @@
-//! Cases of datagrams: the lines of `datagrams.txt`, over the frames of `datagram-frames.txt`, worked out by hand from the profile.
+//! Cases of datagrams: reads `datagrams.txt` and the frames of `datagram-frames.txt`, and prints what each case shows. What it has to print
+//! stands in `stdout`, worked out by hand from the profile. A line that begins with `#` is a heading.
 
 mod packing;
 mod receiving;
 
 use cases_words::{Named, halves};
+use std::alloc::{AllocError, Global};
 use std::rt::Files;
 use std::{fs, io};
 
-/// Adds a line, and what it shows.
-pub fn add_line<R: Files + AllocGlobal>(rt: &R, line: &str, told: &mut String) -> io::Result<()> {
-    told.push_str(line)?;
+/// Adds what a case shows.
+fn add_case(
+    alloc: Global,
+    frames: Named<'_>,
+    line: &str,
+    told: &mut String,
+) -> Result<(), AllocError> {
     let (kind, words) = halves(line);
     match kind {
-        "pack" => Ok(packing::add_packed(rt.alloc(), words, told)?),
-        "sizes" => Ok(packing::add_sizes(rt.alloc(), words, told)?),
-        "open" => {
-            let frames = fs::read_to_string(rt, "datagram-frames.txt")?;
-            let frames = Named::of(frames.as_str());
-            Ok(packing::add_opened(rt.alloc(), frames, words, told)?)
-        }
-        "starts" => Ok(receiving::add_starts(rt.alloc(), words, told)?),
-        "orders" => Ok(receiving::add_orders(rt.alloc(), words, told)?),
+        "pack" => packing::add_packed(alloc, words, told),
+        "sizes" => packing::add_sizes(alloc, words, told),
+        "open" => packing::add_opened(alloc, frames, words, told),
+        "starts" => receiving::add_starts(alloc, words, told),
+        "orders" => receiving::add_orders(alloc, words, told),
         _ => Ok(()),
     }
+}
+
+/// Prints what the section shows.
+pub fn print<R: Files + Print + AllocGlobal>(rt: &R) -> io::Result<()> {
+    let frames = fs::read_to_string(rt, "datagram-frames.txt")?;
+    let text = fs::read_to_string(rt, "datagrams.txt")?;
+    for line in text.lines() {
+        let mut told = line.to_string(rt.alloc())?;
+        add_case(rt.alloc(), Named::of(frames.as_str()), line, &mut told)?;
+        rt.println(told)?;
+    }
+    Ok(())
 }

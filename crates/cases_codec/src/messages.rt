@@ -1,45 +1,60 @@
-//! Cases of session messages: the lines of `messages.txt`. `KIND NAME HEX` has the digits of a whole frame, `bytes HEX` and `big HEX` those
-//! of a message, which the latter has big-endian; `number NAME HEX` is a frame behind those of the same connection, which begins at the
-//! line `connection`.
+//! Cases of session messages: reads `messages.txt`, and prints what each case shows. What it has to print stands in `stdout`,
+//! worked out by hand.
 
-mod frames;
+mod counted;
 mod lengths;
+mod messages;
 
 use cases_words::{bytes, halves};
 use fixp_msgs::Counter;
 use std::alloc::{AllocError, Global};
+use std::rt::Files;
+use std::{fs, io};
 
-/// Adds what a line shows. A line that begins with `#` is a heading.
-pub fn add_line(
+/// What a case of one frame shows: `KIND NAME HEX`, of which the digits are a whole frame.
+fn frame_line(
     alloc: Global,
     counter: &mut Counter,
-    line: &str,
-    told: &mut String,
-) -> Result<(), AllocError> {
-    let (kind, words) = halves(line);
-    let (name, digits) = halves(words);
-    let mut frame = bytes(alloc, if digits.is_empty() { name } else { digits })?;
+    kind: &str,
+    name: &str,
+    digits: &str,
+) -> Result<String, AllocError> {
+    let frame = bytes(alloc, digits)?;
+    let frame = frame.as_slice();
     match kind {
-        "message" => frames::add_message(name, frame.as_slice(), told),
-        "zeros" | "ones" => {
-            let byte = if kind == "ones" { 0xFF } else { 0 };
-            frames::fill(frame.as_mut_slice(), byte);
-            frames::add_message(name, frame.as_slice(), told)
-        }
-        "lengths" => lengths::add_lengths(alloc, name, frame.as_slice(), told),
-        "number" => frames::add_number(counter, name, frame.as_slice(), told),
+        "message" => messages::message_line(alloc, name, frame),
+        "zeros" => messages::filled_line(alloc, name, frame, 0),
+        "ones" => messages::filled_line(alloc, name, frame, 0xFF),
+        "lengths" => lengths::lengths_line(alloc, name, frame),
+        "number" => counted::number_line(alloc, counter, name, frame),
+        _ => format!(in alloc; "no case"),
+    }
+}
+
+/// What a case shows. A line that begins with `#` is a heading.
+fn line_of(alloc: Global, counter: &mut Counter, line: &str) -> Result<String, AllocError> {
+    let (kind, rest) = halves(line);
+    match kind {
+        "#" => line.to_string(alloc),
+        "bytes" => messages::bytes_line(alloc, rest),
+        "big" => messages::big_line(alloc, rest),
         "connection" => {
             *counter = Counter::new();
-            told.push_str(line)
+            line.to_string(alloc)
         }
-        "bytes" => {
-            write!(told, "{line}: ")?;
-            frames::add_answer(frame.as_slice(), told)
+        _ => {
+            let (name, digits) = halves(rest);
+            frame_line(alloc, counter, kind, name, digits)
         }
-        "big" => {
-            write!(told, "{line}: ")?;
-            frames::add_kind(frame.as_slice(), told)
-        }
-        _ => told.push_str(line),
     }
+}
+
+/// Prints what the section shows.
+pub fn print<R: Files + Print + AllocGlobal>(rt: &R) -> io::Result<()> {
+    let text = fs::read_to_string(rt, "messages.txt")?;
+    let mut counter = Counter::new();
+    for line in text.lines() {
+        rt.println(line_of(rt.alloc(), &mut counter, line)?)?;
+    }
+    Ok(())
 }

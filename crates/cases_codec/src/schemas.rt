@@ -1,65 +1,52 @@
-//! Cases of schemas, of their text and of their layout: the lines of `schemas.txt`. What `check` says of texts is shown by the built
-//! program, in `tried/schemas.cases`.
+//! Cases of schemas, of their text and of their layout: reads `schemas.txt`, and prints what each line shows. What it has to print
+//! stands in `stdout`, worked out by hand. What `check` says of texts is shown by the built program, in `tried/schemas.cases`.
 //!
-//! `text: LENGTH | LINES` is one text, in which ` ; ` is a line end, with as many blanks behind it as make so many bytes. `sample: FILE`
-//! is a schema in a file of its own.
+//! A line that begins with `#` is a heading. `text: LENGTH | LINES` is one text, in which ` ; ` is a line end, with as many blanks
+//! behind it as make so many bytes. `sample: FILE` is a schema in a file of its own.
 
 mod samples;
+mod verdict;
 
 use cases_words::number;
-use samples::add_sample;
-use sbe_value::text_of_path;
-use schema_load::load;
-use schema_toml::{ConfigFault, TomlFault};
+use samples::print_sample;
 use std::alloc::{AllocError, Global};
 use std::rt::Files;
 use std::{fs, io};
+use verdict::push_verdict;
 
-/// Adds a fault and its path, as `Range message[0].id`; no path where it names no place, or the whole.
-fn add_fault(alloc: Global, fault: &ConfigFault, told: &mut String) -> Result<(), AllocError> {
-    let (kind, path) = match fault {
-        ConfigFault::Toml(TomlFault::Text) => return told.push_str("Text"),
-        ConfigFault::Toml(TomlFault::Memory) => return Err(AllocError),
-        ConfigFault::TooLong => return told.push_str("TooLong"),
-        ConfigFault::Toml(TomlFault::Missing(path)) => ("Missing", path),
-        ConfigFault::Toml(TomlFault::WrongKind(path)) => ("WrongKind", path),
-        ConfigFault::Toml(TomlFault::UnknownKey(path)) => ("UnknownKey", path),
-        ConfigFault::Toml(TomlFault::Range(path)) => ("Range", path),
-        ConfigFault::Schema(fault) => {
-            write!(told, "{:?}", fault.kind)?;
-            ("", &fault.path)
-        }
-    };
-    told.push_str(kind)?;
-    let text = text_of_path(alloc, path)?;
-    match str::from_utf8(text.as_slice()).unwrap_or("at no text") {
-        "" => Ok(()),
-        words => write!(told, " {words}"),
-    }
-}
-
-/// Adds the verdict on the text that a case spells, and the case.
-fn add_text(alloc: Global, words: &str, told: &mut String) -> Result<(), AllocError> {
+/// The text that a case spells.
+fn text_of(alloc: Global, words: &str) -> Result<String, AllocError> {
     let (length, lines) = words.split_once(" | ").unwrap_or(("", words));
     let mut text = lines.replace(alloc, " ; ", "\n")?;
     for _ in text.len() as u64..number(length) {
         text.push(' ')?;
     }
-    match load(alloc, text.as_bytes()) {
-        Ok(_plan) => told.push_str("Ok"),
-        Err(fault) => add_fault(alloc, &fault, told),
-    }?;
-    write!(told, " | {words}")
+    Ok(text)
 }
 
-/// Adds what a line shows; one that is no case as it is.
-pub fn add_line<R: Files + AllocGlobal>(rt: &R, line: &str, told: &mut String) -> io::Result<()> {
+/// The verdict on the text of a case, and the case.
+fn shown(alloc: Global, words: &str) -> Result<String, AllocError> {
+    let text = text_of(alloc, words)?;
+    let mut line = String::new(alloc);
+    push_verdict(alloc, &mut line, text.as_bytes())?;
+    write!(line, " | {words}")?;
+    Ok(line)
+}
+
+/// Prints what a line shows; one that is no case as it is.
+fn print_line<R: Files + Print + AllocGlobal>(rt: &R, line: &str) -> io::Result<()> {
     match line.split_once(": ") {
-        Some(("sample", file)) => {
-            let text = fs::read(rt, file)?;
-            Ok(add_sample(rt.alloc(), file, text.as_slice(), told)?)
-        }
-        Some(("text", words)) => Ok(add_text(rt.alloc(), words, told)?),
-        _ => Ok(told.push_str(line)?),
+        Some(("sample", file)) => print_sample(rt, file),
+        Some(("text", words)) => rt.println(shown(rt.alloc(), words)?),
+        _ => rt.println(line),
     }
+}
+
+/// Prints what the section shows.
+pub fn print<R: Files + Print + AllocGlobal>(rt: &R) -> io::Result<()> {
+    let text = fs::read_to_string(rt, "schemas.txt")?;
+    for line in text.lines() {
+        print_line(rt, line)?;
+    }
+    Ok(())
 }

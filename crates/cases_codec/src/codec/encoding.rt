@@ -7,7 +7,7 @@ use crate::codec::messages::message_of;
 use cases_words::digits;
 use sbe_encode::{EncodeError, EncodeFault, encode};
 use sbe_layout::Plan;
-use sbe_value::{Bytes, Path, text_of_path};
+use sbe_value::{Bytes, Message, Path, text_of_path};
 use std::alloc::{AllocError, Global};
 
 /// Adds what encoding makes of a message.
@@ -15,30 +15,47 @@ pub fn add_written(
     alloc: Global,
     plan: &Plan,
     words: &str,
-    told: &mut String,
+    line: &mut String,
 ) -> Result<(), AllocError> {
-    let Some(message) = message_of(alloc, words) else {
-        return told.push_str("\nno message");
-    };
     let mut out = Bytes::from_slice(alloc, &[0xAA])?;
-    match encode(alloc, plan, &message, &mut out) {
-        Ok(()) => told.push_str("\nOk"),
-        Err(EncodeError::Fault(fault)) => add_fault(alloc, &fault, told),
-        Err(EncodeError::Memory) => Err(AllocError),
-    }?;
-    write!(told, ": {}", digits(alloc, out.as_slice())?)
+    match message_of(alloc, words) {
+        Some(message) => add_verdict(alloc, plan, &message, &mut out, line)?,
+        None => line.push_str("no message")?,
+    }
+    add_bytes(alloc, out.as_slice(), line)
 }
 
-fn add_fault(alloc: Global, fault: &EncodeFault, told: &mut String) -> Result<(), AllocError> {
-    match fault {
-        EncodeFault::Shape { path } => add_path(alloc, "\nShape", path, told),
-        EncodeFault::Range { path } => add_path(alloc, "\nRange", path, told),
-        EncodeFault::TooLong { length } => write!(told, "\nTooLong {length}"),
+/// Encodes a message behind `out`, and adds what comes of it.
+fn add_verdict(
+    alloc: Global,
+    plan: &Plan,
+    message: &Message,
+    out: &mut Bytes,
+    line: &mut String,
+) -> Result<(), AllocError> {
+    match encode(alloc, plan, message, out) {
+        Ok(()) => line.push_str("Ok"),
+        Err(EncodeError::Fault(fault)) => add_fault(alloc, &fault, line),
+        Err(EncodeError::Memory) => line.push_str("Memory"),
     }
 }
 
-fn add_path(alloc: Global, kind: &str, path: &Path, told: &mut String) -> Result<(), AllocError> {
+fn add_fault(alloc: Global, fault: &EncodeFault, line: &mut String) -> Result<(), AllocError> {
+    match fault {
+        EncodeFault::Shape { path } => add_path(alloc, "Shape", path, line),
+        EncodeFault::Range { path } => add_path(alloc, "Range", path, line),
+        EncodeFault::TooLong { length } => write!(line, "TooLong {length}"),
+    }
+}
+
+fn add_path(alloc: Global, kind: &str, path: &Path, line: &mut String) -> Result<(), AllocError> {
     let text = text_of_path(alloc, path)?;
     let text = str::from_utf8(text.as_slice()).unwrap_or("not text");
-    write!(told, "{kind} '{text}'")
+    write!(line, "{kind} '{text}'")
+}
+
+/// Adds the bytes, and ends the line.
+fn add_bytes(alloc: Global, bytes: &[u8], line: &mut String) -> Result<(), AllocError> {
+    let digits = digits(alloc, bytes)?;
+    write!(line, ": {digits}\n")
 }

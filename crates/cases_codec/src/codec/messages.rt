@@ -1,9 +1,8 @@
 //! A message that is written as words: its template, and `{ ITEMS GROUPS DATA }`.
 //!
-//! An item is its number, `null`, `absent`, `text:HEX` or `raw:HEX`; a group is its entries between `(` and `)`, or `no-group`; a datum
-//! is `data:HEX` or `no-data`.
+//! An item is its number, `null`, `text:HEX` or `raw:HEX`; a group is its entries between `(` and `)`; a datum is `data:HEX`.
 
-use cases_words::{bytes, halves, number, parted};
+use cases_words::{bytes, halves, number};
 use sbe_value::{Block, Blocks, Bytes, Datum, Datums, Group, Groups, Item, Items, Message};
 use std::alloc::Global;
 use std::mem;
@@ -42,7 +41,7 @@ pub fn message_of(alloc: Global, words: &str) -> Option<Message> {
     let (template, body) = halves(words);
     let root = root_of(alloc, body)?;
     Some(Message {
-        template: number(template).min(0xFFFF) as u16,
+        template: u16::try_from(number(template)).unwrap_or(0),
         root,
     })
 }
@@ -65,7 +64,6 @@ fn read_word(alloc: Global, around: &mut Vec<Open>, word: &str) -> bool {
     match word {
         "{" => around.push(Open::new(alloc)).is_ok(),
         "}" => close_block(around),
-        "(" => true,
         _ => match around.last_mut() {
             Some(open) => add_word(alloc, open, word),
             None => true,
@@ -85,20 +83,26 @@ fn close_block(around: &mut Vec<Open>) -> bool {
     }
 }
 
-/// Reads an item, the end of a group or a datum.
+/// Reads a word in a block.
 fn add_word(alloc: Global, open: &mut Open, word: &str) -> bool {
-    let (kind, digits) = parted(word, ":");
-    let Ok(content) = bytes(alloc, digits) else {
-        return false;
-    };
-    match kind {
+    match word {
+        "(" => true,
         ")" => {
             let entries = mem::replace(&mut open.entries, Vec::new(alloc));
             let group = Group::Entries(Blocks::from(entries));
             open.groups.push(group).is_ok()
         }
-        "no-group" => open.groups.push(Group::Absent).is_ok(),
-        "no-data" => open.vars.push(Datum::Absent).is_ok(),
+        _ => add_value(alloc, open, word),
+    }
+}
+
+/// Reads an item or a datum.
+fn add_value(alloc: Global, open: &mut Open, word: &str) -> bool {
+    let (kind, digits) = word.split_once(":").unwrap_or((word, ""));
+    let Ok(content) = bytes(alloc, digits) else {
+        return false;
+    };
+    match kind {
         "data" => open.vars.push(Datum::Present(Bytes::from(content))).is_ok(),
         _ => open.items.push(item(kind, Bytes::from(content))).is_ok(),
     }
@@ -110,7 +114,6 @@ fn item(kind: &str, content: Bytes) -> Item {
         "text" => Item::Text(content),
         "raw" => Item::Raw(content),
         "null" => Item::Null,
-        "absent" => Item::Absent,
         _ => Item::Num(kind.parse::<i128>().unwrap_or(0)),
     }
 }

@@ -21,7 +21,7 @@ pub fn add_read(
             let text = print_message(alloc, plan, &message)?;
             add_shown(alloc, text.as_slice(), told)
         }
-        Err(TextError::Line(line)) => write!(told, "\nline {line}"),
+        Err(TextError::Line(line)) => write!(told, "line {line}\n"),
         Err(TextError::Memory) => Err(AllocError),
     }
 }
@@ -30,6 +30,6 @@ pub fn add_read(
 fn add_shown(alloc: Global, text: &[u8], told: &mut String) -> Result<(), AllocError> {
     let lines = str::from_utf8(text).unwrap_or("?");
     let shown = lines.replace(alloc, "\n", " ; ")?;
-    told.push_str("\n")?;
-    told.push_str(shown.trim_end())
+    told.push_str(shown.trim_end())?;
+    told.push_str("\n")
 }

@@ -36,7 +36,8 @@ pub struct Packed {
 
 /// The payload of a message.
 pub fn payload(alloc: Global, number: u64) -> Result<Bytes, AllocError> {
-    let mut bytes = Bytes::from_slice(alloc, &FRONT)?;
+    let mut bytes = Bytes::new(alloc);
+    bytes.extend_from_slice(&FRONT)?;
     bytes.extend_from_slice(&number.to_le_bytes())?;
     Ok(bytes)
 }
@@ -63,11 +64,9 @@ pub fn pack_from(
     alloc: Global,
     first: u64,
     payloads: &Payloads,
-    from: u64,
-    room: u64,
+    from: usize,
+    room: usize,
 ) -> Result<Option<Packed>, AllocError> {
-    let room = room.min(MOST_ROOM) as usize;
-    let from = from.min(MOST_FRAMES) as usize;
     if room < LEAST_ROOM || from > payloads.len() || !are_applications(payloads.as_slice()) {
         return Ok(None);
     }
@@ -77,16 +76,25 @@ pub fn pack_from(
     Ok(Some(Packed { bytes, taken }))
 }
 
-/// The payloads of the messages that words name, or payloads of the sizes that they name.
-fn payloads_of(alloc: Global, words: &str, are_sizes: bool) -> Result<Payloads, AllocError> {
+/// The room of a word, in bytes.
+fn room_of(word: &str) -> usize {
+    number(word).min(MOST_ROOM) as usize
+}
+
+/// The payloads of the messages that words name.
+fn payloads_of(alloc: Global, words: &str) -> Result<Payloads, AllocError> {
     let mut payloads = Payloads::new(alloc);
     for word in words.split(" ") {
-        let payload = if are_sizes {
-            payload_of(alloc, number(word))?
-        } else {
-            payload(alloc, number(word))?
-        };
-        payloads.push(payload)?;
+        payloads.push(payload(alloc, number(word))?)?;
+    }
+    Ok(payloads)
+}
+
+/// Payloads of the sizes that words name.
+fn payloads_sized(alloc: Global, words: &str) -> Result<Payloads, AllocError> {
+    let mut payloads = Payloads::new(alloc);
+    for word in words.split(" ") {
+        payloads.push(payload_of(alloc, number(word))?)?;
     }
     Ok(payloads)
 }
@@ -96,18 +104,16 @@ pub fn add_packed(alloc: Global, words: &str, told: &mut String) -> Result<(), A
     let (first, words) = halves(words);
     let (room, words) = halves(words);
     let (from, words) = halves(words);
-    let payloads = payloads_of(alloc, words, false)?;
-    match pack_from(alloc, number(first), &payloads, number(from), number(room))? {
+    let payloads = payloads_of(alloc, words)?;
+    let from = number(from).min(MOST_FRAMES) as usize;
+    match pack_from(alloc, number(first), &payloads, from, room_of(room))? {
         Some(packed) => {
-            write!(
-                told,
-                ", {} bytes, {} taken, ",
-                packed.bytes.len(),
-                packed.taken
-            )?;
-            told.push_str(digits(alloc, packed.bytes.as_slice())?.as_str())
+            let digits = digits(alloc, packed.bytes.as_slice())?;
+            let size = packed.bytes.len();
+            let taken = packed.taken;
+            write!(told, ", {size} bytes, {taken} taken, {digits}")
         }
-        None => told.push_str(", none"),
+        None => write!(told, ", none"),
     }
 }
 
@@ -123,7 +129,8 @@ fn add_count(bytes: &[u8], told: &mut String) -> Result<(), AllocError> {
                 }
                 count = count.saturating_add(1);
             }
-            write!(told, ", {count} from {} on", datagram.first())
+            let first = datagram.first();
+            write!(told, ", {count} from {first} on")
         }
         Err(fault) => write!(told, ", {fault:?}"),
     }
@@ -133,15 +140,19 @@ fn add_count(bytes: &[u8], told: &mut String) -> Result<(), AllocError> {
 pub fn add_sizes(alloc: Global, words: &str, told: &mut String) -> Result<(), AllocError> {
     let (first, words) = halves(words);
     let (room, words) = halves(words);
-    let payloads = payloads_of(alloc, words, true)?;
-    let Some(packed) = pack_from(alloc, number(first), &payloads, 0, number(room))? else {
-        return told.push_str(", none");
-    };
-    let mut bytes = packed.bytes;
-    write!(told, ", {} bytes, {} taken", bytes.len(), packed.taken)?;
-    add_count(bytes.as_slice(), told)?;
-    bytes.push(0)?;
-    add_count(bytes.as_slice(), told)
+    let payloads = payloads_sized(alloc, words)?;
+    match pack_from(alloc, number(first), &payloads, 0, room_of(room))? {
+        Some(packed) => {
+            let mut bytes = packed.bytes;
+            let size = bytes.len();
+            let taken = packed.taken;
+            write!(told, ", {size} bytes, {taken} taken")?;
+            add_count(bytes.as_slice(), told)?;
+            bytes.push(0)?;
+            add_count(bytes.as_slice(), told)
+        }
+        None => write!(told, ", none"),
+    }
 }
 
 /// The bytes of frames that stand one behind another.
@@ -166,13 +177,14 @@ pub fn add_opened(
         Ok(datagram) => datagram,
         Err(fault) => return write!(told, ", {fault:?}"),
     };
-    write!(told, ", from {} on", datagram.first())?;
+    let first = datagram.first();
+    write!(told, ", from {first} on")?;
     for _ in 0..MOST_FRAMES {
         let Some(payload) = datagram.next() else {
             break;
         };
-        told.push_str(" ")?;
-        told.push_str(digits(alloc, payload)?.as_str())?;
+        let digits = digits(alloc, payload)?;
+        write!(told, " {digits}")?;
     }
     Ok(())
 }

@@ -69,27 +69,49 @@ fn add_messages(
     Ok(())
 }
 
-/// Adds what becomes of bytes that come, and what is asked for behind them, if anything is.
+/// Adds what becomes of a datagram that is opened.
+fn add_opened(
+    receiver: &mut DgReceiver,
+    datagram: Datagram<'_>,
+    told: &mut String,
+) -> Result<(), AllocError> {
+    let start = receiver.on_start(datagram.first());
+    write!(told, " {start:?}")?;
+    match start {
+        Start::TooLarge => Ok(()),
+        Start::Plain | Start::Missing(_) => add_messages(receiver, datagram, told),
+    }
+}
+
+/// Adds what is asked for, if anything is.
+fn add_ask(receiver: &DgReceiver, told: &mut String) -> Result<(), AllocError> {
+    match receiver.ask() {
+        Some(range) => {
+            let from = range.from;
+            let count = range.count;
+            write!(told, " ask {from} {count}")
+        }
+        None => Ok(()),
+    }
+}
+
+/// Adds what becomes of bytes that come, and what is asked for behind them.
 fn add_delivery(
     receiver: &mut DgReceiver,
     bytes: &[u8],
     told: &mut String,
 ) -> Result<(), AllocError> {
     match open_datagram(bytes) {
-        Ok(datagram) => {
-            let start = receiver.on_start(datagram.first());
-            write!(told, " {start:?}")?;
-            match start {
-                Start::TooLarge => Ok(()),
-                Start::Plain | Start::Missing(_) => add_messages(receiver, datagram, told),
-            }
-        }
-        Err(fault) => write!(told, " {fault:?}"),
-    }?;
-    match receiver.ask() {
-        Some(range) => write!(told, " ask {} {}", range.from, range.count),
-        None => Ok(()),
+        Ok(datagram) => add_opened(receiver, datagram, told)?,
+        Err(fault) => write!(told, " {fault:?}")?,
     }
+    add_ask(receiver, told)
+}
+
+/// Adds the number that is waited for.
+fn add_next(receiver: &DgReceiver, told: &mut String) -> Result<(), AllocError> {
+    let next = receiver.next();
+    write!(told, " next {next}")
 }
 
 /// Adds what becomes of a datagram that begins with a number and has so many messages.
@@ -103,11 +125,11 @@ fn add_datagram(
     let count = count.min(MOST_MESSAGES);
     let payloads = payloads(alloc, first, count)?;
     let room = (1 + count) * FRAME;
-    match pack_from(alloc, first, &payloads, 0, room)? {
+    match pack_from(alloc, first, &payloads, 0, room as usize)? {
         Some(packed) => add_delivery(receiver, packed.bytes.as_slice(), told)?,
-        None => told.push_str(" none")?,
+        None => write!(told, " none")?,
     }
-    told.push_str(",")
+    write!(told, ",")
 }
 
 /// Adds what becomes of datagrams that begin with these numbers.
@@ -116,14 +138,14 @@ pub fn add_starts(alloc: Global, words: &str, told: &mut String) -> Result<(), A
     let (next, words) = halves(words);
     let (most, starts) = halves(words);
     let Some(mut receiver) = receiver_of(flow, number(next), number(most)) else {
-        return told.push_str(", no receiver");
+        return write!(told, ", no receiver");
     };
-    told.push_str(":")?;
+    write!(told, ":")?;
     for start in starts.split(" ") {
         let (first, count) = parted(start, "+");
         add_datagram(alloc, &mut receiver, number(first), number(count), told)?;
     }
-    write!(told, " next {}", receiver.next())
+    add_next(&receiver, told)
 }
 
 /// Adds what becomes of a list of deliveries, which is a number in digits of four, the last of them first.
@@ -137,7 +159,7 @@ fn add_list(alloc: Global, flow: &str, list: u64, told: &mut String) -> Result<(
         add_datagram(alloc, &mut receiver, first, PER, told)?;
         left /= DATAGRAMS;
     }
-    write!(told, " next {}", receiver.next())
+    add_next(&receiver, told)
 }
 
 /// A sum of a text, in which each byte counts by its place.

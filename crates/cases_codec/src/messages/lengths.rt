@@ -1,7 +1,13 @@
 //! Messages with blocks of other lengths, with more bytes behind them, and with fewer.
 
-use crate::messages::frames::{add_answer, is_session, message_in};
-use fixp_msgs::{MsgFault, read};
+ghost use Rattle.std.specs.Prelude.{◌≡◌, ◌≤◌, length, IsTrue};
+ghost use Rattle.sbe_prim.specs.declared.Order.TheVariants.{Little};
+ghost use Rattle.fixp_msgs.specs.declared.frames.FrameKind.TheVariants.{Session};
+ghost use Rattle.fixp_msgs.specs.Header.{kind_of};
+
+use crate::messages::messages::{answer, message_in};
+use fixp_msgs::{FrameKind, MsgFault, kind, read};
+use sbe_prim::Order;
 use std::alloc::{AllocError, Global};
 
 /// The header of a message, its block and what stands behind it.
@@ -37,28 +43,37 @@ fn joined(
     padding: &[u8],
     tail: &[u8],
 ) -> Result<Vec<u8>, AllocError> {
-    let mut bytes = Vec::from_slice(alloc, &length.to_le_bytes())?;
-    let version = [7, 0];
-    for part in [
-        parts.template,
-        version.as_slice(),
-        parts.block,
-        padding,
-        parts.behind,
-        tail,
-    ] {
-        bytes.extend_from_slice(part)?;
-    }
+    let mut bytes = Vec::new(alloc);
+    bytes.extend_from_slice(&length.to_le_bytes())?;
+    bytes.extend_from_slice(parts.template)?;
+    bytes.extend_from_slice(&[7, 0])?;
+    bytes.extend_from_slice(parts.block)?;
+    bytes.extend_from_slice(padding)?;
+    bytes.extend_from_slice(parts.behind)?;
+    bytes.extend_from_slice(tail)?;
     Ok(bytes)
+}
+
+/// Whether it reads as a session message.
+fn is_read(message: &[u8]) -> bool {
+    is_session(message) && read(message).is_ok()
 }
 
 /// Whether two messages read as the same session message: what is said of one names all of it.
 fn read_alike(alloc: Global, first: &[u8], second: &[u8]) -> Result<bool, AllocError> {
-    let mut said = String::new(alloc);
-    add_answer(first, &mut said)?;
-    let mut other = String::new(alloc);
-    add_answer(second, &mut other)?;
-    Ok(said.starts_with("Ok(") && said == other)
+    if !is_read(first) || !is_read(second) {
+        return Ok(false);
+    }
+    let said = answer(alloc, first)?;
+    Ok(said == answer(alloc, second)?)
+}
+
+/// Whether it is a session message, so that it may be read.
+fn is_session(message: &[u8]) -> bool
+    ensures header { IsTrue result → 8 ≤ length message.now }
+    ensures session { IsTrue result → kind_of Little message.now ≡ Session }
+{
+    message.len() >= 8 && matches!(kind(Order::Little, message), FrameKind::Session)
 }
 
 /// How many of the fronts of a message that have its header and are shorter than it are too short.
@@ -73,26 +88,27 @@ fn short_fronts(message: &[u8]) -> u64 {
     short
 }
 
-/// Adds what is said of the message of a frame with its block stated one byte shorter; with a longer block, bytes behind the last
-/// element and a later version; and cut off.
-pub fn add_lengths(
-    alloc: Global,
-    name: &str,
-    frame: &[u8],
-    told: &mut String,
-) -> Result<(), AllocError> {
+/// The message of a frame with its block stated one byte shorter; with a longer block, bytes behind the last element and a
+/// later version; and cut off.
+pub fn lengths_line(alloc: Global, name: &str, frame: &[u8]) -> Result<String, AllocError> {
     let message = message_in(frame);
     let Some(parts) = parts_of(message) else {
-        return write!(told, "{name}: no message");
+        return format!(in alloc; "{name}: no message");
     };
-    let less = parts.length.saturating_sub(1);
-    write!(told, "{name}: of {less} bytes ")?;
-    let shorter = joined(alloc, parts, less, &[], &[])?;
-    add_answer(shorter.as_slice(), told)?;
-    let more = parts.length.saturating_add(3);
-    let longer = joined(alloc, parts, more, &[0xEE; 3], &[0xDD; 2])?;
+    let shorter = joined(alloc, parts, parts.length.saturating_sub(1), &[], &[])?;
+    let told = answer(alloc, shorter.as_slice())?;
+    let longer = joined(
+        alloc,
+        parts,
+        parts.length.saturating_add(3),
+        &[0xEE; 3],
+        &[0xDD; 2],
+    )?;
     let same = read_alike(alloc, longer.as_slice(), message)?;
+    let short = short_fronts(message);
     let fronts = message.len().saturating_sub(8);
-    write!(told, ", longer and later alike {same}, ")?;
-    write!(told, "{} of {fronts} fronts short", short_fronts(message))
+    format!(in alloc;
+        "{name}: of {} bytes {told}, longer and later alike {same}, {short} of {fronts} fronts short",
+        parts.length.saturating_sub(1)
+    )
 }

@@ -8,9 +8,10 @@ ghost use Rattle.fixp_msgs.specs.Message.{message_of};
 ghost use Rattle.fixp_msgs.specs.Table.{Field, null};
 ghost use Rattle.fixp_msgs.specs.Canonical.{IsWritable, IsWritableField};
 
-use fixp_msgs::{Counter, Expected, FrameKind, SessionMsg, kind, read, size, write};
+use cases_words::bytes;
+use fixp_msgs::{Expected, FrameKind, SessionMsg, kind, read, size, write};
 use sbe_prim::Order;
-use std::alloc::AllocError;
+use std::alloc::{AllocError, Global};
 
 /// Stands behind what is written.
 const BEHIND: u8 = 0xA5;
@@ -23,31 +24,16 @@ pub fn message_in(frame: &[u8]) -> &[u8] {
     }
 }
 
-/// Whether it is a session message, so that it may be read.
-pub fn is_session(message: &[u8]) -> bool
-    ensures header { IsTrue result → 8 ≤ length message.now }
-    ensures session { IsTrue result → kind_of Little message.now ≡ Session }
-{
-    message.len() >= 8 && matches!(kind(Order::Little, message), FrameKind::Session)
-}
-
-/// Adds what reading a message says.
-pub fn add_answer(message: &[u8], told: &mut String) -> Result<(), AllocError> {
+/// What reading a message says.
+pub fn answer(alloc: Global, message: &[u8]) -> Result<String, AllocError> {
     if message.len() < 8 {
-        return told.push_str("no header");
+        return format!(in alloc; "no header");
     }
     match kind(Order::Little, message) {
-        FrameKind::Session => write!(told, "{:?}", read(message)),
-        other => write!(told, "{other:?}"),
+        FrameKind::Session => format!(in alloc; "{:?}", read(message)),
+        FrameKind::App => format!(in alloc; "App"),
+        FrameKind::Wrong => format!(in alloc; "Wrong"),
     }
-}
-
-/// Adds what a big-endian message is.
-pub fn add_kind(message: &[u8], told: &mut String) -> Result<(), AllocError> {
-    if message.len() < 8 {
-        return told.push_str("no header");
-    }
-    write!(told, "{:?}", kind(Order::Big, message))
 }
 
 fn is_short(datum: &[u8]) -> bool
@@ -115,64 +101,64 @@ fn back(message: &SessionMsg<'_>, frame: &[u8]) -> Option<(usize, bool)> {
     Some((size, same))
 }
 
-/// Adds the size of the message of a frame as it is written, and whether that is the frame.
-fn add_written(frame: &[u8], told: &mut String) -> Result<(), AllocError> {
+/// Whether the message of a frame is written as that frame.
+fn written(alloc: Global, frame: &[u8]) -> Result<String, AllocError> {
     let message = message_in(frame);
-    if !is_session(message) {
-        return told.push_str("no session message");
+    if message.len() < 8 || kind(Order::Little, message) != FrameKind::Session {
+        return format!(in alloc; "no session message");
     }
-    let Ok(found) = read(message) else {
-        return told.push_str("none");
-    };
-    match back(&found, frame) {
-        Some((size, same)) => write!(told, "Some(({size}, {same}))"),
-        None => told.push_str("None"),
+    match read(message) {
+        Ok(found) => format!(in alloc; "{:?}", back(&found, frame)),
+        Err(fault) => format!(in alloc; "{fault:?}"),
     }
 }
 
-/// Adds the message of a frame as its fields, the size and the sameness of what is written of it, and the message without its last
-/// byte.
-pub fn add_message(name: &str, frame: &[u8], told: &mut String) -> Result<(), AllocError> {
+/// The message of a frame as its fields, the size and the sameness of what is written of it, and the message without its
+/// last byte.
+pub fn message_line(alloc: Global, name: &str, frame: &[u8]) -> Result<String, AllocError> {
     let message = message_in(frame);
+    let found = answer(alloc, message)?;
+    let written = written(alloc, frame)?;
     let (front, _) = message.split_at(message.len().saturating_sub(1));
-    told.push_str(name)?;
-    told.push_str(": ")?;
-    add_answer(message, told)?;
-    told.push_str("\n  written ")?;
-    add_written(frame, told)?;
-    told.push_str(", cut ")?;
-    add_answer(front, told)
+    let cut = answer(alloc, front)?;
+    format!(in alloc; "{name}: {found}\n  written {written}, cut {cut}")
 }
 
-/// Sets each byte of the block of a frame's message.
-pub fn fill(frame: &mut [u8], byte: u8) {
-    if let [_, _, _, _, _, _, low, high, _, _, _, _, _, _, body @ ..] = frame {
+/// The frame whose message has this byte all over its block.
+fn filled(alloc: Global, frame: &[u8], byte: u8) -> Result<Vec<u8>, AllocError> {
+    let mut bytes = Vec::from_slice(alloc, frame)?;
+    if let [_, _, _, _, _, _, low, high, _, _, _, _, _, _, body @ ..] = bytes.as_mut_slice() {
         let length = usize::from(u16::from_le_bytes([*low, *high]));
         if let Some((block, _)) = body.split_at_mut_checked(length) {
             block.fill(byte);
         }
     }
+    Ok(bytes)
 }
 
-/// The byte order of a frame: big where its encoding type is 0x5BE0.
-fn order_of(frame: &[u8]) -> Order {
-    match frame {
-        [_, _, _, _, 0x5B, 0xE0, ..] => Order::Big,
-        _ => Order::Little,
-    }
-}
-
-/// Adds the implied number of a frame's message, behind the frames before it.
-pub fn add_number(
-    counter: &mut Counter,
+/// The same of the frame whose message has this byte all over its block: its least or its greatest numbers.
+pub fn filled_line(
+    alloc: Global,
     name: &str,
     frame: &[u8],
-    told: &mut String,
-) -> Result<(), AllocError> {
-    let message = message_in(frame);
+    byte: u8,
+) -> Result<String, AllocError> {
+    let frame = filled(alloc, frame, byte)?;
+    message_line(alloc, name, frame.as_slice())
+}
+
+/// What reading the bytes of a message says.
+pub fn bytes_line(alloc: Global, digits: &str) -> Result<String, AllocError> {
+    let message = bytes(alloc, digits)?;
+    let found = answer(alloc, message.as_slice())?;
+    format!(in alloc; "bytes {digits}: {found}")
+}
+
+/// What a big-endian message is.
+pub fn big_line(alloc: Global, digits: &str) -> Result<String, AllocError> {
+    let message = bytes(alloc, digits)?;
     if message.len() < 8 {
-        return write!(told, "  {name} no header");
+        return format!(in alloc; "big {digits}: no header");
     }
-    let number = counter.see(order_of(frame), message);
-    write!(told, "  {name} {number:?}")
+    format!(in alloc; "big {digits}: {:?}", kind(Order::Big, message.as_slice()))
 }
