@@ -46,25 +46,23 @@ module _ {D J : Type 0} {H : Ghosts J} (told : D → Option (List ℕ)) (disk : 
       in_least = subst (λ (n : ℕ). n ≤ inboxes.faults_of box) (sym (counts (inboxes.journal_of box))) (omega arith);
     }
 
-abbrev pub given : {S I K A D N C : Type 0} → (config : S) → I → Live K N C → Status × A × D × D → FeedOutside S I K A D N C
-given config input devices s = record {
+abbrev pub given : {S I K A D N C : Type 0} → (config : S) → I → Status × Live K N C × A × D × D → FeedOutside S I K A D N C
+given config input s = record {
   config = config;
   input = input;
-  out = devices.out;
-  accepted = s.1;
-  out_disk = s.2;
-  in_disk = s.3;
-  dialer = devices.dialer;
-  clock = devices.clock;
+  out = s.1.out;
+  accepted = s.2;
+  out_disk = s.3;
+  in_disk = s.4;
+  dialer = s.1.dialer;
+  clock = s.1.clock;
 }
 
-pub given_over : {S I K A D N C J : Type 0} (G : Ghosts J) (sees : FeedSees S I K A D N C) (senders : ℕ) (end : EndConfig) (before : FeedOutside S I K A D N C) (config : S) (input input' : I) (devices devices' : Live K N C) (s s' : Status × A × D × D)
-    → input' ≡ input → devices' ≡ devices → s' ≡ s → EndsOverDisks G sees senders end before (given config input devices s) s.0
-    → EndsOverDisks G sees senders end before (given config input' devices' s') s'.0
-given_over G sees senders end before config input input' devices devices' s s' i d e h =
-    subst (λ t. EndsOverDisks G sees senders end before (given config input' devices' t) t.0) (sym e)
-    (subst (λ l. EndsOverDisks G sees senders end before (given config input' l s) s.0) (sym d)
-    (subst (λ x. EndsOverDisks G sees senders end before (given config x devices s) s.0) (sym i) h))
+pub given_over : {S I K A D N C J : Type 0} (G : Ghosts J) (sees : FeedSees S I K A D N C) (senders : ℕ) (end : EndConfig) (before : FeedOutside S I K A D N C) (config : S) (input input' : I) (s s' : Status × Live K N C × A × D × D)
+    → input' ≡ input → s' ≡ s → EndsOverDisks G sees senders end before (given config input s) s.0 → EndsOverDisks G sees senders end before (given config input' s') s'.0
+given_over G sees senders end before config input input' s s' i e h =
+    subst (λ t. EndsOverDisks G sees senders end before (given config input' t) t.0) (sym e)
+    (subst (λ x. EndsOverDisks G sees senders end before (given config x s) s.0) (sym i) h)
 
 -- what a run over the disks ended with, by an equal end
 pub ends_by : {S I K A D N C J : Type 0} (G : Ghosts J) (sees : FeedSees S I K A D N C) (senders : ℕ) (end end' : EndConfig) (before after : FeedOutside S I K A D N C) (status : Status)

@@ -19,7 +19,8 @@ use Rattle.fed_laws.specs.Given.{GiveThese, fed_plans}
 use Rattle.fed_laws.specs.Told.{WasFed, is_done, MarksDone}
 use Rattle.cmd_base.specs.declared.status.Status.{Status}
 use Rattle.cmd_base.specs.declared.status.Status.TheVariants.{InputFault, OutputFault}
-use Rattle.cmd_session.specs.Lived.{status_of, OverBoxes, HasLived}
+use Rattle.cmd_session.specs.Lived.{status_of, HasLived}
+use Rattle.cmd_session.specs.declared.outside.OverBoxes.{OverBoxes}
 use Rattle.cmd_session.specs.Outsides.{Hears}
 
 -- what a feeding that ended so is to its life, where neither INPUT nor ACCEPTED failed: a refusal of a sender, or that of the mark, or none

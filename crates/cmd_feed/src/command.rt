@@ -1,7 +1,6 @@
 //! The whole of `accept` and `connect` with ACCEPTED.
 
 ghost use Rattle.std.specs.Prelude.{◌≡◌, ◌⊎◌, ◌+◌, ◌<◌, ◌≤◌, ◌^◌, false, [], ◌∷◌, length, IfErr, OnOk, OnErr, codes};
-ghost use Rattle.fixp_msgs.specs.declared.flow.Flow.TheVariants as flows;
 ghost use Rattle.jr_kept.specs.Outbox as outboxes;
 ghost use Rattle.jr_kept.specs.Inbox as inboxes;
 ghost use Rattle.sbe_value.specs.declared.path.Step.TheVariants.{Key};
@@ -17,13 +16,12 @@ use crate::life::live_feeding;
 use crate::outside::FeedOutside;
 use cmd_base::{Status, begin, read_config};
 use cmd_config::{Configuration, Trade};
-use cmd_session::{Live, Role, close_inbox, close_outbox, end_config, open_boxes};
+use cmd_session::{Live, Over, OverBoxes, Role, close_inbox, close_outbox, end_config, open_boxes};
 use fixp_shake::EndConfig;
 use gw_appended::Appended;
 use gw_links::{Clock, Dialer};
 use gw_outside::{Disk, Sink, Source};
 use jr_dated::Journal;
-use jr_kept::{Inbox, Outbox};
 use jr_segments::SegJournal;
 use schema_toml::ConfigFault;
 use std::alloc::Global;
@@ -52,8 +50,8 @@ fn without_desks(alloc: Global, trade: Trade) -> Result<(), Status>
     })
 }
 
-/// Goes on with OUT, begins ACCEPTED, and feeds over boxes that were opened. ACCEPTED and both disks come back with the status. What is ensured of the run
-/// holds whatever CONFIG was before it was read.
+/// Goes on with OUT, begins ACCEPTED, and feeds over boxes that were opened. OUT, the dialer and the clock, ACCEPTED, and both disks come back with the
+/// status. What is ensured of the run holds whatever CONFIG was before it was read.
 fn feed_behind_out<
     S: Source,
     I: Source + Send,
@@ -68,42 +66,43 @@ fn feed_behind_out<
     alloc: Global,
     end: EndConfig,
     senders: u8,
-    devices: &mut Live<K, N, C>,
+    on: Over<K, N, C, D>,
     input: &mut I,
     over: &AtomicBool,
     accepted: A,
-    outbox: Outbox<SegJournal<D>>,
-    inbox: Inbox<SegJournal<D>>,
-) -> (Status, A, D, D)
-    requires least { 100 ≤ end.keepalive }
-    requires greatest { end.keepalive ≤ 60000 }
-    requires credentials { length end.credentials ≤ 2048 }
+) -> (Status, Live<K, N, C>, A, D, D)
+    requires config { (100 ≤ end.keepalive) × (end.keepalive ≤ 60000) × (length end.credentials ≤ 2048) }
     requires few { senders ≤ 16 }
-    requires sound { outboxes.is_broken outbox ≡ false }
-    requires in_sound { inboxes.is_broken inbox ≡ false }
-    requires flow { inboxes.flow_of inbox ≡ end.peer_flow }
-    requires lent { N.lent devices.old.dialer ≡ false }
-    requires few_entries { outboxes.front_of outbox < 2 ^ 40 }
-    ensures ended { (first config : S) (disks : Disks D) → AreOpened D.told D.faults disks outbox inbox
+    requires sound { (outboxes.is_broken on.outbox ≡ false) × (inboxes.is_broken on.inbox ≡ false) }
+    requires flow { inboxes.flow_of on.inbox ≡ end.peer_flow }
+    requires lent { N.lent on.live.dialer ≡ false }
+    requires few_entries { outboxes.front_of on.outbox < 2 ^ 40 }
+    ensures ended { (first config : S) (disks : Disks D) → AreOpened D.told D.faults disks on.outbox on.inbox
         → EndsBehindBoxes ⟦<SegJournal<D> as Journal>⟧
         (feed_sees (sees S.Source K.Sink D.Disk N.Dialer N.Link.Link C.Clock) K.keeps I.Source A.Sink) senders end
-        (around first devices.old input.old accepted disks)
-        (around config devices.new input.new result.1 (record { outbox = result.2; inbox = result.3 })) result.0 }
-    ensures lent { N.lent devices.new.dialer ≡ false }
-    ensures never_falls { (K.faults devices.old.out ≤ K.faults devices.new.out) × (N.faults devices.old.dialer ≤ N.faults devices.new.dialer) }
-    ensures disks_never_fall { (outboxes.faults_of outbox ≤ D.faults result.2) × (inboxes.faults_of inbox ≤ D.faults result.3) }
-    ensures streams_never_fall { (A.faults accepted ≤ A.faults result.1) × (I.faults input.old ≤ I.faults input.new) }
+        (around first on.live input.old accepted disks)
+        (around config result.1 input.new result.2 (record { outbox = result.3; inbox = result.4 })) result.0 }
+    ensures lent { N.lent result.1.dialer ≡ false }
+    ensures never_falls { (K.faults on.live.out ≤ K.faults result.1.out) × (N.faults on.live.dialer ≤ N.faults result.1.dialer) }
+    ensures disks_never_fall { (outboxes.faults_of on.outbox ≤ D.faults result.3) × (inboxes.faults_of on.inbox ≤ D.faults result.4) }
+    ensures streams_never_fall { (A.faults accepted ≤ A.faults result.2) × (I.faults input.old ≤ I.faults input.new) }
 {
-    let (mut accepted, mut outbox) = (accepted, outbox);
-    let mut inbox = match out_on(alloc, end.peer_flow, &mut devices.out, inbox) {
+    let OverBoxes {
+        mut live,
+        mut outbox,
+        inbox,
+    } = on;
+    let mut accepted = accepted;
+    let inbox = match out_on(alloc, end.peer_flow, &mut live.out, inbox) {
         Ok(inbox) => inbox,
-        Err((status, disk)) => return (status, accepted, close_outbox(outbox), disk),
+        Err((status, disk)) => return (status, live, accepted, close_outbox(outbox), disk),
     };
     match begin(&mut accepted) {
         Ok(()) => {}
         Err(_) => {
             return (
                 Status::OutputFault,
+                live,
                 accepted,
                 close_outbox(outbox),
                 close_inbox(inbox),
@@ -111,12 +110,26 @@ fn feed_behind_out<
         }
     }
     // A sender may add an entry before the first turn of a connection.
-    let now = devices.clock.now();
+    let now = live.clock.now();
     outbox.at(now);
-    let (status, accepted, outbox) = live_feeding(
-        rt, alloc, end, senders, devices, input, over, accepted, outbox, &mut inbox,
-    );
-    (status, accepted, close_outbox(outbox), close_inbox(inbox))
+    let on = OverBoxes {
+        live,
+        outbox,
+        inbox,
+    };
+    let (status, accepted, on) = live_feeding(rt, alloc, end, senders, on, input, over, accepted);
+    let OverBoxes {
+        live,
+        outbox,
+        inbox,
+    } = on;
+    (
+        status,
+        live,
+        accepted,
+        close_outbox(outbox),
+        close_inbox(inbox),
+    )
 }
 
 /// Opens the boxes of a session on their disks, and runs over them; the devices come back with the status. What is ensured of the run holds whatever CONFIG
@@ -160,28 +173,26 @@ fn feed_over_disks<
         dialer,
         clock,
     } = outside;
-    let mut devices = Live { out, dialer, clock };
-    let (status, accepted, out_disk, in_disk) = match open_boxes(
+    let live = Live { out, dialer, clock };
+    let (status, live, accepted, out_disk, in_disk) = match open_boxes(
         alloc,
         end.peer_flow,
         out_disk,
         in_disk,
     ) {
-        Ok((outbox, inbox)) => feed_behind_out::<S, I, K, A, D, N, C, R>(
-            rt,
-            alloc,
-            end,
-            senders,
-            &mut devices,
-            &mut input,
-            over,
-            accepted,
-            outbox,
-            inbox,
-        ),
-        Err((status, out_disk, in_disk)) => (status, accepted, out_disk, in_disk),
+        Ok((outbox, inbox)) => {
+            let on = OverBoxes {
+                live,
+                outbox,
+                inbox,
+            };
+            feed_behind_out::<S, I, K, A, D, N, C, R>(
+                rt, alloc, end, senders, on, &mut input, over, accepted,
+            )
+        }
+        Err((status, out_disk, in_disk)) => (status, live, accepted, out_disk, in_disk),
     };
-    let Live { out, dialer, clock } = devices;
+    let Live { out, dialer, clock } = live;
     let outside = FeedOutside {
         config,
         input,

@@ -17,15 +17,15 @@ ghost use Rattle.conn_feed.specs.declared.end.FeedEnd.TheVariants as ends;
 ghost use Rattle.life_laws.specs.PlanLives.{clocked};
 ghost use Rattle.fed_laws.specs.At.{FedAt, fed_beside};
 ghost use Rattle.cmd_session.specs.Outsides.{hears};
-ghost use Rattle.cmd_session.specs.Lived.{over_boxes, IsOfLife, BeganNone};
+ghost use Rattle.cmd_session.specs.Lived.{IsOfLife, BeganNone};
 ghost use Rattle.cmd_feed.specs.Fed.{refusal_of, status_of_feeding, streams, HasLivedFed};
 
 use cmd_base::Status;
-use cmd_session::{Live, MOST, made_gate, status_of};
+use cmd_session::{Live, MOST, Over, OverBoxes, made_gate, status_of};
 use conn_door::answer_of;
-use conn_fed::{Fed, serve_feeding};
+use conn_fed::{Fed, feed_lent};
 use conn_feed::{FeedEnd, Feeder};
-use conn_serve::ServeFault;
+use conn_serve::{Lent, Opening, ServeFault};
 use fixp_shake::EndConfig;
 use gate_plans::{Plan, Sender, give_last, seat, take_last, unseat};
 use gate_senders::{Gate, Kept};
@@ -33,8 +33,7 @@ use gate_turn::Passes;
 use gw_links::{Clock, Dialer};
 use gw_outside::{Disk, Sink, Source};
 use jr_dated::Journal;
-use jr_kept::{Inbox, Outbox};
-use jr_segments::SegJournal;
+use jr_kept::Inbox;
 use std::alloc::{AllocError, Global};
 use std::sync::Wait;
 use std::sync::atomic::AtomicBool;
@@ -88,8 +87,15 @@ fn status_of_feeding(fed: Fed) -> Status
     }
 }
 
-/// Seats the senders, serves the connections with the feeder of all senders beside them, and gives all passes back. ACCEPTED comes back behind what that
-/// came to.
+/// What a life that was fed came to, and what it was lived on: OUT, the dialer and the clock, the inbox, and ACCEPTED.
+struct FedLife<K, N, C, I: Journal, A> {
+    fed: Fed,
+    devices: Live<K, N, C>,
+    inbox: Inbox<I>,
+    accepted: A,
+}
+
+/// Seats the senders, serves the connections with the feeder of all senders beside them, and gives all passes back.
 fn serve_seated<
     O: Journal + Send,
     K: Sink,
@@ -104,70 +110,82 @@ fn serve_seated<
     alloc: Global,
     config: EndConfig,
     places: Places<O>,
-    devices: &mut Live<K, N, C>,
+    devices: Live<K, N, C>,
     input: &mut S,
     over: &AtomicBool,
     accepted: A,
     gate: &Gate<O>,
     passes: &mut Passes<Kept<O>>,
-    inbox: &mut Inbox<I>,
-) -> (Fed, A)
+    inbox: Inbox<I>,
+) -> FedLife<K, N, C, I, A>
     requires made { MadeAt gate.now passes.old (vec_len places.0 + 1) }
     requires count { senders_of gate.now ≡ vec_len places.0 }
     requires few { vec_len places.0 ≤ 16 }
     requires empty { places.1.items ≡ [] }
     requires room { vec_len places.0 ≤ vec_capacity places.1 }
     requires sent { length (opening_of gate.now).history.made < 2 ^ 40 }
-    requires lent { N.lent devices.old.dialer ≡ false }
-    requires flow { inboxes.flow_of inbox.old ≡ config.peer_flow }
-    requires limit { (inboxes.limits_of inbox.old).entries ≡ 2 ^ 26 }
-    requires numbered { inboxes.flow_of inbox.old ≡ flows.Recoverable → inboxes.next_of inbox.old + 1 < 2 ^ 64 }
+    requires lent { N.lent devices.dialer ≡ false }
+    requires flow { inboxes.flow_of inbox ≡ config.peer_flow }
+    requires limit { (inboxes.limits_of inbox).entries ≡ 2 ^ 26 }
+    requires numbered { inboxes.flow_of inbox ≡ flows.Recoverable → inboxes.next_of inbox + 1 < 2 ^ 64 }
     requires least { 100 ≤ config.keepalive }
     requires greatest { config.keepalive ≤ 60000 }
     requires credentials { length config.credentials ≤ 2048 }
     ensures back { AllBackAt gate.now passes.new }
-    ensures fed { FedAt (clocked O.tells N.Link.Link (C.last devices.old.clock) (C.last devices.new.clock)) (opening_of gate.now) (vec_len places.0) (known_at passes.new)
-        (fed_beside (beside (N.told devices.old.dialer) (K.taken devices.old.out) inbox.old) (S.left input.old) (A.taken accepted))
-        (fed_beside (beside (N.told devices.new.dialer) (K.taken devices.new.out) inbox.new) (S.left input.new) (A.taken result.1))
-        (fresh config (opened_state (opening_of gate.now).history inbox.old) (2 ^ 26)) result.0 }
-    ensures output { result.0.connections ≡ Err faults.Output → HasRisen (K.faults devices.old.out) (K.faults devices.new.out) }
-    ensures dial { result.0.connections ≡ Err faults.Dial → HasRisen (N.faults devices.old.dialer) (N.faults devices.new.dialer) }
-    ensures mark { (result.0.refused ≡ Some faults.Output → ⊥) × (result.0.refused ≡ Some faults.Dial → ⊥) }
-    ensures accepted { result.0.end ≡ ends.Accepted → HasRisen (A.faults accepted) (A.faults result.1) }
-    ensures input { result.0.end ≡ ends.Input → HasRisen (S.faults input.old) (S.faults input.new) }
-    ensures counted { (A.faults accepted ≤ A.faults result.1) × (S.faults input.old ≤ S.faults input.new) }
-    ensures lent { N.lent devices.new.dialer ≡ false }
-    ensures never_falls { (inboxes.faults_of inbox.old ≤ inboxes.faults_of inbox.new) × (K.faults devices.old.out ≤ K.faults devices.new.out) × (N.faults devices.old.dialer ≤ N.faults devices.new.dialer) }
+    ensures fed { FedAt (clocked O.tells N.Link.Link (C.last devices.clock) (C.last result.devices.clock)) (opening_of gate.now) (vec_len places.0) (known_at passes.new)
+        (fed_beside (beside (N.told devices.dialer) (K.taken devices.out) inbox) (S.left input.old) (A.taken accepted))
+        (fed_beside (beside (N.told result.devices.dialer) (K.taken result.devices.out) result.inbox) (S.left input.new) (A.taken result.accepted))
+        (fresh config (opened_state (opening_of gate.now).history inbox) (2 ^ 26)) result.fed }
+    ensures output { result.fed.connections ≡ Err faults.Output → HasRisen (K.faults devices.out) (K.faults result.devices.out) }
+    ensures dial { result.fed.connections ≡ Err faults.Dial → HasRisen (N.faults devices.dialer) (N.faults result.devices.dialer) }
+    ensures mark { (result.fed.refused ≡ Some faults.Output → ⊥) × (result.fed.refused ≡ Some faults.Dial → ⊥) }
+    ensures accepted { result.fed.end ≡ ends.Accepted → HasRisen (A.faults accepted) (A.faults result.accepted) }
+    ensures input { result.fed.end ≡ ends.Input → HasRisen (S.faults input.old) (S.faults input.new) }
+    ensures counted { (A.faults accepted ≤ A.faults result.accepted) × (S.faults input.old ≤ S.faults input.new) }
+    ensures unlent { N.lent result.devices.dialer ≡ false }
+    ensures never_falls { (inboxes.faults_of inbox ≤ inboxes.faults_of result.inbox) × (K.faults devices.out ≤ K.faults result.devices.out) × (N.faults devices.dialer ≤ N.faults result.devices.dialer) }
 {
     let (plans, seats) = places;
     let count = plans.len() as u16;
     let senders = seat(gate, passes, plans, seats);
-    let mut pass = take_last(gate, passes, count);
+    let pass = take_last(gate, passes, count);
     let mut feeder = Feeder::new(alloc, gate, senders, accepted, rt);
-    let fed = serve_feeding(
+    let opening = Opening {
         alloc,
-        &mut devices.dialer,
-        &mut devices.out,
         gate,
-        &mut pass,
-        inbox,
-        &mut devices.clock,
         config,
-        MOST,
-        &mut feeder,
-        input,
-        over,
-        rt,
-    );
+        most: MOST,
+    };
+    let Live { out, dialer, clock } = devices;
+    let lent = Lent {
+        out,
+        dialer,
+        clock,
+        pass,
+        inbox,
+    };
+    let (fed, lent) = feed_lent(opening, lent, &mut feeder, input, over, rt);
     let (senders, accepted) = feeder.into_parts();
+    let Lent {
+        out,
+        dialer,
+        clock,
+        pass,
+        inbox,
+    } = lent;
     give_last(gate, passes, count, pass);
     unseat(gate, senders, passes);
-    (fed, accepted)
+    FedLife {
+        fed,
+        devices: Live { out, dialer, clock },
+        inbox,
+        accepted,
+    }
 }
 
 /// Serves the connections of the dialer, and beside them feeds so many senders the lines of INPUT as they come: each line is submitted behind all that the
 /// outbox has of its sender, and ACCEPTED is told what came of it, behind how many messages each sender had. INPUT is asked no more once `over` is set,
-/// which is done behind the connections. ACCEPTED and the outbox come back with the status.
+/// which is done behind the connections. ACCEPTED and what it was lived on come back with the status.
 pub fn live_feeding<
     K: Sink,
     D: Disk + Send,
@@ -181,50 +199,56 @@ pub fn live_feeding<
     alloc: Global,
     config: EndConfig,
     senders: u8,
-    devices: &mut Live<K, N, C>,
+    on: Over<K, N, C, D>,
     input: &mut S,
     over: &AtomicBool,
     accepted: A,
-    outbox: Outbox<SegJournal<D>>,
-    inbox: &mut Inbox<SegJournal<D>>,
-) -> (Status, A, Outbox<SegJournal<D>>)
-    requires sound { outboxes.is_broken outbox ≡ false }
-    requires in_sound { inboxes.is_broken inbox.old ≡ false }
-    requires few_entries { outboxes.front_of outbox < 2 ^ 40 }
+) -> (Status, A, Over<K, N, C, D>)
+    requires sound { (outboxes.is_broken on.outbox ≡ false) × (inboxes.is_broken on.inbox ≡ false) }
+    requires few_entries { outboxes.front_of on.outbox < 2 ^ 40 }
     requires few { senders ≤ 16 }
-    requires lent { N.lent devices.old.dialer ≡ false }
-    requires flow { inboxes.flow_of inbox.old ≡ config.peer_flow }
-    requires limit { (inboxes.limits_of inbox.old).entries ≡ 2 ^ 26 }
-    requires numbered { inboxes.flow_of inbox.old ≡ flows.Recoverable → inboxes.next_of inbox.old + 1 < 2 ^ 64 }
-    requires least { 100 ≤ config.keepalive }
-    requires greatest { config.keepalive ≤ 60000 }
-    requires credentials { length config.credentials ≤ 2048 }
-    ensures lived { ((result.0 ≡ Status.Memory) × (input.new ≡ input.old) × (result.1 ≡ accepted)
-        × BeganNone K.taken K.faults (over_boxes devices.old outbox inbox.old) (over_boxes devices.new result.2 inbox.new) result.0)
-        ⊎ HasLivedFed (hears K.Sink N.Dialer N.Link.Link C.Clock) config senders (over_boxes devices.old outbox inbox.old) (over_boxes devices.new result.2 inbox.new)
+    requires lent { N.lent on.live.dialer ≡ false }
+    requires flow { inboxes.flow_of on.inbox ≡ config.peer_flow }
+    requires limit { (inboxes.limits_of on.inbox).entries ≡ 2 ^ 26 }
+    requires numbered { inboxes.flow_of on.inbox ≡ flows.Recoverable → inboxes.next_of on.inbox + 1 < 2 ^ 64 }
+    requires config { (100 ≤ config.keepalive) × (config.keepalive ≤ 60000) × (length config.credentials ≤ 2048) }
+    ensures lived { ((result.0 ≡ Status.Memory) × (input.new ≡ input.old) × (result.1 ≡ accepted) × BeganNone K.taken K.faults on result.2 result.0)
+        ⊎ HasLivedFed (hears K.Sink N.Dialer N.Link.Link C.Clock) config senders on result.2
         (streams (S.left input.old) (A.taken accepted)) (streams (S.left input.new) (A.taken result.1)) result.0 }
     ensures of_life { IsOfLife result.0 ⊎ (result.0 ≡ Status.InputFault) }
     ensures input { result.0 ≡ Status.InputFault → HasRisen (S.faults input.old) (S.faults input.new) }
-    ensures output { result.0 ≡ Status.OutputFault → HasRisen (K.faults devices.old.out) (K.faults devices.new.out) ⊎ HasRisen (A.faults accepted) (A.faults result.1) }
-    ensures dial { result.0 ≡ Status.DialFault → HasRisen (N.faults devices.old.dialer) (N.faults devices.new.dialer) }
-    ensures lent { N.lent devices.new.dialer ≡ false }
-    ensures never_falls { (inboxes.faults_of inbox.old ≤ inboxes.faults_of inbox.new) × (K.faults devices.old.out ≤ K.faults devices.new.out) × (N.faults devices.old.dialer ≤ N.faults devices.new.dialer) }
-    ensures outbox_never_falls { outboxes.faults_of outbox ≤ outboxes.faults_of result.2 }
+    ensures output { result.0 ≡ Status.OutputFault → HasRisen (K.faults on.live.out) (K.faults result.2.live.out) ⊎ HasRisen (A.faults accepted) (A.faults result.1) }
+    ensures dial { result.0 ≡ Status.DialFault → HasRisen (N.faults on.live.dialer) (N.faults result.2.live.dialer) }
+    ensures lent { N.lent result.2.live.dialer ≡ false }
+    ensures never_falls { (inboxes.faults_of on.inbox ≤ inboxes.faults_of result.2.inbox) × (outboxes.faults_of on.outbox ≤ outboxes.faults_of result.2.outbox) }
+    ensures devices_never_fall { (K.faults on.live.out ≤ K.faults result.2.live.out) × (N.faults on.live.dialer ≤ N.faults result.2.live.dialer) }
     ensures streams_never_fall { (A.faults accepted ≤ A.faults result.1) × (S.faults input.old ≤ S.faults input.new) }
 {
     let Ok(places) = made_places(alloc, u16::from(senders)) else {
-        return (Status::Memory, accepted, outbox);
+        return (Status::Memory, accepted, on);
     };
+    let OverBoxes {
+        live,
+        outbox,
+        inbox,
+    } = on;
     let (gate, mut passes) = match made_gate(alloc, outbox, u16::from(senders)) {
         Ok(made) => made,
-        Err(outbox) => return (Status::Memory, accepted, outbox),
+        Err(outbox) => {
+            let on = OverBoxes {
+                live,
+                outbox,
+                inbox,
+            };
+            return (Status::Memory, accepted, on);
+        }
     };
-    let (fed, accepted) = serve_seated(
+    let lived = serve_seated(
         rt,
         alloc,
         config,
         places,
-        devices,
+        live,
         input,
         over,
         accepted,
@@ -232,5 +256,16 @@ pub fn live_feeding<
         &mut passes,
         inbox,
     );
-    (status_of_feeding(fed), accepted, gate.close(passes))
+    let FedLife {
+        fed,
+        devices,
+        inbox,
+        accepted,
+    } = lived;
+    let on = OverBoxes {
+        live: devices,
+        outbox: gate.close(passes),
+        inbox,
+    };
+    (status_of_feeding(fed), accepted, on)
 }

@@ -9,38 +9,35 @@ use Rattle.jr_kept.specs.declared.inbox.Inbox.{Inbox}
 use Rattle.jr_kept.specs.declared.outbox.Outbox.{Outbox}
 use Rattle.cmd_base.specs.Contents.{Disks}
 use Rattle.cmd_base.specs.declared.status.Status.{Status}
-use Rattle.cmd_session.specs.Lived.{OverBoxes, LivedOn}
+use Rattle.cmd_session.specs.Lived.{LivedOn}
+use Rattle.cmd_session.specs.declared.outside.OverBoxes.{OverBoxes}
 use Rattle.cmd_session.specs.Outsides.{Sees}
 use Rattle.cmd_session.specs.Steps.{RefusedBoxes, EndsByPlans, EndsAnswering}
 use Rattle.cmd_session.specs.declared.outside.Live.{Live}
 use Rattle.cmd_session.specs.declared.outside.SessionOutside.{SessionOutside}
 
-abbrev pub given : {S K D N C : Type 0} → (config input : S) → Live K N C → Status × D × D → SessionOutside S K D N C
-given config input devices s = record {
+abbrev pub given : {S K D N C : Type 0} → (config input : S) → Status × Live K N C × D × D → SessionOutside S K D N C
+given config input s = record {
   config = config;
   input = input;
-  out = devices.out;
-  out_disk = s.1;
-  in_disk = s.2;
-  dialer = devices.dialer;
-  clock = devices.clock;
+  out = s.1.out;
+  out_disk = s.2;
+  in_disk = s.3;
+  dialer = s.1.dialer;
+  clock = s.1.clock;
 }
 
-given_back : {S K D N C : Type 0} (P : SessionOutside S K D N C → Status → Type 0) (config input input' : S) (devices devices' : Live K N C) (s s' : Status × D × D)
-    → input' ≡ input → devices' ≡ devices → s' ≡ s → P (given config input devices s) s.0 → P (given config input' devices' s') s'.0
-given_back P config input input' devices devices' s s' i d e h =
-    subst (λ t. P (given config input' devices' t) t.0) (sym e)
-    (subst (λ l. P (given config input' l s) s.0) (sym d)
-    (subst (λ x. P (given config x devices s) s.0) (sym i) h))
+given_back : {S K D N C : Type 0} (P : SessionOutside S K D N C → Status → Type 0) (config input input' : S) (s s' : Status × Live K N C × D × D)
+    → input' ≡ input → s' ≡ s → P (given config input s) s.0 → P (given config input' s') s'.0
+given_back P config input input' s s' i e h = subst (λ t. P (given config input' t) t.0) (sym e) (subst (λ x. P (given config x s) s.0) (sym i) h)
 
-pub given_by_plans : {S K D N C J : Type 0} (G : Ghosts J) (sees : Sees S K D N C) (role : Role) (c : Configuration) (before : SessionOutside S K D N C) (config input input' : S) (devices devices' : Live K N C) (s s' : Status × D × D)
-    → input' ≡ input → devices' ≡ devices → s' ≡ s → EndsByPlans G sees role c before (given config input devices s) s.0
-    → EndsByPlans G sees role c before (given config input' devices' s') s'.0
+pub given_by_plans : {S K D N C J : Type 0} (G : Ghosts J) (sees : Sees S K D N C) (role : Role) (c : Configuration) (before : SessionOutside S K D N C) (config input input' : S) (s s' : Status × Live K N C × D × D)
+    → input' ≡ input → s' ≡ s → EndsByPlans G sees role c before (given config input s) s.0 → EndsByPlans G sees role c before (given config input' s') s'.0
 given_by_plans G sees role c before = given_back (λ after status. EndsByPlans G sees role c before after status)
 
-pub given_answering : {S K D N C J : Type 0} (G : Ghosts J) (sees : Sees S K D N C) (config' : EndConfig) (senders : Senders) (before : SessionOutside S K D N C) (config input input' : S) (devices devices' : Live K N C) (s s' : Status × D × D)
-    → input' ≡ input → devices' ≡ devices → s' ≡ s → EndsAnswering G sees config' senders before (given config input devices s) s.0
-    → EndsAnswering G sees config' senders before (given config input' devices' s') s'.0
+pub given_answering : {S K D N C J : Type 0} (G : Ghosts J) (sees : Sees S K D N C) (config' : EndConfig) (senders : Senders) (before : SessionOutside S K D N C) (config input input' : S) (s s' : Status × Live K N C × D × D)
+    → input' ≡ input → s' ≡ s → EndsAnswering G sees config' senders before (given config input s) s.0
+    → EndsAnswering G sees config' senders before (given config input' s') s'.0
 given_answering G sees config' senders before = given_back (λ after status. EndsAnswering G sees config' senders before after status)
 
 -- how the boxes were not opened, and what was lived over them, by an equal configuration

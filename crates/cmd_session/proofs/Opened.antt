@@ -1,5 +1,5 @@
 -- What holds of boxes that were opened, and of a pass of a gate that was made round one.
-use Rattle.std.proofs.Common.{◌≡◌, ℕ, ◌+◌, ◌≤◌, List, [], ◌∷◌, ◌++◌, length, Some, refl, sym, ap, ◌∙◌, subst, arith, append-nil, append_assoc, length-append}
+use Rattle.std.proofs.Common.{◌≡◌, ℕ, ◌+◌, ◌<◌, ◌≤◌, ◌^◌, false, List, [], ◌∷◌, ◌++◌, length, Some, refl, sym, ap, ◌∙◌, subst, arith, append-nil, append_assoc, length-append}
 use Rattle.std.proofs.Math.Logic.{∥∥₁_elim}
 use native.Mathlib.Nat.{ℕ_set}
 use Rattle.fixp_msgs.specs.declared.flow.Flow.{Flow}
@@ -11,10 +11,17 @@ use Rattle.jr_dated.specs.declared.journal.Journal.{Ghosts}
 use Rattle.jr_boxes.specs.Inboxes.{Fits}
 use Rattle.jr_kept.specs.declared.outbox.Outbox.{Outbox}
 use Rattle.jr_kept.specs.Outbox.{HoldsBox, front_of}
+use Rattle.jr_kept.specs.Inbox as inboxes
+use Rattle.fixp_shake.specs.declared.config.EndConfig.{EndConfig}
+use Rattle.conn_serve.specs.declared.life.Lent.{Lent}
+use Rattle.conn_serve.specs.Hears.{Hears}
+use Rattle.conn_serve.specs.Lives.{MayOpen}
+use Rattle.gate_senders.specs.Gate.{IsPassAt, opening_of}
+use Rattle.gate_senders.specs.declared.gate.Gate.{Gate}
 use Rattle.gate_turn.specs.Views.{Account, Part}
 use Rattle.gate_turn.specs.Places.{known}
 use Rattle.gate_turn.specs.Listed.{pass_at, known_at}
-use Rattle.gate_turn.specs.Calls.{made_part}
+use Rattle.gate_turn.specs.Calls.{IsFree, made_part}
 use Rattle.gate_turn.specs.declared.pass.Pass.{Pass}
 use Rattle.gate_turn.specs.declared.passes.Passes.{Passes}
 use Rattle.gate_turn.proofs.Histories.{begins_self}
@@ -47,3 +54,26 @@ module _ {J : Type 0} {G : Ghosts J} where
 pub seen_at : {T : Type 0} (old at : Passes T) (pass : Pass T) (n made : ℕ) (a : Account) → known_at old n ≡ made_part made a n → pass_at at n ≡ pass_at old n → pass_at at n ≡ Some pass → BeginsHistory a.history (known pass).seen
 seen_at old at pass n made a is same there =
     subst (λ h. BeginsHistory a.history h) (sym (ap (λ (p : Part). p.seen) (part_at old at pass n (made_part made a n) is same there))) (begins_self a.history)
+
+-- the same of a pass that has that part
+pub seen_by : {T : Type 0} (pass : Pass T) (n made : ℕ) (a : Account) → known pass ≡ made_part made a n → BeginsHistory a.history (known pass).seen
+seen_by pass n made a is = subst (λ h. BeginsHistory a.history h) (sym (ap (λ (p : Part). p.seen) is)) (begins_self a.history)
+
+-- a life may open with what it is lent
+pub opens_with : {K N C O I : Type 0} {G : Ghosts O} {H : Ghosts I} (hears : Hears K N C) (gate : Gate O G) (config : EndConfig) (lent : Lent K N O I C G H) → IsPassAt gate lent.pass → IsFree lent.pass
+    → BeginsHistory (opening_of gate).history (known lent.pass).seen → length (opening_of gate).history.made < 2 ^ 40 → hears.lent lent.dialer ≡ false
+    → (100 ≤ config.keepalive) × (config.keepalive ≤ 60000) × (length config.credentials ≤ 2048) → inboxes.flow_of lent.inbox ≡ config.peer_flow → (inboxes.limits_of lent.inbox).entries ≡ 2 ^ 26
+    → (inboxes.flow_of lent.inbox ≡ flows.Recoverable → inboxes.next_of lent.inbox + 1 < 2 ^ 64) → MayOpen hears gate config (2 ^ 26) lent
+opens_with hears gate config lent own free opened sent unlent ranges flow limit numbered = record {
+  own = own;
+  free = free;
+  opened = opened;
+  sent = sent;
+  unlent = unlent;
+  keepalive = (ranges.0, ranges.1);
+  credentials = ranges.2;
+  most_is = omega arith;
+  within = omega (arith, limit);
+  flow = flow;
+  numbered = λ e. numbered (flow ∙ e);
+}

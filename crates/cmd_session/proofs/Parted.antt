@@ -30,8 +30,7 @@ use Rattle.conn_serve.specs.Answering.{IsOfBusiness, AnsweringAt, answering_at, 
 use Rattle.conn_serve.specs.Causes.{IsBlamed}
 use Rattle.conn_serve.specs.Moments.{beside}
 use Rattle.conn_serve.specs.Opening.{opened_state}
-use Rattle.conn_serve.proofs.Living.{nothing_served}
-use Rattle.conn_serve.proofs.Opening.{blamed_none}
+use Rattle.conn_serve.proofs.Lending.{none_answered}
 use Rattle.life_laws.specs.PlanLives.{clocked, LivesOnceClosed}
 use Rattle.life_laws.proofs.Passes.{answer_blames, blamed_at}
 use Rattle.life_laws.specs.Answered.{answering}
@@ -48,19 +47,6 @@ blamed_so tells links before behind old new m result s x memory no_business e = 
     (λ c. blamed_at (IsBlamed tells (faults_around old) (faults_around new)) s.connections x s.blamed c)
     (λ r. absurd (no_business (s.refusal x r).of_business))
     (answer_blames s.connections new.business.refused x memory (sym s.answer ∙ e))
-
--- nothing was served, and nothing answered, where there was no memory to begin
-none_answered : {J : Type 0} {G : Ghosts J} {L : Type 0} (tells : Type 0) (links : LinkGhosts L) (clock : ℕ) (at : AnsweringAt J G) (m : State) → at.business.refused ≡ None
-    → AnsweredSo tells links clock clock at at m (Err faults.Memory)
-none_answered tells links clock at m none = record {
-  connections = Err faults.Memory;
-  life = nothing_served links clock at.dialed at.out at.pass.seen m at.box;
-  blamed = blamed_none (faults_around at) (faults_around at);
-  answer = ap (answer_of (Err faults.Memory)) (sym none);
-  shown = λ n inside. stays_self (at.business.part n);
-  refusal = λ fault e. absurd (none-some fault (sym none ∙ e));
-  business = inr (refl, refl);
-}
 
 looks_self : (p : Part) → Looks p p
 looks_self p = record {

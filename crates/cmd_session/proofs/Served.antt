@@ -35,7 +35,8 @@ use Rattle.life_laws.specs.Plans.{Senders}
 use Rattle.life_laws.specs.PlanLives.{Clocked, clocked, LivedBoxes}
 use Rattle.life_laws.proofs.Passes.{answer_blames, blamed_at}
 use Rattle.cmd_base.specs.declared.status.Status.{Status}
-use Rattle.cmd_session.specs.Lived.{OverBoxes, over_boxes, BeganNone, HasLived}
+use Rattle.cmd_session.specs.Lived.{over_boxes, BeganNone, HasLived}
+use Rattle.cmd_session.specs.declared.outside.OverBoxes.{OverBoxes}
 use Rattle.cmd_session.specs.Outsides.{Hears}
 use Rattle.cmd_session.specs.declared.outside.Live.{Live}
 

@@ -47,6 +47,7 @@ use Rattle.plan_outbox.specs.Behind.{GoesOnFrom}
 use Rattle.cmd_session.specs.Inputs.{ArePlanned}
 use Rattle.cmd_session.specs.Outsides.{Sees, Hears, heard, live_of, disks_of}
 use Rattle.cmd_session.specs.declared.outside.Live.{Live}
+use Rattle.cmd_session.specs.declared.outside.OverBoxes.{OverBoxes}
 use Rattle.cmd_session.specs.declared.outside.SessionOutside.{SessionOutside}
 
 -- the status of a life that was served so
@@ -209,12 +210,7 @@ module _ {S K D N C : Type 0} where
     pub out_kept : Keeps (sees.taken before.out) (sees.taken after.out)
     pub left : LeftBoth sees.told sees.may_leave (disks_of before) (disks_of after)
 
--- what a life over boxes is lived on: OUT, the dialer and the clock, and the boxes
-pub record OverBoxes (K N C O I : Type 0) : Type 0 where
-  pub live : Live K N C
-  pub outbox : O
-  pub inbox : I
-
+-- what a life over boxes is lived on
 abbrev pub over_boxes : {K N C O I : Type 0} → Live K N C → O → I → OverBoxes K N C O I
 over_boxes live outbox inbox = record { live = live; outbox = outbox; inbox = inbox }
 

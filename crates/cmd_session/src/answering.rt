@@ -25,14 +25,14 @@ ghost use Rattle.life_laws.specs.PlanLives.{clocked, LivesOnceClosed};
 ghost use Rattle.life_laws.specs.Answered.{answering};
 ghost use Rattle.cmd_session.specs.Answers.{desks_of, plan_of, MayAnswer, AreOf};
 ghost use Rattle.cmd_session.specs.Outsides.{hears};
-ghost use Rattle.cmd_session.specs.Lived.{over_boxes, IsOfLife, BeganNone, HasLived};
+ghost use Rattle.cmd_session.specs.Lived.{IsOfLife, BeganNone, HasLived};
 
 use crate::boxes::MOST;
-use crate::life::{made_gate, status_of};
-use crate::outside::Live;
+use crate::life::{Lived, Over, made_gate, status_of};
+use crate::outside::{Live, OverBoxes};
 use cmd_base::Status;
 use cmd_config::Trade;
-use conn_serve::{Answering, ServeFault, serve_answering};
+use conn_serve::{Answering, Lent, Opening, ServeFault, answer_lent};
 use fixp_shake::EndConfig;
 use gate_business::{Business, give_connection, take_connection};
 use gate_plans::OpenDoor;
@@ -41,8 +41,7 @@ use gate_turn::{Pass, Passes};
 use gw_links::{Clock, Dialer};
 use gw_outside::{Disk, Sink};
 use jr_dated::Journal;
-use jr_kept::{Inbox, Outbox};
-use jr_segments::SegJournal;
+use jr_kept::Inbox;
 use order_book::Book;
 use order_book_gate::BookDesk;
 use order_gate::{Desk, Desks, Form, Terms};
@@ -124,7 +123,31 @@ fn desk_sends<O: Journal + Send>()
     sends::<Desk<O>>();
 }
 
-/// Serves the connections of the dialer, with a business of so many desks that answers what they apply. All passes come back.
+/// All passes of so many desks and of the connection, where there was no memory for those who answer.
+fn none_made<O: Journal>(
+    gate: &Gate<O>,
+    passes: Passes<Kept<O>>,
+    desks: u16,
+    pass: Pass<Kept<O>>,
+) -> Passes<Kept<O>>
+    requires few { desks ≤ 16 }
+    requires own { IsPassAt gate.now pass }
+    requires free { IsFree pass }
+    requires number { (known pass).number ≡ desks + 1 }
+    requires alone { desks ≡ 0 → (known pass).made ≡ 1 }
+    requires these { HasThese (lock_of gate.now) passes desks }
+    requires first { 0 < desks → (known_at passes 1).made ≡ desks + 1 }
+    ensures back { AllBackAt gate.now result }
+    ensures parts { (n : ℕ) → In desks n → known_at result n ≡ known_at passes n }
+    ensures last { known_at result (desks + 1) ≡ known pass }
+{
+    let mut passes = passes;
+    give_connection(gate, &mut passes, desks, pass);
+    passes
+}
+
+/// Serves the connections of the dialer, with a business of so many desks that answers what they apply. All passes come back. They are written apart
+/// from what else comes back: a list of one length beside what is generic would have its size proved at each call.
 fn serve_business<
     O: Journal + Send,
     K: Sink,
@@ -139,11 +162,12 @@ fn serve_business<
     config: EndConfig,
     business: B,
     desks: u16,
-    devices: &mut Live<K, N, C>,
+    devices: Live<K, N, C>,
     gate: &Gate<O>,
     pass: Pass<Kept<O>>,
-    inbox: &mut Inbox<I>,
-) -> (Result<(), ServeFault>, Passes<Kept<O>>)
+    inbox: Inbox<I>,
+    back: &mut Passes<Kept<O>>,
+) -> Lived<K, N, C, I>
     requires count { B.count business ≡ desks }
     requires senders { senders_of gate.now ≡ desks }
     requires some { 0 < desks }
@@ -154,64 +178,51 @@ fn serve_business<
     requires own { IsPassAt gate.now pass }
     requires free { IsFree pass }
     requires sent { length (opening_of gate.now).history.made < 2 ^ 40 }
-    requires in_sound { inboxes.is_broken inbox.old ≡ false }
-    requires held { ∥ ((i : List InboxRecord) × inboxes.HoldsBox inbox.old i []) ∥₁ }
-    requires lent { N.lent devices.old.dialer ≡ false }
-    requires flow { inboxes.flow_of inbox.old ≡ config.peer_flow }
-    requires limit { (inboxes.limits_of inbox.old).entries ≡ 2 ^ 26 }
-    requires numbered { inboxes.flow_of inbox.old ≡ flows.Recoverable → inboxes.next_of inbox.old + 1 < 2 ^ 64 }
-    requires least { 100 ≤ config.keepalive }
-    requires greatest { config.keepalive ≤ 60000 }
-    requires credentials { length config.credentials ≤ 2048 }
-    ensures back { AllBackAt gate.now result.1 }
-    ensures lived { LivesOnceClosed (clocked O.tells N.Link.Link (C.last devices.old.clock) (C.last devices.new.clock)) config (answering (B.plan business) (B.count business)) (beside (N.told devices.old.dialer) (K.taken devices.old.out) inbox.old) (beside (N.told devices.new.dialer) (K.taken devices.new.out) inbox.new) gate.now result.1 result.0 }
-    ensures output { result.0 ≡ Err faults.Output → HasRisen (K.faults devices.old.out) (K.faults devices.new.out) }
-    ensures dial { result.0 ≡ Err faults.Dial → HasRisen (N.faults devices.old.dialer) (N.faults devices.new.dialer) }
-    ensures lent { N.lent devices.new.dialer ≡ false }
-    ensures never_falls { (inboxes.faults_of inbox.old ≤ inboxes.faults_of inbox.new) × (K.faults devices.old.out ≤ K.faults devices.new.out) × (N.faults devices.old.dialer ≤ N.faults devices.new.dialer) }
+    requires in_sound { inboxes.is_broken inbox ≡ false }
+    requires held { ∥ ((i : List InboxRecord) × inboxes.HoldsBox inbox i []) ∥₁ }
+    requires lent { N.lent devices.dialer ≡ false }
+    requires flow { inboxes.flow_of inbox ≡ config.peer_flow }
+    requires limit { (inboxes.limits_of inbox).entries ≡ 2 ^ 26 }
+    requires numbered { inboxes.flow_of inbox ≡ flows.Recoverable → inboxes.next_of inbox + 1 < 2 ^ 64 }
+    requires config { (100 ≤ config.keepalive) × (config.keepalive ≤ 60000) × (length config.credentials ≤ 2048) }
+    ensures back { AllBackAt gate.now back.new }
+    ensures lived { LivesOnceClosed (clocked O.tells N.Link.Link (C.last devices.clock) (C.last result.devices.clock)) config (answering (B.plan business) (B.count business)) (beside (N.told devices.dialer) (K.taken devices.out) inbox) (beside (N.told result.devices.dialer) (K.taken result.devices.out) result.inbox) gate.now back.new result.answer }
+    ensures output { result.answer ≡ Err faults.Output → HasRisen (K.faults devices.out) (K.faults result.devices.out) }
+    ensures dial { result.answer ≡ Err faults.Dial → HasRisen (N.faults devices.dialer) (N.faults result.devices.dialer) }
+    ensures unlent { N.lent result.devices.dialer ≡ false }
+    ensures never_falls { (inboxes.faults_of inbox ≤ inboxes.faults_of result.inbox) × (K.faults devices.out ≤ K.faults result.devices.out) × (N.faults devices.dialer ≤ N.faults result.devices.dialer) }
 {
-    let mut pass = pass;
     let mut answering = Answering::new(alloc, business);
-    let answer = serve_answering(
+    let opening = Opening {
         alloc,
-        &mut devices.dialer,
-        &mut devices.out,
         gate,
-        &mut pass,
-        inbox,
-        &mut devices.clock,
         config,
-        MOST,
-        &mut answering,
-        rt,
-    );
+        most: MOST,
+    };
+    let Live { out, dialer, clock } = devices;
+    let lent = Lent {
+        out,
+        dialer,
+        clock,
+        pass,
+        inbox,
+    };
+    let (answer, lent) = answer_lent(opening, lent, &mut answering, rt);
     let mut passes = answering.end().end();
+    let Lent {
+        out,
+        dialer,
+        clock,
+        pass,
+        inbox,
+    } = lent;
     give_connection(gate, &mut passes, desks, pass);
-    (answer, passes)
-}
-
-/// All passes of so many desks and of the connection, where there was no memory for those who answer.
-fn none_made<O: Journal>(
-    gate: &Gate<O>,
-    passes: Passes<Kept<O>>,
-    desks: u16,
-    pass: Pass<Kept<O>>,
-) -> (Result<(), ServeFault>, Passes<Kept<O>>)
-    requires few { desks ≤ 16 }
-    requires own { IsPassAt gate.now pass }
-    requires free { IsFree pass }
-    requires number { (known pass).number ≡ desks + 1 }
-    requires alone { desks ≡ 0 → (known pass).made ≡ 1 }
-    requires these { HasThese (lock_of gate.now) passes desks }
-    requires first { 0 < desks → (known_at passes 1).made ≡ desks + 1 }
-    ensures answer { result.0 ≡ Err faults.Memory }
-    ensures back { AllBackAt gate.now result.1 }
-    ensures parts { (n : ℕ) → In desks n → known_at result.1 n ≡ known_at passes n }
-    ensures last { known_at result.1 (desks + 1) ≡ known pass }
-{
-    let mut passes = passes;
-    give_connection(gate, &mut passes, desks, pass);
-    (Err(ServeFault::Memory), passes)
+    *back = passes;
+    Lived {
+        answer,
+        devices: Live { out, dialer, clock },
+        inbox,
+    }
 }
 
 /// Those who answer, made for the passes of so many desks: they serve the connections, and all passes come back, also where there is no
@@ -228,30 +239,29 @@ fn serve_answerer<
     alloc: Global,
     config: EndConfig,
     answerer: Answerer,
-    devices: &mut Live<K, N, C>,
+    devices: Live<K, N, C>,
     gate: &Gate<O>,
     passes: Passes<Kept<O>>,
-    inbox: &mut Inbox<I>,
-) -> (Result<(), ServeFault>, Passes<Kept<O>>)
+    inbox: Inbox<I>,
+    back: &mut Passes<Kept<O>>,
+) -> Lived<K, N, C, I>
     requires able { MayAnswer answerer }
     requires senders { senders_of gate.now ≡ desks_of answerer }
     requires made { MadeAt gate.now passes (desks_of answerer + 1) }
     requires sent { length (opening_of gate.now).history.made < 2 ^ 40 }
-    requires in_sound { inboxes.is_broken inbox.old ≡ false }
-    requires held { ∥ ((i : List InboxRecord) × inboxes.HoldsBox inbox.old i []) ∥₁ }
-    requires lent { N.lent devices.old.dialer ≡ false }
-    requires flow { inboxes.flow_of inbox.old ≡ config.peer_flow }
-    requires limit { (inboxes.limits_of inbox.old).entries ≡ 2 ^ 26 }
-    requires numbered { inboxes.flow_of inbox.old ≡ flows.Recoverable → inboxes.next_of inbox.old + 1 < 2 ^ 64 }
-    requires least { 100 ≤ config.keepalive }
-    requires greatest { config.keepalive ≤ 60000 }
-    requires credentials { length config.credentials ≤ 2048 }
-    ensures back { AllBackAt gate.now result.1 }
-    ensures lived { LivesOnceClosed (clocked O.tells N.Link.Link (C.last devices.old.clock) (C.last devices.new.clock)) config (answering (plan_of answerer) (desks_of answerer)) (beside (N.told devices.old.dialer) (K.taken devices.old.out) inbox.old) (beside (N.told devices.new.dialer) (K.taken devices.new.out) inbox.new) gate.now result.1 result.0 }
-    ensures output { result.0 ≡ Err faults.Output → HasRisen (K.faults devices.old.out) (K.faults devices.new.out) }
-    ensures dial { result.0 ≡ Err faults.Dial → HasRisen (N.faults devices.old.dialer) (N.faults devices.new.dialer) }
-    ensures lent { N.lent devices.new.dialer ≡ false }
-    ensures never_falls { (inboxes.faults_of inbox.old ≤ inboxes.faults_of inbox.new) × (K.faults devices.old.out ≤ K.faults devices.new.out) × (N.faults devices.old.dialer ≤ N.faults devices.new.dialer) }
+    requires in_sound { inboxes.is_broken inbox ≡ false }
+    requires held { ∥ ((i : List InboxRecord) × inboxes.HoldsBox inbox i []) ∥₁ }
+    requires lent { N.lent devices.dialer ≡ false }
+    requires flow { inboxes.flow_of inbox ≡ config.peer_flow }
+    requires limit { (inboxes.limits_of inbox).entries ≡ 2 ^ 26 }
+    requires numbered { inboxes.flow_of inbox ≡ flows.Recoverable → inboxes.next_of inbox + 1 < 2 ^ 64 }
+    requires config { (100 ≤ config.keepalive) × (config.keepalive ≤ 60000) × (length config.credentials ≤ 2048) }
+    ensures back { AllBackAt gate.now back.new }
+    ensures lived { LivesOnceClosed (clocked O.tells N.Link.Link (C.last devices.clock) (C.last result.devices.clock)) config (answering (plan_of answerer) (desks_of answerer)) (beside (N.told devices.dialer) (K.taken devices.out) inbox) (beside (N.told result.devices.dialer) (K.taken result.devices.out) result.inbox) gate.now back.new result.answer }
+    ensures output { result.answer ≡ Err faults.Output → HasRisen (K.faults devices.out) (K.faults result.devices.out) }
+    ensures dial { result.answer ≡ Err faults.Dial → HasRisen (N.faults devices.dialer) (N.faults result.devices.dialer) }
+    ensures unlent { N.lent result.devices.dialer ≡ false }
+    ensures never_falls { (inboxes.faults_of inbox ≤ inboxes.faults_of result.inbox) × (K.faults devices.out ≤ K.faults result.devices.out) × (N.faults devices.dialer ≤ N.faults result.devices.dialer) }
 {
     form_sends();
     book_sends();
@@ -262,58 +272,90 @@ fn serve_answerer<
     let pass = take_connection(gate, &mut passes, count);
     match answerer {
         Answerer::Desks(terms) => match Desks::new(alloc, passes, terms, OpenDoor) {
-            Ok(desks) => {
-                serve_business(rt, alloc, config, desks, count, devices, gate, pass, inbox)
+            Ok(desks) => serve_business(
+                rt, alloc, config, desks, count, devices, gate, pass, inbox, back,
+            ),
+            Err(passes) => {
+                *back = none_made(gate, passes, count, pass);
+                Lived {
+                    answer: Err(ServeFault::Memory),
+                    devices,
+                    inbox,
+                }
             }
-            Err(passes) => none_made(gate, passes, count, pass),
         },
         Answerer::Book { version } => match BookDesk::new(alloc, passes, version) {
-            Ok(book) => {
-                serve_business(rt, alloc, config, book, count, devices, gate, pass, inbox)
+            Ok(book) => serve_business(
+                rt, alloc, config, book, count, devices, gate, pass, inbox, back,
+            ),
+            Err(passes) => {
+                *back = none_made(gate, passes, count, pass);
+                Lived {
+                    answer: Err(ServeFault::Memory),
+                    devices,
+                    inbox,
+                }
             }
-            Err(passes) => none_made(gate, passes, count, pass),
         },
     }
 }
 
-/// Serves the connections of the dialer, with those who answer beside them, each by a pass of its own. The outbox comes back with the
+/// Serves the connections of the dialer, with those who answer beside them, each by a pass of its own. What it is lived on comes back with the
 /// status.
 pub fn live_answering<K: Sink, D: Disk + Send, N: Dialer, C: Clock, R: Threads + Wait + Sync>(
     rt: &R,
     alloc: Global,
     config: EndConfig,
     answerer: Answerer,
-    devices: &mut Live<K, N, C>,
-    outbox: Outbox<SegJournal<D>>,
-    inbox: &mut Inbox<SegJournal<D>>,
-) -> (Status, Outbox<SegJournal<D>>)
+    over: Over<K, N, C, D>,
+) -> (Status, Over<K, N, C, D>)
     requires able { MayAnswer answerer }
-    requires sound { outboxes.is_broken outbox ≡ false }
-    requires in_sound { inboxes.is_broken inbox.old ≡ false }
-    requires held { ∥ ((i : List InboxRecord) × inboxes.HoldsBox inbox.old i []) ∥₁ }
-    requires few_entries { outboxes.front_of outbox < 2 ^ 40 }
-    requires lent { N.lent devices.old.dialer ≡ false }
-    requires flow { inboxes.flow_of inbox.old ≡ config.peer_flow }
-    requires limit { (inboxes.limits_of inbox.old).entries ≡ 2 ^ 26 }
-    requires numbered { inboxes.flow_of inbox.old ≡ flows.Recoverable → inboxes.next_of inbox.old + 1 < 2 ^ 64 }
-    requires least { 100 ≤ config.keepalive }
-    requires greatest { config.keepalive ≤ 60000 }
-    requires credentials { length config.credentials ≤ 2048 }
-    ensures lived { BeganNone K.taken K.faults (over_boxes devices.old outbox inbox.old) (over_boxes devices.new result.1 inbox.new) result.0
-        ⊎ HasLived (hears K.Sink N.Dialer N.Link.Link C.Clock) config (answering (plan_of answerer) (desks_of answerer)) (over_boxes devices.old outbox inbox.old) (over_boxes devices.new result.1 inbox.new) result.0 }
+    requires sound { (outboxes.is_broken over.outbox ≡ false) × (inboxes.is_broken over.inbox ≡ false) }
+    requires held { ∥ ((i : List InboxRecord) × inboxes.HoldsBox over.inbox i []) ∥₁ }
+    requires few_entries { outboxes.front_of over.outbox < 2 ^ 40 }
+    requires lent { N.lent over.live.dialer ≡ false }
+    requires flow { inboxes.flow_of over.inbox ≡ config.peer_flow }
+    requires limit { (inboxes.limits_of over.inbox).entries ≡ 2 ^ 26 }
+    requires numbered { inboxes.flow_of over.inbox ≡ flows.Recoverable → inboxes.next_of over.inbox + 1 < 2 ^ 64 }
+    requires config { (100 ≤ config.keepalive) × (config.keepalive ≤ 60000) × (length config.credentials ≤ 2048) }
+    ensures lived { BeganNone K.taken K.faults over result.1 result.0
+        ⊎ HasLived (hears K.Sink N.Dialer N.Link.Link C.Clock) config (answering (plan_of answerer) (desks_of answerer)) over result.1 result.0 }
     ensures of_life { IsOfLife result.0 }
-    ensures output { result.0 ≡ Status.OutputFault → HasRisen (K.faults devices.old.out) (K.faults devices.new.out) }
-    ensures dial { result.0 ≡ Status.DialFault → HasRisen (N.faults devices.old.dialer) (N.faults devices.new.dialer) }
-    ensures lent { N.lent devices.new.dialer ≡ false }
-    ensures never_falls { (inboxes.faults_of inbox.old ≤ inboxes.faults_of inbox.new) × (K.faults devices.old.out ≤ K.faults devices.new.out) × (N.faults devices.old.dialer ≤ N.faults devices.new.dialer) }
-    ensures outbox_never_falls { outboxes.faults_of outbox ≤ outboxes.faults_of result.1 }
+    ensures output { result.0 ≡ Status.OutputFault → HasRisen (K.faults over.live.out) (K.faults result.1.live.out) }
+    ensures dial { result.0 ≡ Status.DialFault → HasRisen (N.faults over.live.dialer) (N.faults result.1.live.dialer) }
+    ensures lent { N.lent result.1.live.dialer ≡ false }
+    ensures never_falls { (inboxes.faults_of over.inbox ≤ inboxes.faults_of result.1.inbox) × (outboxes.faults_of over.outbox ≤ outboxes.faults_of result.1.outbox) }
+    ensures devices_never_fall { (K.faults over.live.out ≤ K.faults result.1.live.out) × (N.faults over.live.dialer ≤ N.faults result.1.live.dialer) }
 {
+    let OverBoxes {
+        live,
+        outbox,
+        inbox,
+    } = over;
     let (gate, passes) = match made_gate(alloc, outbox, answerer.desks()) {
         Ok(made) => made,
-        Err(outbox) => return (Status::Memory, outbox),
+        Err(outbox) => {
+            let over = OverBoxes {
+                live,
+                outbox,
+                inbox,
+            };
+            return (Status::Memory, over);
+        }
     };
-    let (answer, passes) = serve_answerer(
-        rt, alloc, config, answerer, devices, &gate, passes, inbox,
+    let mut back = Passes::new();
+    let lived = serve_answerer(
+        rt, alloc, config, answerer, live, &gate, passes, inbox, &mut back,
     );
-    (status_of(answer), gate.close(passes))
+    let Lived {
+        answer,
+        devices,
+        inbox,
+    } = lived;
+    let over = OverBoxes {
+        live: devices,
+        outbox: gate.close(back),
+        inbox,
+    };
+    (status_of(answer), over)
 }

@@ -13,7 +13,7 @@ ghost use Rattle.life_laws.specs.Plans.{submitting};
 ghost use Rattle.life_laws.specs.Answered.{answering};
 ghost use Rattle.cmd_session.specs.Answers.{desks_of, plan_of, MayAnswer};
 ghost use Rattle.cmd_session.specs.Inputs.{ArePlanned};
-ghost use Rattle.cmd_session.specs.Lived.{OpensOutbox, OpensInbox, GoOn, LeftBoth, IsOfLife, BeganNone, HasLived, over_boxes};
+ghost use Rattle.cmd_session.specs.Lived.{OpensOutbox, OpensInbox, GoOn, LeftBoth, IsOfLife, BeganNone, HasLived};
 ghost use Rattle.cmd_session.specs.Outsides.{hears, sees, counts_of};
 ghost use Rattle.cmd_session.specs.Steps.{RefusedInput, RefusedPlans, HoldBoxes, RefusedBoxes, EndsByPlans, EndsAnswering, EndsBehindConfig, Steps};
 
@@ -21,8 +21,8 @@ use crate::answering::{Answerer, answerer_of, live_answering};
 use crate::boxes::{close_inbox, close_outbox, open_inbox, open_outbox};
 use crate::going_on::plans_on;
 use crate::inputs::end_config;
-use crate::life::live;
-use crate::outside::{Live, SessionOutside};
+use crate::life::{Over, live};
+use crate::outside::{Live, OverBoxes, SessionOutside};
 use cmd_base::{Status, begin, read_config};
 use cmd_config::Configuration;
 use fixp_shake::{EndConfig, Flow, Role};
@@ -118,79 +118,71 @@ fn open_session<S: Source, D: Disk>(
     }
 }
 
-/// Begins OUT, and lives over the boxes by these plans. The outbox comes back with the status.
+/// Begins OUT, and lives over the boxes by these plans. What it is lived on comes back with the status.
 fn run_over_boxes<K: Sink, D: Disk + Send, N: Dialer, C: Clock, R: Threads + Wait + Sync>(
     rt: &R,
     alloc: Global,
     config: EndConfig,
     plans: Vec<Plan>,
-    devices: &mut Live<K, N, C>,
-    outbox: Outbox<SegJournal<D>>,
-    inbox: &mut Inbox<SegJournal<D>>,
-) -> (Status, Outbox<SegJournal<D>>)
-    requires least { 100 ≤ config.keepalive }
-    requires greatest { config.keepalive ≤ 60000 }
-    requires credentials { length config.credentials ≤ 2048 }
+    over: Over<K, N, C, D>,
+) -> (Status, Over<K, N, C, D>)
+    requires config { (100 ≤ config.keepalive) × (config.keepalive ≤ 60000) × (length config.credentials ≤ 2048) }
     requires few { vec_len plans ≤ 16 }
-    requires sound { outboxes.is_broken outbox ≡ false }
-    requires in_sound { inboxes.is_broken inbox.old ≡ false }
-    requires lent { N.lent devices.old.dialer ≡ false }
-    requires flow { inboxes.flow_of inbox.old ≡ config.peer_flow }
-    requires limit { (inboxes.limits_of inbox.old).entries ≡ 2 ^ 26 }
-    requires numbered { inboxes.flow_of inbox.old ≡ flows.Recoverable → inboxes.next_of inbox.old + 1 < 2 ^ 64 }
-    requires few_entries { outboxes.front_of outbox < 2 ^ 40 }
-    ensures lived { BeganNone K.taken K.faults (over_boxes devices.old outbox inbox.old) (over_boxes devices.new result.1 inbox.new) result.0
-        ⊎ HasLived (hears K.Sink N.Dialer N.Link.Link C.Clock) config (submitting (map payloads_of plans.items)) (over_boxes devices.old outbox inbox.old) (over_boxes devices.new result.1 inbox.new) result.0 }
+    requires sound { (outboxes.is_broken over.outbox ≡ false) × (inboxes.is_broken over.inbox ≡ false) }
+    requires lent { N.lent over.live.dialer ≡ false }
+    requires flow { inboxes.flow_of over.inbox ≡ config.peer_flow }
+    requires limit { (inboxes.limits_of over.inbox).entries ≡ 2 ^ 26 }
+    requires numbered { inboxes.flow_of over.inbox ≡ flows.Recoverable → inboxes.next_of over.inbox + 1 < 2 ^ 64 }
+    requires few_entries { outboxes.front_of over.outbox < 2 ^ 40 }
+    ensures lived { BeganNone K.taken K.faults over result.1 result.0
+        ⊎ HasLived (hears K.Sink N.Dialer N.Link.Link C.Clock) config (submitting (map payloads_of plans.items)) over result.1 result.0 }
     ensures of_life { IsOfLife result.0 }
-    ensures output { result.0 ≡ Status.OutputFault → HasRisen (K.faults devices.old.out) (K.faults devices.new.out) }
-    ensures dial { result.0 ≡ Status.DialFault → HasRisen (N.faults devices.old.dialer) (N.faults devices.new.dialer) }
-    ensures lent { N.lent devices.new.dialer ≡ false }
-    ensures never_falls { (K.faults devices.old.out ≤ K.faults devices.new.out) × (N.faults devices.old.dialer ≤ N.faults devices.new.dialer) }
-    ensures boxes_never_fall { (outboxes.faults_of outbox ≤ outboxes.faults_of result.1) × (inboxes.faults_of inbox.old ≤ inboxes.faults_of inbox.new) }
+    ensures output { result.0 ≡ Status.OutputFault → HasRisen (K.faults over.live.out) (K.faults result.1.live.out) }
+    ensures dial { result.0 ≡ Status.DialFault → HasRisen (N.faults over.live.dialer) (N.faults result.1.live.dialer) }
+    ensures lent { N.lent result.1.live.dialer ≡ false }
+    ensures never_falls { (K.faults over.live.out ≤ K.faults result.1.live.out) × (N.faults over.live.dialer ≤ N.faults result.1.live.dialer) }
+    ensures boxes_never_fall { (outboxes.faults_of over.outbox ≤ outboxes.faults_of result.1.outbox) × (inboxes.faults_of over.inbox ≤ inboxes.faults_of result.1.inbox) }
 {
-    match begin(&mut devices.out) {
+    let mut over = over;
+    match begin(&mut over.live.out) {
         Ok(()) => {}
-        Err(_) => return (Status::OutputFault, outbox),
+        Err(_) => return (Status::OutputFault, over),
     }
-    live(rt, alloc, config, plans, devices, outbox, inbox)
+    live(rt, alloc, config, plans, over)
 }
 
-/// Begins OUT, and lives over the boxes with those who answer. The outbox comes back with the status.
+/// Begins OUT, and lives over the boxes with those who answer. What it is lived on comes back with the status.
 fn answer_over_boxes<K: Sink, D: Disk + Send, N: Dialer, C: Clock, R: Threads + Wait + Sync>(
     rt: &R,
     alloc: Global,
     config: EndConfig,
     answerer: Answerer,
-    devices: &mut Live<K, N, C>,
-    outbox: Outbox<SegJournal<D>>,
-    inbox: &mut Inbox<SegJournal<D>>,
-) -> (Status, Outbox<SegJournal<D>>)
+    over: Over<K, N, C, D>,
+) -> (Status, Over<K, N, C, D>)
     requires able { MayAnswer answerer }
-    requires least { 100 ≤ config.keepalive }
-    requires greatest { config.keepalive ≤ 60000 }
-    requires credentials { length config.credentials ≤ 2048 }
-    requires sound { outboxes.is_broken outbox ≡ false }
-    requires in_sound { inboxes.is_broken inbox.old ≡ false }
-    requires held { ∥ ((i : List InboxRecord) × inboxes.HoldsBox inbox.old i []) ∥₁ }
-    requires lent { N.lent devices.old.dialer ≡ false }
-    requires flow { inboxes.flow_of inbox.old ≡ config.peer_flow }
-    requires limit { (inboxes.limits_of inbox.old).entries ≡ 2 ^ 26 }
-    requires numbered { inboxes.flow_of inbox.old ≡ flows.Recoverable → inboxes.next_of inbox.old + 1 < 2 ^ 64 }
-    requires few_entries { outboxes.front_of outbox < 2 ^ 40 }
-    ensures lived { BeganNone K.taken K.faults (over_boxes devices.old outbox inbox.old) (over_boxes devices.new result.1 inbox.new) result.0
-        ⊎ HasLived (hears K.Sink N.Dialer N.Link.Link C.Clock) config (answering (plan_of answerer) (desks_of answerer)) (over_boxes devices.old outbox inbox.old) (over_boxes devices.new result.1 inbox.new) result.0 }
+    requires config { (100 ≤ config.keepalive) × (config.keepalive ≤ 60000) × (length config.credentials ≤ 2048) }
+    requires sound { (outboxes.is_broken over.outbox ≡ false) × (inboxes.is_broken over.inbox ≡ false) }
+    requires held { ∥ ((i : List InboxRecord) × inboxes.HoldsBox over.inbox i []) ∥₁ }
+    requires lent { N.lent over.live.dialer ≡ false }
+    requires flow { inboxes.flow_of over.inbox ≡ config.peer_flow }
+    requires limit { (inboxes.limits_of over.inbox).entries ≡ 2 ^ 26 }
+    requires numbered { inboxes.flow_of over.inbox ≡ flows.Recoverable → inboxes.next_of over.inbox + 1 < 2 ^ 64 }
+    requires few_entries { outboxes.front_of over.outbox < 2 ^ 40 }
+    ensures lived { BeganNone K.taken K.faults over result.1 result.0
+        ⊎ HasLived (hears K.Sink N.Dialer N.Link.Link C.Clock) config (answering (plan_of answerer) (desks_of answerer)) over result.1 result.0 }
     ensures of_life { IsOfLife result.0 }
-    ensures output { result.0 ≡ Status.OutputFault → HasRisen (K.faults devices.old.out) (K.faults devices.new.out) }
-    ensures dial { result.0 ≡ Status.DialFault → HasRisen (N.faults devices.old.dialer) (N.faults devices.new.dialer) }
-    ensures lent { N.lent devices.new.dialer ≡ false }
-    ensures never_falls { (K.faults devices.old.out ≤ K.faults devices.new.out) × (N.faults devices.old.dialer ≤ N.faults devices.new.dialer) }
-    ensures boxes_never_fall { (outboxes.faults_of outbox ≤ outboxes.faults_of result.1) × (inboxes.faults_of inbox.old ≤ inboxes.faults_of inbox.new) }
+    ensures output { result.0 ≡ Status.OutputFault → HasRisen (K.faults over.live.out) (K.faults result.1.live.out) }
+    ensures dial { result.0 ≡ Status.DialFault → HasRisen (N.faults over.live.dialer) (N.faults result.1.live.dialer) }
+    ensures lent { N.lent result.1.live.dialer ≡ false }
+    ensures never_falls { (K.faults over.live.out ≤ K.faults result.1.live.out) × (N.faults over.live.dialer ≤ N.faults result.1.live.dialer) }
+    ensures boxes_never_fall { (outboxes.faults_of over.outbox ≤ outboxes.faults_of result.1.outbox) × (inboxes.faults_of over.inbox ≤ inboxes.faults_of result.1.inbox) }
 {
-    match begin(&mut devices.out) {
+    let mut over = over;
+    match begin(&mut over.live.out) {
         Ok(()) => {}
-        Err(_) => return (Status::OutputFault, outbox),
+        Err(_) => return (Status::OutputFault, over),
     }
-    live_answering(rt, alloc, config, answerer, devices, outbox, inbox)
+    live_answering(rt, alloc, config, answerer, over)
 }
 
 /// Opens the boxes of a session whose end answers on their disks, and runs over them; INPUT is left as it is. The devices come back with the status.
@@ -222,27 +214,34 @@ fn run_answering<S: Source, K: Sink, D: Disk + Send, N: Dialer, C: Clock, R: Thr
         dialer,
         clock,
     } = outside;
-    let mut devices = Live { out, dialer, clock };
-    let (status, out_disk, in_disk) = match open_boxes(alloc, end.peer_flow, out_disk, in_disk) {
+    let mut live = Live { out, dialer, clock };
+    let (status, live, out_disk, in_disk) = match open_boxes(
+        alloc,
+        end.peer_flow,
+        out_disk,
+        in_disk,
+    ) {
         Ok(opened) => {
-            let (mut outbox, mut inbox) = opened;
+            let (mut outbox, inbox) = opened;
             // They may add an entry before the first turn of a connection.
-            let now = devices.clock.now();
+            let now = live.clock.now();
             outbox.at(now);
-            let (status, left) = answer_over_boxes(
-                rt,
-                alloc,
-                end,
-                answerer,
-                &mut devices,
+            let over = OverBoxes {
+                live,
                 outbox,
-                &mut inbox,
-            );
-            (status, close_outbox(left), close_inbox(inbox))
+                inbox,
+            };
+            let (status, over) = answer_over_boxes(rt, alloc, end, answerer, over);
+            let OverBoxes {
+                live,
+                outbox: left,
+                inbox,
+            } = over;
+            (status, live, close_outbox(left), close_inbox(inbox))
         }
-        Err(refused) => refused,
+        Err((status, out_disk, in_disk)) => (status, live, out_disk, in_disk),
     };
-    let Live { out, dialer, clock } = devices;
+    let Live { out, dialer, clock } = live;
     let outside = SessionOutside {
         config,
         input,
@@ -283,8 +282,8 @@ fn run_by_plans<S: Source, K: Sink, D: Disk + Send, N: Dialer, C: Clock, R: Thre
         dialer,
         clock,
     } = outside;
-    let mut devices = Live { out, dialer, clock };
-    let (status, out_disk, in_disk) = match open_session(
+    let mut live = Live { out, dialer, clock };
+    let (status, live, out_disk, in_disk) = match open_session(
         alloc,
         end.peer_flow,
         trade.senders,
@@ -293,24 +292,26 @@ fn run_by_plans<S: Source, K: Sink, D: Disk + Send, N: Dialer, C: Clock, R: Thre
         in_disk,
     ) {
         Ok(opened) => {
-            let (mut outbox, mut inbox, plans) = opened;
+            let (mut outbox, inbox, plans) = opened;
             // A sender may add an entry before the first turn of a connection.
-            let now = devices.clock.now();
+            let now = live.clock.now();
             outbox.at(now);
-            let (status, outbox) = run_over_boxes(
-                rt,
-                alloc,
-                end,
-                plans,
-                &mut devices,
+            let over = OverBoxes {
+                live,
                 outbox,
-                &mut inbox,
-            );
-            (status, close_outbox(outbox), close_inbox(inbox))
+                inbox,
+            };
+            let (status, over) = run_over_boxes(rt, alloc, end, plans, over);
+            let OverBoxes {
+                live,
+                outbox,
+                inbox,
+            } = over;
+            (status, live, close_outbox(outbox), close_inbox(inbox))
         }
-        Err(refused) => refused,
+        Err((status, out_disk, in_disk)) => (status, live, out_disk, in_disk),
     };
-    let Live { out, dialer, clock } = devices;
+    let Live { out, dialer, clock } = live;
     let outside = SessionOutside {
         config,
         input,

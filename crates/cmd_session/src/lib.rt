@@ -17,5 +17,5 @@ pub use boxes::{MOST, close_inbox, close_outbox, open_inbox};
 pub use command::{open_boxes, run_session};
 pub use fixp_shake::Role;
 pub use inputs::end_config;
-pub use life::{Made, made_gate, status_of};
-pub use outside::{Live, SessionOutside};
+pub use life::{Made, Over, made_gate, status_of};
+pub use outside::{Live, OverBoxes, SessionOutside};

@@ -3,36 +3,34 @@
 
 ghost use Rattle.std.specs.Prelude.{◌≡◌, ◌⊎◌, ◌+◌, ◌<◌, ◌≤◌, ◌^◌, false, [], map, length, vec_len, vec_capacity, Err, IfOk, IfErr};
 ghost use Rattle.gw_outside.specs.Faults.{HasRisen};
-ghost use Rattle.session_model.specs.Journal.{BeginsHistory};
 ghost use Rattle.fixp_msgs.specs.declared.flow.Flow.TheVariants as flows;
 ghost use Rattle.jr_kept.specs.Outbox as outboxes;
 ghost use Rattle.jr_kept.specs.Inbox as inboxes;
-ghost use Rattle.gate_senders.specs.Gate.{opening_of, senders_of, OpensOn, IsPassAt, MadeAt, AllBackAt};
+ghost use Rattle.gate_senders.specs.Gate.{opening_of, senders_of, OpensOn, MadeAt, AllBackAt};
 ghost use Rattle.fixp_machine.specs.Machine.{fresh};
 ghost use Rattle.plan_values.specs.Plans.{payloads_of};
-ghost use Rattle.gate_turn.specs.Places.{known};
 ghost use Rattle.gate_turn.specs.Listed.{known_at};
-ghost use Rattle.gate_turn.specs.Calls.{IsFree};
-ghost use Rattle.conn_loop.specs.Conn.{Looks};
 ghost use Rattle.gate_plans.specs.Seats.{Seated};
 ghost use Rattle.conn_door.specs.declared.answer.ServeFault.TheVariants as faults;
 ghost use Rattle.conn_door.specs.Senders.{SomeMarked};
-ghost use Rattle.conn_serve.specs.Moments.{beside, serving_at};
+ghost use Rattle.conn_serve.specs.Moments.{beside};
+ghost use Rattle.conn_serve.specs.Hears as lives;
+ghost use Rattle.conn_serve.specs.Lives.{serving_with, MayOpen, ComesBack};
 ghost use Rattle.conn_door.specs.Answers.{IsUnrefused};
 ghost use Rattle.conn_serve.specs.Opening.{opened_state, ServedThrough};
 ghost use Rattle.life_laws.specs.Plans.{submitting};
 ghost use Rattle.life_laws.specs.PlanLives.{clocked, ServedAt};
 ghost use Rattle.cmd_session.specs.Outsides.{hears};
-ghost use Rattle.cmd_session.specs.Lived.{status_of, over_boxes, IsOfLife, BeganNone, HasLived};
+ghost use Rattle.cmd_session.specs.Lived.{status_of, IsOfLife, BeganNone, HasLived};
 
 use crate::boxes::MOST;
-use crate::outside::Live;
+use crate::outside::{Live, OverBoxes};
 use cmd_base::{JournalCause, Status};
-use conn_serve::{ServeFault, serve};
+use conn_serve::{Lent, Opening, ServeFault, serve_lent};
 use fixp_shake::EndConfig;
 use gate_plans::{Sender, count_done, give_last, seat, take_last, unseat};
 use gate_senders::{Gate, Kept};
-use gate_turn::{Pass, Passes};
+use gate_turn::Passes;
 use gw_links::{Clock, Dialer};
 use gw_outside::{Disk, Sink};
 use jr_dated::Journal;
@@ -67,64 +65,38 @@ pub fn status_of(answer: Result<(), ServeFault>) -> Status
     }
 }
 
-/// Serves the connections of the dialer, with the senders that were seated beside them.
+/// What a life came to, and what it was lived on: OUT, the dialer and the clock, and the inbox.
+pub(crate) struct Lived<K, N, C, I: Journal> {
+    pub answer: Result<(), ServeFault>,
+    pub devices: Live<K, N, C>,
+    pub inbox: Inbox<I>,
+}
+
+/// Serves the connections of the dialer, with the senders that were seated beside them. What was lent to the life comes back.
 fn serve_beside<
-    O: Journal + Send,
     K: Sink,
-    I: Journal,
     N: Dialer,
+    O: Journal + Send,
+    I: Journal,
     C: Clock,
     R: Threads + Wait + Sync,
 >(
-    rt: &R,
-    alloc: Global,
-    config: EndConfig,
+    opening: Opening<'_, O>,
+    lent: Lent<K, N, O, I, C>,
     senders: &mut Vec<Sender<O>>,
-    out: &mut K,
-    dialer: &mut N,
-    clock: &mut C,
-    gate: &Gate<O>,
-    pass: &mut Pass<Kept<O>>,
-    inbox: &mut Inbox<I>,
-) -> Result<(), ServeFault>
-    requires seated { Seated gate.now senders.old.items (vec_len senders.old + 1) }
-    requires own { IsPassAt gate.now pass.old }
-    requires free { IsFree pass.old }
-    requires opened { BeginsHistory (opening_of gate.now).history (known pass.old).seen }
-    requires sent { length (opening_of gate.now).history.made < 2 ^ 40 }
-    requires lent { N.lent dialer.old ≡ false }
-    requires flow { inboxes.flow_of inbox.old ≡ config.peer_flow }
-    requires limit { (inboxes.limits_of inbox.old).entries ≡ 2 ^ 26 }
-    requires numbered { inboxes.flow_of inbox.old ≡ flows.Recoverable → inboxes.next_of inbox.old + 1 < 2 ^ 64 }
-    requires least { 100 ≤ config.keepalive }
-    requires greatest { config.keepalive ≤ 60000 }
-    requires credentials { length config.credentials ≤ 2048 }
-    ensures seated { Seated gate.now senders.new.items (vec_len senders.new + 1) }
+    rt: &R,
+) -> (Result<(), ServeFault>, Lent<K, N, O, I, C>)
+    requires seated { Seated opening.gate.now senders.old.items (vec_len senders.old + 1) }
+    requires may { MayOpen (lives.hears K.Sink N.Dialer N.Link.Link C.Clock) opening.gate.now opening.config opening.most lent }
+    ensures seated { Seated opening.entry.gate.now senders.new.items (vec_len senders.new + 1) }
     ensures count { vec_len senders.new ≡ vec_len senders.old }
-    ensures own { IsPassAt gate.now pass.new }
-    ensures free { IsFree pass.new }
-    ensures looks { Looks (known pass.old) (known pass.new) }
-    ensures through { ServedThrough N.Link.Link (C.last clock.old) (C.last clock.new) gate.now (serving_at (N.told dialer.old) (K.taken out.old) (K.faults out.old) (N.faults dialer.old) (known pass.old) inbox.old senders.old.items) (serving_at (N.told dialer.new) (K.taken out.new) (K.faults out.new) (N.faults dialer.new) (known pass.new) inbox.new senders.new.items) (fresh config (opened_state (opening_of gate.now).history inbox.old) (2 ^ 26)) result }
-    ensures marked { IsUnrefused result → 0 < vec_len senders.old → SomeMarked senders.new.items }
-    ensures limits { inboxes.limits_of inbox.new ≡ inboxes.limits_of inbox.old }
-    ensures output { result ≡ Err faults.Output → HasRisen (K.faults out.old) (K.faults out.new) }
-    ensures dial { result ≡ Err faults.Dial → HasRisen (N.faults dialer.old) (N.faults dialer.new) }
-    ensures lent { N.lent dialer.new ≡ false }
-    ensures never_falls { (inboxes.faults_of inbox.old ≤ inboxes.faults_of inbox.new) × (K.faults out.old ≤ K.faults out.new) × (N.faults dialer.old ≤ N.faults dialer.new) }
+    ensures comes_back { ComesBack (lives.hears K.Sink N.Dialer N.Link.Link C.Clock) opening.entry.gate.now lent result.1 }
+    ensures through { ServedThrough N.Link.Link (C.last lent.clock) (C.last result.1.clock) opening.entry.gate.now (serving_with (lives.hears K.Sink N.Dialer N.Link.Link C.Clock) lent senders.old.items) (serving_with (lives.hears K.Sink N.Dialer N.Link.Link C.Clock) result.1 senders.new.items) (fresh opening.entry.config (opened_state (opening_of opening.entry.gate.now).history lent.inbox) opening.entry.most) result.0 }
+    ensures marked { IsUnrefused result.0 → 0 < vec_len senders.old → SomeMarked senders.new.items }
+    ensures output { result.0 ≡ Err faults.Output → HasRisen (K.faults lent.out) (K.faults result.1.out) }
+    ensures dial { result.0 ≡ Err faults.Dial → HasRisen (N.faults lent.dialer) (N.faults result.1.dialer) }
 {
-    serve(
-        alloc,
-        dialer,
-        out,
-        gate,
-        pass,
-        inbox,
-        clock,
-        config,
-        MOST,
-        senders.as_mut_slice(),
-        rt,
-    )
+    serve_lent(opening, lent, senders.as_mut_slice(), rt)
 }
 
 /// Seats a sender for each plan and counts what the outbox has of each as done, serves the connections beside them, and gives all
@@ -142,55 +114,70 @@ fn serve_seated<
     config: EndConfig,
     mut plans: Vec<Plan>,
     seats: Vec<Sender<O>>,
-    out: &mut K,
-    dialer: &mut N,
-    clock: &mut C,
+    devices: Live<K, N, C>,
     gate: &Gate<O>,
     passes: &mut Passes<Kept<O>>,
-    inbox: &mut Inbox<I>,
-) -> Result<(), ServeFault>
+    inbox: Inbox<I>,
+) -> Lived<K, N, C, I>
     requires made { MadeAt gate.now passes.old (vec_len plans + 1) }
     requires count { senders_of gate.now ≡ vec_len plans }
     requires few { vec_len plans ≤ 16 }
     requires empty { seats.items ≡ [] }
     requires room { vec_len plans ≤ vec_capacity seats }
     requires sent { length (opening_of gate.now).history.made < 2 ^ 40 }
-    requires lent { N.lent dialer.old ≡ false }
-    requires flow { inboxes.flow_of inbox.old ≡ config.peer_flow }
-    requires limit { (inboxes.limits_of inbox.old).entries ≡ 2 ^ 26 }
-    requires numbered { inboxes.flow_of inbox.old ≡ flows.Recoverable → inboxes.next_of inbox.old + 1 < 2 ^ 64 }
+    requires lent { N.lent devices.dialer ≡ false }
+    requires flow { inboxes.flow_of inbox ≡ config.peer_flow }
+    requires limit { (inboxes.limits_of inbox).entries ≡ 2 ^ 26 }
+    requires numbered { inboxes.flow_of inbox ≡ flows.Recoverable → inboxes.next_of inbox + 1 < 2 ^ 64 }
     requires least { 100 ≤ config.keepalive }
     requires greatest { config.keepalive ≤ 60000 }
     requires credentials { length config.credentials ≤ 2048 }
     ensures back { AllBackAt gate.now passes.new }
-    ensures served { ServedAt (clocked O.tells N.Link.Link (C.last clock.old) (C.last clock.new)) (opening_of gate.now) (map payloads_of plans.items) (known_at passes.new) (beside (N.told dialer.old) (K.taken out.old) inbox.old) (beside (N.told dialer.new) (K.taken out.new) inbox.new) (fresh config (opened_state (opening_of gate.now).history inbox.old) (2 ^ 26)) result }
-    ensures output { result ≡ Err faults.Output → HasRisen (K.faults out.old) (K.faults out.new) }
-    ensures dial { result ≡ Err faults.Dial → HasRisen (N.faults dialer.old) (N.faults dialer.new) }
-    ensures lent { N.lent dialer.new ≡ false }
-    ensures never_falls { (inboxes.faults_of inbox.old ≤ inboxes.faults_of inbox.new) × (K.faults out.old ≤ K.faults out.new) × (N.faults dialer.old ≤ N.faults dialer.new) }
+    ensures served { ServedAt (clocked O.tells N.Link.Link (C.last devices.clock) (C.last result.devices.clock)) (opening_of gate.now) (map payloads_of plans.items) (known_at passes.new) (beside (N.told devices.dialer) (K.taken devices.out) inbox) (beside (N.told result.devices.dialer) (K.taken result.devices.out) result.inbox) (fresh config (opened_state (opening_of gate.now).history inbox) (2 ^ 26)) result.answer }
+    ensures output { result.answer ≡ Err faults.Output → HasRisen (K.faults devices.out) (K.faults result.devices.out) }
+    ensures dial { result.answer ≡ Err faults.Dial → HasRisen (N.faults devices.dialer) (N.faults result.devices.dialer) }
+    ensures lent { N.lent result.devices.dialer ≡ false }
+    ensures never_falls { (inboxes.faults_of inbox ≤ inboxes.faults_of result.inbox) × (K.faults devices.out ≤ K.faults result.devices.out) × (N.faults devices.dialer ≤ N.faults result.devices.dialer) }
 {
     let count = plans.len() as u16;
     // Seats are given from the last plan on.
     plans.as_mut_slice().reverse();
     let mut senders = seat(gate, passes, plans, seats);
-    let mut pass = take_last(gate, passes, count);
+    let pass = take_last(gate, passes, count);
     count_done(gate, &mut senders, rt);
-    let answer = serve_beside(
-        rt,
+    let opening = Opening {
         alloc,
+        gate,
         config,
-        &mut senders,
+        most: MOST,
+    };
+    let Live { out, dialer, clock } = devices;
+    let lent = Lent {
         out,
         dialer,
         clock,
-        gate,
-        &mut pass,
+        pass,
         inbox,
-    );
+    };
+    let (answer, lent) = serve_beside(opening, lent, &mut senders, rt);
+    let Lent {
+        out,
+        dialer,
+        clock,
+        pass,
+        inbox,
+    } = lent;
     give_last(gate, passes, count, pass);
     unseat(gate, senders, passes);
-    answer
+    Lived {
+        answer,
+        devices: Live { out, dialer, clock },
+        inbox,
+    }
 }
+
+/// What a life over boxes on one kind of disk is lived on.
+pub type Over<K, N, C, D> = OverBoxes<K, N, C, Outbox<SegJournal<D>>, Inbox<SegJournal<D>>>;
 
 /// The passes and the gate of an outbox.
 pub type Made<D> = (Gate<SegJournal<D>>, Passes<Kept<SegJournal<D>>>);
@@ -219,55 +206,74 @@ pub fn made_gate<D: Disk>(
     }
 }
 
-/// Serves the connections of the dialer, with a sender for each plan beside them. The outbox comes back with the status.
+/// Serves the connections of the dialer, with a sender for each plan beside them. What it is lived on comes back with the status.
 pub fn live<K: Sink, D: Disk + Send, N: Dialer, C: Clock, R: Threads + Wait + Sync>(
     rt: &R,
     alloc: Global,
     config: EndConfig,
     plans: Vec<Plan>,
-    devices: &mut Live<K, N, C>,
-    outbox: Outbox<SegJournal<D>>,
-    inbox: &mut Inbox<SegJournal<D>>,
-) -> (Status, Outbox<SegJournal<D>>)
-    requires sound { outboxes.is_broken outbox ≡ false }
-    requires in_sound { inboxes.is_broken inbox.old ≡ false }
-    requires few_entries { outboxes.front_of outbox < 2 ^ 40 }
+    over: Over<K, N, C, D>,
+) -> (Status, Over<K, N, C, D>)
+    requires sound { (outboxes.is_broken over.outbox ≡ false) × (inboxes.is_broken over.inbox ≡ false) }
+    requires few_entries { outboxes.front_of over.outbox < 2 ^ 40 }
     requires few { vec_len plans ≤ 16 }
-    requires lent { N.lent devices.old.dialer ≡ false }
-    requires flow { inboxes.flow_of inbox.old ≡ config.peer_flow }
-    requires limit { (inboxes.limits_of inbox.old).entries ≡ 2 ^ 26 }
-    requires numbered { inboxes.flow_of inbox.old ≡ flows.Recoverable → inboxes.next_of inbox.old + 1 < 2 ^ 64 }
-    requires least { 100 ≤ config.keepalive }
-    requires greatest { config.keepalive ≤ 60000 }
-    requires credentials { length config.credentials ≤ 2048 }
-    ensures lived { BeganNone K.taken K.faults (over_boxes devices.old outbox inbox.old) (over_boxes devices.new result.1 inbox.new) result.0
-        ⊎ HasLived (hears K.Sink N.Dialer N.Link.Link C.Clock) config (submitting (map payloads_of plans.items)) (over_boxes devices.old outbox inbox.old) (over_boxes devices.new result.1 inbox.new) result.0 }
+    requires lent { N.lent over.live.dialer ≡ false }
+    requires flow { inboxes.flow_of over.inbox ≡ config.peer_flow }
+    requires limit { (inboxes.limits_of over.inbox).entries ≡ 2 ^ 26 }
+    requires numbered { inboxes.flow_of over.inbox ≡ flows.Recoverable → inboxes.next_of over.inbox + 1 < 2 ^ 64 }
+    requires config { (100 ≤ config.keepalive) × (config.keepalive ≤ 60000) × (length config.credentials ≤ 2048) }
+    ensures lived { BeganNone K.taken K.faults over result.1 result.0 ⊎ HasLived (hears K.Sink N.Dialer N.Link.Link C.Clock) config (submitting (map payloads_of plans.items)) over result.1 result.0 }
     ensures of_life { IsOfLife result.0 }
-    ensures output { result.0 ≡ Status.OutputFault → HasRisen (K.faults devices.old.out) (K.faults devices.new.out) }
-    ensures dial { result.0 ≡ Status.DialFault → HasRisen (N.faults devices.old.dialer) (N.faults devices.new.dialer) }
-    ensures lent { N.lent devices.new.dialer ≡ false }
-    ensures never_falls { (inboxes.faults_of inbox.old ≤ inboxes.faults_of inbox.new) × (K.faults devices.old.out ≤ K.faults devices.new.out) × (N.faults devices.old.dialer ≤ N.faults devices.new.dialer) }
-    ensures outbox_never_falls { outboxes.faults_of outbox ≤ outboxes.faults_of result.1 }
+    ensures output { result.0 ≡ Status.OutputFault → HasRisen (K.faults over.live.out) (K.faults result.1.live.out) }
+    ensures dial { result.0 ≡ Status.DialFault → HasRisen (N.faults over.live.dialer) (N.faults result.1.live.dialer) }
+    ensures lent { N.lent result.1.live.dialer ≡ false }
+    ensures never_falls { (inboxes.faults_of over.inbox ≤ inboxes.faults_of result.1.inbox) × (outboxes.faults_of over.outbox ≤ outboxes.faults_of result.1.outbox) }
+    ensures devices_never_fall { (K.faults over.live.out ≤ K.faults result.1.live.out) × (N.faults over.live.dialer ≤ N.faults result.1.live.dialer) }
 {
     let Ok(seats) = Vec::with_capacity(alloc, plans.len()) else {
-        return (Status::Memory, outbox);
+        return (Status::Memory, over);
     };
+    let OverBoxes {
+        live,
+        outbox,
+        inbox,
+    } = over;
     let (gate, mut passes) = match made_gate(alloc, outbox, plans.len() as u16) {
         Ok(made) => made,
-        Err(outbox) => return (Status::Memory, outbox),
+        Err(outbox) => {
+            return (
+                Status::Memory,
+                OverBoxes {
+                    live,
+                    outbox,
+                    inbox,
+                },
+            );
+        }
     };
-    let answer = serve_seated(
+    let lived = serve_seated(
         rt,
         alloc,
         config,
         plans,
         seats,
-        &mut devices.out,
-        &mut devices.dialer,
-        &mut devices.clock,
+        live,
         &gate,
         &mut passes,
         inbox,
     );
-    (status_of(answer), gate.close(passes))
+    let Lived {
+        answer,
+        devices,
+        inbox,
+    } = lived;
+    let outbox = gate.close(passes);
+    (
+        status_of(answer),
+        OverBoxes {
+            live: devices,
+            outbox,
+            inbox,
+        },
+    )
 }

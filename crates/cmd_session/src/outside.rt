@@ -19,3 +19,10 @@ pub struct Live<K, N, C> {
     pub dialer: N,
     pub clock: C,
 }
+
+/// What a life over boxes is lived on: OUT, the dialer and the clock, and the boxes.
+pub struct OverBoxes<K, N, C, O, I> {
+    pub live: Live<K, N, C>,
+    pub outbox: O,
+    pub inbox: I,
+}

@@ -5,4 +5,4 @@
 mod feeding;
 mod serving;
 
-pub use serving::{Fed, serve_feeding};
+pub use serving::{Fed, feed_lent, serve_feeding};

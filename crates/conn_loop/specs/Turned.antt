@@ -1,5 +1,5 @@
 -- What a turn did, and what it leaves (this project's profile).
-use Rattle.std.specs.Prelude.{◌≡◌, ◌⊎◌, ℕ, ◌+◌, ◌<◌, ◌≤◌, ◌||◌, Bool, false, List, [], ◌∷◌, ◌++◌, length, Option, Some, None, IsSome, IfSome, ◌^◌, true, Result, Ok}
+use Rattle.std.specs.Prelude.{◌≡◌, ◌⊎◌, ℕ, ◌+◌, ◌<◌, ◌≤◌, ◌||◌, Bool, false, List, [], ◌∷◌, ◌++◌, length, Option, None, IsSome, IfSome, ◌^◌, true, Result, Ok}
 use mathlib.Core.List.{IsPrefix}
 use Rattle.sofh_frame.specs.Framing.{IsBytes}
 use Rattle.gw_links.specs.declared.link.Got.{Got}

@@ -2,8 +2,10 @@ pub mod Fewness
 pub mod Making
 pub mod Turning
 pub mod Cutting
+pub mod Lasting
 pub mod Living
-pub mod Opening
+pub mod Opened
+pub mod Lending
 pub mod Marking
 pub mod Following
 pub mod Resuming

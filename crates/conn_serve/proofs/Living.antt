@@ -74,6 +74,10 @@ came_so a b c q next left back = subst (λ (x : Option DialerTold). AllCame a x 
     step None left = tt
     step (Some t) left = record { back = refl; left = omega (arith, left) }
 
+-- a link came back to a dialer that was meanwhile as it was
+pub back_to : {N : Type 0} (told : N → Option DialerTold) (q : Option Carried) (mid lent back : N) → told back ≡ option_map (returned q) (told lent) → lent ≡ mid → told back ≡ option_map (returned q) (told mid)
+back_to told q mid lent back is same = is ∙ ap (λ d. option_map (returned q) (told d)) same
+
 carried_all : (p q : Option Carried) (given sent : List ℕ) → CarriedNothing p → q ≡ option_map (carry given sent) p → HasCarried q given sent
 carried_all None q given sent fresh is = subst (λ (x : Option Carried). HasCarried x given sent) (sym is) tt
 carried_all (Some c) q given sent fresh is = subst (λ (x : Option Carried). HasCarried x given sent) (sym is) (ap (λ (l : List ℕ). l ++ given) fresh.0, ap (λ (l : List ℕ). l ++ sent) fresh.1)

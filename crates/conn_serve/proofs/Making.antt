@@ -21,7 +21,7 @@ use Rattle.conn_steps.specs.Settling.{SameKind}
 use Rattle.conn_loop.specs.Conn.{answer_of}
 use Rattle.conn_door.specs.declared.answer.ServeFault.{ServeFault}
 use Rattle.conn_door.specs.declared.answer.ServeFault.TheVariants as faults
-use Rattle.conn_serve.specs.Answers.{close_of, IsOfTurn}
+use Rattle.conn_serve.specs.Answers.{close_of, IsOfTurn, IsOfConnection}
 use Rattle.conn_serve.specs.Connections.{ClosesAs}
 use Rattle.conn_serve.specs.Causes.{IsChanged, BlamesJournal, IsBlamed}
 use Rattle.conn_serve.specs.Moments.{FaultsAt, faults_at}
@@ -72,6 +72,18 @@ goes_made P (Err turn_faults.Broken) goes e = cc
 goes_made P (Err (turn_faults.Changed at)) goes e = cc
 goes_made P (Err (turn_faults.Full entries bytes)) goes e = cc
 goes_made P (Err turn_faults.Memory) goes e = cc
+
+-- a fault of a turn is one of a connection
+pub of_connection : (fault : ServeFault) → IsOfTurn fault → IsOfConnection fault
+of_connection faults.Output is = tt
+of_connection faults.Journal is = tt
+of_connection (faults.Changed which at) is = tt
+of_connection faults.Dial is = absurd is
+of_connection (faults.Unfinished phase) is = absurd is
+of_connection (faults.Rejected template code) is = absurd is
+of_connection (faults.Full entries bytes) is = tt
+of_connection faults.Turns is = absurd is
+of_connection faults.Memory is = tt
 
 -- a connection is closed for its link's fault where its turn answered so alone
 pub lost_made : (P : Type 0) (r : Result TurnEnd TurnFault) → (r ≡ Err turn_faults.Link → P) → close_of r ≡ Ok (Some closes.LinkFault) → P

@@ -1,6 +1,7 @@
 pub mod Answers
 pub mod Connections
 pub mod Moments
+pub mod Hears
 pub mod Ends
 pub mod Lines
 pub mod Causes
@@ -8,4 +9,6 @@ pub mod Turned
 pub mod Served
 pub mod Opening
 pub mod Answering
+pub mod Lives
 pub mod Laws
+pub mod Together

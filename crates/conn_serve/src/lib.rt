@@ -5,13 +5,17 @@
 
 mod answering;
 mod connection;
+mod connections;
 mod laws;
 mod life;
 mod news;
 mod serving;
+mod together;
 
 pub use answering::Answering;
 pub use conn_door::{LifeEnd, ServeFault, Signals};
+pub use connections::{serve_connections, serve_then_shut};
 pub use laws::were_are_turns;
-pub use life::{serve_connections, serve_then_shut};
-pub use serving::{opened, serve, serve_answering};
+pub use life::{Lent, Life, Opening};
+pub use serving::{answer_lent, serve, serve_answering, serve_lent};
+pub use together::beside;

@@ -1,130 +1,69 @@
-//! A whole life: the connections, and the senders beside them.
+//! A whole life: the connections, and the senders or the business beside them.
 
-ghost use Rattle.std.specs.Prelude.{◌≡◌, ℕ, ◌≤◌, ◌<◌, ◌^◌, ◌+◌, false, All, IfOk, if◌then◌else◌, Some, None, length};
-ghost use Rattle.session_model.specs.Journal.{BeginsHistory};
-ghost use Rattle.fixp_msgs.specs.declared.flow.Flow.TheVariants.{Recoverable};
+ghost use Rattle.std.specs.Prelude.{◌≡◌, ℕ, ◌≤◌, ◌<◌, false, All, None, length};
+ghost use Rattle.jr_kept.specs.Inbox.{is_broken};
 ghost use Rattle.fixp_machine.specs.Machine.{fresh};
-ghost use Rattle.jr_kept.specs.Inbox.{faults_of, flow_of, next_of, is_negotiated, peer_last_of, limits_of, is_broken};
-ghost use Rattle.gate_turn.specs.Places.{known};
-ghost use Rattle.gate_turn.specs.Calls.{IsFree};
-ghost use Rattle.gate_senders.specs.Gate.{IsPassAt, opening_of, senders_of};
+ghost use Rattle.gate_senders.specs.Gate.{opening_of, senders_of};
 ghost use Rattle.gate_business.specs.Business.{lock_of};
 ghost use Rattle.gate_plans.specs.Runs.{IsReady, IsAdmitted};
+ghost use Rattle.gate_plans.specs.Seats.{Seated};
 ghost use Rattle.conn_door.specs.Answers.{IsUnrefused};
 ghost use Rattle.conn_door.specs.Flows.{is_sent_again};
-ghost use Rattle.gate_plans.specs.Seats.{Seated};
-ghost use Rattle.conn_steps.specs.Settling.{SameKind};
-ghost use Rattle.conn_loop.specs.Conn.{line_of, new_line, Looks};
-ghost use Rattle.conn_serve.specs.Turned.{MayBegin};
 ghost use Rattle.conn_door.specs.Senders.{SomeMarked};
+ghost use Rattle.conn_steps.specs.Settling.{SameKind};
+ghost use Rattle.conn_loop.specs.Ends.{box_in};
+ghost use Rattle.conn_serve.specs.Answering.{business_of, refused_in, business_at, AnsweredSo};
+ghost use Rattle.conn_serve.specs.Hears.{hears};
+ghost use Rattle.conn_serve.specs.Lives.{last_in, machine_in, serving_in, serving_with, answering_in, answering_with, IsIdle, MayOpen, MayLive, GoesOn, Lasts, ComesBack};
 ghost use Rattle.conn_serve.specs.Opening.{opened_state, ServedBy, ServedThrough};
-ghost use Rattle.conn_serve.specs.Answering.{business_of, refused_in, business_at, answering_at, AnsweredSo};
-ghost use Rattle.conn_serve.specs.Moments.{serving_at};
 
 use crate::answering::{Answering, resume_business};
-use crate::life::{serve_connections, serve_then_shut};
+use crate::connections::{serve_connections, serve_then_shut};
+use crate::life::{Lent, Life, Opening};
+use crate::together::beside;
 use conn_door::{Entrance, LifeEnd, ServeFault, Signals, answer_of, submit_all, submit_behind};
-use conn_loop::Conn;
-use fixp_end::{End, EndConfig, EndState};
 use gate_business::Business;
 use gate_plans::Sender;
-use gate_senders::{Gate, Kept};
-use gate_turn::Pass;
+use gate_senders::Gate;
 use gw_links::{Clock, Dialer};
 use gw_outside::Sink;
 use jr_dated::Journal;
-use jr_kept::Inbox;
-use std::alloc::{AllocError, Global};
 use std::sync::Wait;
-use std::thread::{Threads, join_mut};
-
-/// How many frames a turn of a life's connections takes at most, and entries of the outbox it sends: as many as make their records stable in one
-/// piece pay for a slow disk.
-const PER_TURN: u16 = 256;
-
-/// What the journals record as the life opens: what the inbox has, and how many entries the outbox had.
-fn opened_state<O: Journal, I: Journal>(gate: &Gate<O>, inbox: &Inbox<I>) -> EndState
-    ensures { result ≡ opened_state (opening_of gate.now).history inbox.now }
-{
-    let (sent, finished) = gate.opened();
-    EndState {
-        negotiated: inbox.is_negotiated(),
-        inbox_next: inbox.next(),
-        peer_last: inbox.peer_last(),
-        sent,
-        finish: if finished { Some(sent) } else { None },
-    }
-}
-
-/// A connection that has not begun, of a new end.
-pub fn opened<O: Journal, I: Journal>(
-    alloc: Global,
-    gate: &Gate<O>,
-    inbox: &Inbox<I>,
-    config: EndConfig,
-    most: u64,
-) -> Result<Conn, AllocError>
-    requires keepalive { (100 ≤ config.keepalive) × (config.keepalive ≤ 60000) }
-    requires credentials { length config.credentials ≤ 2048 }
-    requires most { most ≤ 2 ^ 26 }
-    requires numbered { config.peer_flow ≡ Recoverable → next_of inbox.now + 1 < 2 ^ 64 }
-    requires sent { length (opening_of gate.now).history.made < 2 ^ 40 }
-    ensures { IfOk result (λ conn. line_of conn ≡ new_line (fresh config (opened_state (opening_of gate.now).history inbox.now) most) 256) }
-{
-    let end = End::new(alloc, config, opened_state(gate, inbox), most)?;
-    Conn::new(alloc, end, PER_TURN)
-}
+use std::thread::Threads;
 
 /// Serves the connections, with the senders beside them, who wake them.
 fn serve_beside<
-    N: Dialer,
     K: Sink,
+    N: Dialer,
     O: Journal + Send,
     I: Journal,
     C: Clock,
     R: Threads + Wait + Sync,
 >(
-    alloc: Global,
-    dialer: &mut N,
-    out: &mut K,
+    life: &mut Life<K, N, O, I, C>,
     gate: &Gate<O>,
-    pass: &mut Pass<Kept<O>>,
-    inbox: &mut Inbox<I>,
-    clock: &mut C,
-    conn: &mut Conn,
     senders: &mut [Sender<O>],
     signals: &Signals,
     rt: &R,
 ) -> Result<(), ServeFault>
-    requires own { IsPassAt gate.now pass.old }
-    requires free { IsFree pass.old }
-    requires may { MayBegin (line_of conn.old).machine (known pass.old) inbox.old }
-    requires lent { N.lent dialer.old ≡ false }
+    requires may { MayLive (hears K.Sink N.Dialer N.Link.Link C.Clock) gate.now life.old }
     requires ready { All (λ s. IsReady gate.now s) senders.old }
-    requires door { signals.now ≡ is_sent_again (line_of conn.old).machine.config.own_flow }
-    ensures own { IsPassAt gate.now pass.new }
-    ensures free { IsFree pass.new }
+    requires door { signals.now ≡ is_sent_again (machine_in life.old).config.own_flow }
+    ensures idle { IsIdle (hears K.Sink N.Dialer N.Link.Link C.Clock) gate.now life.new }
+    ensures goes_on { GoesOn (hears K.Sink N.Dialer N.Link.Link C.Clock) life.old life.new }
     ensures ready { All (λ s. IsReady gate.now s) senders.new }
-    ensures looks { Looks (known pass.old) (known pass.new) }
-    ensures lent { N.lent dialer.new ≡ false }
-    ensures served { ServedThrough N.Link.Link (C.last clock.old) (C.last clock.new) gate.now (serving_at (N.told dialer.old) (K.taken out.old) (K.faults out.old) (N.faults dialer.old) (known pass.old) inbox.old senders.old) (serving_at (N.told dialer.new) (K.taken out.new) (K.faults out.new) (N.faults dialer.new) (known pass.new) inbox.new senders.new) (line_of conn.old).machine result }
-    ensures kind { SameKind inbox.old inbox.new }
-    ensures never_falls { (faults_of inbox.old ≤ faults_of inbox.new) × (K.faults out.old ≤ K.faults out.new) × (N.faults dialer.old ≤ N.faults dialer.new) }
-    ensures told { C.told clock.new ≡ C.told clock.old }
+    ensures served { ServedThrough N.Link.Link (last_in (hears K.Sink N.Dialer N.Link.Link C.Clock) life.old) (last_in (hears K.Sink N.Dialer N.Link.Link C.Clock) life.new) gate.now (serving_in (hears K.Sink N.Dialer N.Link.Link C.Clock) life.old senders.old) (serving_in (hears K.Sink N.Dialer N.Link.Link C.Clock) life.new senders.new) (machine_in life.old) result }
 {
-    let entrance = Entrance::new(signals, dialer.waker());
-    let (refused, connections) = join_mut(
+    let entrance = Entrance::new(signals, life.waker());
+    let (refused, connections) = beside(
         rt,
         &mut || -> Option<ServeFault>
             requires { All (λ s. IsReady gate.now s) senders.now }
         { submit_all(gate, senders, &entrance, rt) },
-        &mut || -> Result<LifeEnd, ServeFault>
-            requires { IsPassAt gate.now pass.now × IsFree pass.now × MayBegin (line_of conn.now).machine (known pass.now) inbox.now × (N.lent dialer.now ≡ false) }
-        {
-            serve_then_shut(
-                alloc, dialer, out, gate, pass, inbox, clock, conn, signals, rt,
-            )
-        },
+        life,
+        &mut |life: &mut Life<K, N, O, I, C>| -> Result<LifeEnd, ServeFault>
+            requires { MayLive (hears K.Sink N.Dialer N.Link.Link C.Clock) gate.now life.old }
+        { serve_then_shut(life, gate, signals, rt) },
     );
     answer_of(connections, refused)
 }
@@ -141,52 +80,25 @@ fn serve_beside<
 /// # Errors
 /// Those of `serve_connections`; and `Journal`, `Full` and `Memory` where a sender or the Finish was refused so, in place of all
 /// but a fault of the connections' side.
-pub fn serve<N: Dialer, K: Sink, O: Journal + Send, I: Journal, C: Clock, R: Threads + Wait + Sync>(
-    alloc: Global,
-    dialer: &mut N,
-    out: &mut K,
+pub fn serve<K: Sink, N: Dialer, O: Journal + Send, I: Journal, C: Clock, R: Threads + Wait + Sync>(
+    life: &mut Life<K, N, O, I, C>,
     gate: &Gate<O>,
-    pass: &mut Pass<Kept<O>>,
-    inbox: &mut Inbox<I>,
-    clock: &mut C,
-    config: EndConfig,
-    most: u64,
     senders: &mut [Sender<O>],
     rt: &R,
 ) -> Result<(), ServeFault>
-    requires own { IsPassAt gate.now pass.old }
-    requires free { IsFree pass.old }
-    requires opened { BeginsHistory (opening_of gate.now).history (known pass.old).seen }
-    requires sent { length (opening_of gate.now).history.made < 2 ^ 40 }
-    requires lent { N.lent dialer.old ≡ false }
-    requires keepalive { (100 ≤ config.keepalive) × (config.keepalive ≤ 60000) }
-    requires credentials { length config.credentials ≤ 2048 }
-    requires most { most ≤ 2 ^ 26 }
-    requires within { most ≤ (limits_of inbox.old).entries }
-    requires flow { flow_of inbox.old ≡ config.peer_flow }
-    requires numbered { config.peer_flow ≡ Recoverable → next_of inbox.old + 1 < 2 ^ 64 }
+    requires may { MayLive (hears K.Sink N.Dialer N.Link.Link C.Clock) gate.now life.old }
     requires ready { All (λ s. IsReady gate.now s) senders.old }
-    ensures own { IsPassAt gate.now pass.new }
-    ensures free { IsFree pass.new }
+    ensures idle { IsIdle (hears K.Sink N.Dialer N.Link.Link C.Clock) gate.now life.new }
+    ensures goes_on { GoesOn (hears K.Sink N.Dialer N.Link.Link C.Clock) life.old life.new }
     ensures ready { All (λ s. IsReady gate.now s) senders.new }
-    ensures looks { Looks (known pass.old) (known pass.new) }
-    ensures lent { N.lent dialer.new ≡ false }
-    ensures served { ServedBy gate.now (serving_at (N.told dialer.old) (K.taken out.old) (K.faults out.old) (N.faults dialer.old) (known pass.old) inbox.old senders.old) (serving_at (N.told dialer.new) (K.taken out.new) (K.faults out.new) (N.faults dialer.new) (known pass.new) inbox.new senders.new) (fresh config (opened_state (opening_of gate.now).history inbox.old) most) result }
-    ensures through { ServedThrough N.Link.Link (C.last clock.old) (C.last clock.new) gate.now (serving_at (N.told dialer.old) (K.taken out.old) (K.faults out.old) (N.faults dialer.old) (known pass.old) inbox.old senders.old) (serving_at (N.told dialer.new) (K.taken out.new) (K.faults out.new) (N.faults dialer.new) (known pass.new) inbox.new senders.new) (fresh config (opened_state (opening_of gate.now).history inbox.old) most) result }
+    ensures served { ServedBy gate.now (serving_in (hears K.Sink N.Dialer N.Link.Link C.Clock) life.old senders.old) (serving_in (hears K.Sink N.Dialer N.Link.Link C.Clock) life.new senders.new) (machine_in life.old) result }
+    ensures through { ServedThrough N.Link.Link (last_in (hears K.Sink N.Dialer N.Link.Link C.Clock) life.old) (last_in (hears K.Sink N.Dialer N.Link.Link C.Clock) life.new) gate.now (serving_in (hears K.Sink N.Dialer N.Link.Link C.Clock) life.old senders.old) (serving_in (hears K.Sink N.Dialer N.Link.Link C.Clock) life.new senders.new) (machine_in life.old) result }
     ensures seated { (made : ℕ) → Seated gate.now senders.old made → Seated gate.now senders.new made }
     ensures admitted { IsUnrefused result → All IsAdmitted senders.new }
     ensures marked { IsUnrefused result → 0 < length senders.old → SomeMarked senders.new }
-    ensures kind { SameKind inbox.old inbox.new }
-    ensures never_falls { (faults_of inbox.old ≤ faults_of inbox.new) × (K.faults out.old ≤ K.faults out.new) × (N.faults dialer.old ≤ N.faults dialer.new) }
-    ensures told { C.told clock.new ≡ C.told clock.old }
 {
-    let Ok(mut conn) = opened(alloc, gate, inbox, config, most) else {
-        return Err(ServeFault::Memory);
-    };
-    let signals = Signals::new(conn.end());
-    let answer = serve_beside(
-        alloc, dialer, out, gate, pass, inbox, clock, &mut conn, senders, &signals, rt,
-    );
+    let signals = life.signals();
+    let answer = serve_beside(life, gate, senders, &signals, rt);
     submit_behind(gate, senders, answer, rt)
 }
 
@@ -196,68 +108,110 @@ pub fn serve<N: Dialer, K: Sink, O: Journal + Send, I: Journal, C: Clock, R: Thr
 /// would follow.
 ///
 /// # Errors
-/// Those of `serve_connections`; and `Journal`, `Full` and `Memory` where the business was refused so, or a message of the inbox was not
-/// read, in place of all but a fault of the connections' side.
+/// Those of `serve_connections`; and `Journal`, `Changed`, `Full` and `Memory` where the business was refused so, or a message of the inbox
+/// was not read, in place of all but a fault of the connections' side.
 pub fn serve_answering<
-    N: Dialer,
     K: Sink,
+    N: Dialer,
     O: Journal + Send,
     I: Journal,
     C: Clock,
     B: Business<O> + Send,
     R: Threads + Wait + Sync,
 >(
-    alloc: Global,
-    dialer: &mut N,
-    out: &mut K,
+    life: &mut Life<K, N, O, I, C>,
     gate: &Gate<O>,
-    pass: &mut Pass<Kept<O>>,
-    inbox: &mut Inbox<I>,
-    clock: &mut C,
-    config: EndConfig,
-    most: u64,
     answering: &mut Answering<B>,
     rt: &R,
 ) -> Result<(), ServeFault>
     requires has { B.has (business_of answering.old) (lock_of gate.now) }
     requires few { B.count (business_of answering.old) ≤ senders_of gate.now }
     requires unrefused { refused_in answering.old ≡ None }
-    requires sound { is_broken inbox.old ≡ false }
-    requires own { IsPassAt gate.now pass.old }
-    requires free { IsFree pass.old }
-    requires opened { BeginsHistory (opening_of gate.now).history (known pass.old).seen }
-    requires sent { length (opening_of gate.now).history.made < 2 ^ 40 }
-    requires lent { N.lent dialer.old ≡ false }
-    requires keepalive { (100 ≤ config.keepalive) × (config.keepalive ≤ 60000) }
-    requires credentials { length config.credentials ≤ 2048 }
-    requires most { most ≤ 2 ^ 26 }
-    requires within { most ≤ (limits_of inbox.old).entries }
-    requires flow { flow_of inbox.old ≡ config.peer_flow }
-    requires numbered { config.peer_flow ≡ Recoverable → next_of inbox.old + 1 < 2 ^ 64 }
-    ensures has { B.has (business_of answering.new) (lock_of gate.now) }
-    ensures same { (B.count (business_of answering.new) ≡ B.count (business_of answering.old)) × (B.plan (business_of answering.new) ≡ B.plan (business_of answering.old)) }
-    ensures own { IsPassAt gate.now pass.new }
-    ensures free { IsFree pass.new }
-    ensures looks { Looks (known pass.old) (known pass.new) }
-    ensures lent { N.lent dialer.new ≡ false }
-    ensures through { AnsweredSo O.tells N.Link.Link (C.last clock.old) (C.last clock.new)
-        (answering_at (N.told dialer.old) (K.taken out.old) (K.faults out.old) (N.faults dialer.old) (known pass.old) inbox.old (business_at B.stands B.plan B.count B.part answering.old))
-        (answering_at (N.told dialer.new) (K.taken out.new) (K.faults out.new) (N.faults dialer.new) (known pass.new) inbox.new (business_at B.stands B.plan B.count B.part answering.new))
-        (fresh config (opened_state (opening_of gate.now).history inbox.old) most) result }
-    ensures kind { (limits_of inbox.new ≡ limits_of inbox.old) × (flow_of inbox.new ≡ flow_of inbox.old) }
-    ensures never_falls { (faults_of inbox.old ≤ faults_of inbox.new) × (K.faults out.old ≤ K.faults out.new) × (N.faults dialer.old ≤ N.faults dialer.new) }
-    ensures told { C.told clock.new ≡ C.told clock.old }
+    requires sound { is_broken (box_in life.old.end) ≡ false }
+    requires may { MayLive (hears K.Sink N.Dialer N.Link.Link C.Clock) gate.now life.old }
+    ensures business { B.has (business_of answering.new) (lock_of gate.now) × (B.count (business_of answering.new) ≡ B.count (business_of answering.old)) × (B.plan (business_of answering.new) ≡ B.plan (business_of answering.old)) }
+    ensures idle { IsIdle (hears K.Sink N.Dialer N.Link.Link C.Clock) gate.now life.new }
+    ensures lasts { Lasts (hears K.Sink N.Dialer N.Link.Link C.Clock) life.old life.new }
+    ensures through { AnsweredSo O.tells N.Link.Link (last_in (hears K.Sink N.Dialer N.Link.Link C.Clock) life.old) (last_in (hears K.Sink N.Dialer N.Link.Link C.Clock) life.new) (answering_in (hears K.Sink N.Dialer N.Link.Link C.Clock) life.old (business_at B.stands B.plan B.count B.part answering.old)) (answering_in (hears K.Sink N.Dialer N.Link.Link C.Clock) life.new (business_at B.stands B.plan B.count B.part answering.new)) (machine_in life.old) result }
 {
-    let Ok(mut conn) = opened(alloc, gate, inbox, config, most) else {
-        return Err(ServeFault::Memory);
-    };
-    resume_business(answering, inbox, gate, rt);
+    resume_business(answering, &mut life.end.inbox, gate, rt);
     if let Some(fault) = answering.refused() {
         return Err(fault);
     }
-    let signals = Signals::new(conn.end());
-    let connections = serve_connections(
-        alloc, dialer, out, gate, pass, inbox, clock, &mut conn, answering, &signals, rt,
-    );
+    let signals = life.signals();
+    let connections = serve_connections(life, gate, answering, &signals, rt);
     answer_of(connections, answering.refused())
+}
+
+/// Serves one life with what it is lent, which comes back, as `serve` does. Where there is no memory to begin, nothing is served.
+///
+/// # Errors
+/// Those of `serve`; and `Memory`.
+pub fn serve_lent<
+    K: Sink,
+    N: Dialer,
+    O: Journal + Send,
+    I: Journal,
+    C: Clock,
+    R: Threads + Wait + Sync,
+>(
+    opening: Opening<'_, O>,
+    lent: Lent<K, N, O, I, C>,
+    senders: &mut [Sender<O>],
+    rt: &R,
+) -> (Result<(), ServeFault>, Lent<K, N, O, I, C>)
+    requires may { MayOpen (hears K.Sink N.Dialer N.Link.Link C.Clock) opening.gate.now opening.config opening.most lent }
+    requires ready { All (λ s. IsReady opening.gate.now s) senders.old }
+    ensures comes_back { ComesBack (hears K.Sink N.Dialer N.Link.Link C.Clock) opening.entry.gate.now lent result.1 }
+    ensures kind { SameKind lent.inbox result.1.inbox }
+    ensures ready { All (λ s. IsReady opening.entry.gate.now s) senders.new }
+    ensures through { ServedThrough N.Link.Link (C.last lent.clock) (C.last result.1.clock) opening.entry.gate.now (serving_with (hears K.Sink N.Dialer N.Link.Link C.Clock) lent senders.old) (serving_with (hears K.Sink N.Dialer N.Link.Link C.Clock) result.1 senders.new) (fresh opening.entry.config (opened_state (opening_of opening.entry.gate.now).history lent.inbox) opening.entry.most) result.0 }
+    ensures seated { (made : ℕ) → Seated opening.entry.gate.now senders.old made → Seated opening.entry.gate.now senders.new made }
+    ensures admitted { IsUnrefused result.0 → All IsAdmitted senders.new }
+    ensures marked { IsUnrefused result.0 → 0 < length senders.old → SomeMarked senders.new }
+{
+    let gate = opening.gate;
+    let mut life = match Life::new(opening, lent) {
+        Ok(life) => life,
+        Err(lent) => return (Err(ServeFault::Memory), lent),
+    };
+    let answer = serve(&mut life, gate, senders, rt);
+    (answer, life.end())
+}
+
+/// Serves one life of an end that has a business with what it is lent, which comes back, as `serve_answering` does. Where there is no memory to
+/// begin, nothing is served or answered.
+///
+/// # Errors
+/// Those of `serve_answering`; and `Memory`.
+pub fn answer_lent<
+    K: Sink,
+    N: Dialer,
+    O: Journal + Send,
+    I: Journal,
+    C: Clock,
+    B: Business<O> + Send,
+    R: Threads + Wait + Sync,
+>(
+    opening: Opening<'_, O>,
+    lent: Lent<K, N, O, I, C>,
+    answering: &mut Answering<B>,
+    rt: &R,
+) -> (Result<(), ServeFault>, Lent<K, N, O, I, C>)
+    requires has { B.has (business_of answering.old) (lock_of opening.gate.now) }
+    requires few { B.count (business_of answering.old) ≤ senders_of opening.gate.now }
+    requires unrefused { refused_in answering.old ≡ None }
+    requires sound { is_broken lent.inbox ≡ false }
+    requires may { MayOpen (hears K.Sink N.Dialer N.Link.Link C.Clock) opening.gate.now opening.config opening.most lent }
+    ensures business { B.has (business_of answering.new) (lock_of opening.entry.gate.now) × (B.count (business_of answering.new) ≡ B.count (business_of answering.old)) × (B.plan (business_of answering.new) ≡ B.plan (business_of answering.old)) }
+    ensures comes_back { ComesBack (hears K.Sink N.Dialer N.Link.Link C.Clock) opening.entry.gate.now lent result.1 }
+    ensures through { AnsweredSo O.tells N.Link.Link (C.last lent.clock) (C.last result.1.clock) (answering_with (hears K.Sink N.Dialer N.Link.Link C.Clock) lent (business_at B.stands B.plan B.count B.part answering.old)) (answering_with (hears K.Sink N.Dialer N.Link.Link C.Clock) result.1 (business_at B.stands B.plan B.count B.part answering.new)) (fresh opening.entry.config (opened_state (opening_of opening.entry.gate.now).history lent.inbox) opening.entry.most) result.0 }
+{
+    let gate = opening.gate;
+    let mut life = match Life::new(opening, lent) {
+        Ok(life) => life,
+        Err(lent) => return (Err(ServeFault::Memory), lent),
+    };
+    let answer = serve_answering(&mut life, gate, answering, rt);
+    (answer, life.end())
 }

@@ -28,7 +28,7 @@ returns-in-Err-clause-ended g c = λ first config disks a.
       links = record { dialer = refl; clock = refl };
       streams = record { input = refl; accepted = refl };
       left = record {
-        outbox = outbox_kept g.D.Disk.told g.D.Disk.may_leave (disk_of {G = g.D.Disk}) c.args.outbox disks.outbox _ a.outbox_is (λ image h. h) c.close_outbox.ensures.disk;
+        outbox = outbox_kept g.D.Disk.told g.D.Disk.may_leave (disk_of {G = g.D.Disk}) c.args.on.outbox disks.outbox _ a.outbox_is (λ image h. h) c.close_outbox.ensures.disk;
         inbox = refused.kept disks.inbox a.inbox_is a.is_told;
       };
     })
@@ -44,7 +44,7 @@ returns-in-Err-begin-clause-ended g c = λ first config disks a.
       input_is = refl;
       links = record { dialer = refl; clock = refl };
       left = record {
-        outbox = outbox_kept g.D.Disk.told g.D.Disk.may_leave (disk_of {G = g.D.Disk}) c.args.outbox disks.outbox _ a.outbox_is (λ image h. h) c.close_outbox-in-Err-begin.ensures.disk;
+        outbox = outbox_kept g.D.Disk.told g.D.Disk.may_leave (disk_of {G = g.D.Disk}) c.args.on.outbox disks.outbox _ a.outbox_is (λ image h. h) c.close_outbox-in-Err-begin.ensures.disk;
         inbox = inbox_kept g.D.Disk.told g.D.Disk.may_leave (disk_of {G = g.D.Disk}) c.in-Ok.inbox disks.inbox _ again (λ image h. h) c.close_inbox.ensures.disk;
       };
     }))
@@ -55,8 +55,8 @@ returns-clause-ended g c = λ first config disks a.
     let live = c.live_feeding-status in
     let again = c.in-Ok.ensures.opened (g.D.Disk.told disks.inbox) a.inbox_is a.is_told in
     let is_left = (g.met.D.Disk g.world.𝓛 g.world.𝓜 g.world.𝓡 ((λ s x. x), (λ x. x), (λ x. x), λ x. x)).told_is_left in
-    let later = later_holds (left_as_told is_left) c.args.outbox c.at.new.self c.requires.sound c.at.ensures.same (g.D.Disk.told disks.outbox) a.outbox_is in
-    let before = record (around first c.args.devices.now c.args.input.now c.args.accepted disks) { out = c.out_on.new.out } in
+    let later = later_holds (left_as_told is_left) c.args.on.outbox c.at.new.self c.requires.sound.0 c.at.ensures.same (g.D.Disk.told disks.outbox) a.outbox_is in
+    let before = record (around first c.args.on.live c.args.input.now c.args.accepted disks) { out = c.out_on.new.out } in
     let out_same = c.close_outbox-2.ensures.disk in
     let in_same = c.close_inbox-2.ensures.disk in
     inr (inr (record {
@@ -84,11 +84,11 @@ returns-clause-ended g c = λ first config disks a.
             };
           }))
           (λ h. inr (fed_over_disks c.at.new.self seen (disk_of {G = g.D.Disk}) (λ j image s. s) (λ (j : SegJournal _ g.D.Disk) ds s. s.keeps.sized) c.args.end c.args.senders
-          before _ live.result.2 c.in-Ok.inbox live.new.inbox live.result.0 later again
+          before _ live.result.2.outbox c.in-Ok.inbox live.result.2.inbox live.result.0 later again
           (ap (λ (x : Limits). x.entries) c.at.ensures.same.limits ∙ a.limit.0, ap (λ (x : Limits). x.bytes) c.at.ensures.same.limits ∙ a.limit.1) c.in-Ok.ensures.limit.1 out_same in_same
           (subst (λ (n : ℕ). g.D.Disk.faults disks.outbox ≤ n) (sym c.at.ensures.same.faults) a.out_least) (let least = c.in-Ok.ensures.never_falls in omega (arith, least, a.in_least))
           c.close_outbox-2.ensures.faults c.close_inbox-2.ensures.faults
-          c.now-now.new.self (subst (λ (n : ℕ). g.C.Clock.last c.args.devices.now.clock ≤ n) (sym c.now-now.ensures.last) c.now-now.ensures.never_falls)
+          c.now-now.new.self (subst (λ (n : ℕ). g.C.Clock.last c.args.on.live.clock ≤ n) (sym c.now-now.ensures.last) c.now-now.ensures.never_falls)
           (g.A.Sink.taken c.begin.new.sink) c.in-Ok-begin.ensures.nothing h))
           live.ensures.lived;
     }))

@@ -21,13 +21,13 @@ returns-clause-ended g c = λ first.
           (λ (j : SegJournal _ g.D.Disk) ds sound s. s.told (j.whole sound)) (λ j. refl) c.args.outside.in_disk box w.in-Ok.ensures.opened.1 w.in-Ok.ensures.in_sound w.in-Ok.ensures.never_falls.1
           c.args.outside.out_disk w.in-Ok.outbox w.in-Ok.ensures.opened.0 w.in-Ok.ensures.out_limit w.in-Ok.ensures.never_falls.0 in
           let ended = w.feed_behind_out.ensures.ended first c.args.outside.config (record { outbox = c.args.outside.out_disk; inbox = disk_of (inboxes.journal_of box) }) are in
-          given_over _ seen c.args.senders c.args.end before c.args.outside.config _ _ _ _ _ _ w.input-is w.devices-is w.status-is (inr (
+          given_over _ seen c.args.senders c.args.end before c.args.outside.config _ _ _ _ w.input-is w.status-is (inr (
           record {
             boxes = w.in-Ok.ensures.told;
             opened = disk_of (inboxes.journal_of box);
             is_opened = opened;
             ended = ended;
           }))
-      | in-Err w ↦ given_over _ seen c.args.senders c.args.end before c.args.outside.config _ _ _ _ _ _ w.input-is w.devices-is w.status-is
+      | in-Err w ↦ given_over _ seen c.args.senders c.args.end before c.args.outside.config _ _ _ _ w.input-is w.status-is
           (inl (record { refused = w.in-Err.ensures.refused; live = record { out = refl; dialer = refl; clock = refl }; streams = record { input = refl; accepted = refl } }))
     ]

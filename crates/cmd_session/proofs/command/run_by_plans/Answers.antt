@@ -21,10 +21,10 @@ returns-clause-ended g c = λ first.
     let end = c.end_config-end.ensures in
     let is_left = (g.met.D.Disk g.world.𝓛 g.world.𝓜 g.world.𝓡 ((λ s x. x), (λ x. x), (λ x. x), λ x. x)).told_is_left in
     elim c.match-open_session.branch [
-      | in-Ok w ↦ given_by_plans _ told c.args.role c.args.configuration before c.args.outside.config _ _ _ _ _ _ refl w.devices-is w.status-is (inr (record {
+      | in-Ok w ↦ given_by_plans _ told c.args.role c.args.configuration before c.args.outside.config _ _ _ _ refl w.status-is (inr (record {
         boxes = subst (λ (e : EndConfig). HoldBoxes g.D.Disk.told e.peer_flow (disks_of c.args.outside)) end w.in-Ok.ensures.told;
         ended = inr (lived_disks w.at.new.self told (disk_of {G = g.D.Disk}) (λ j image h. h) (λ (j : SegJournal _ g.D.Disk) ds s. s.keeps.sized)
-            before _ w.run_over_boxes-status.result.1 w.in-Ok.opened.1 w.run_over_boxes-status.new.inbox w.run_over_boxes-status.result.0
+            before _ w.run_over_boxes-status.result.1.outbox w.in-Ok.opened.1 w.run_over_boxes-status.result.1.inbox w.run_over_boxes-status.result.0
             (later_holds (left_as_told is_left) w.in-Ok.opened.0 w.at.new.self w.in-Ok.ensures.sound w.at.ensures.same (g.D.Disk.told c.args.outside.out_disk) w.in-Ok.ensures.opened.0) w.in-Ok.ensures.opened.1
             (ap (λ (x : Limits). x.entries) w.at.ensures.same.limits ∙ w.in-Ok.ensures.out_limit.0, ap (λ (x : Limits). x.bytes) w.at.ensures.same.limits ∙ w.in-Ok.ensures.out_limit.1) w.in-Ok.ensures.limit.1 w.close_outbox.ensures.disk w.close_inbox.ensures.disk
             (subst (λ (n : ℕ). g.D.Disk.faults c.args.outside.out_disk ≤ n) (sym w.at.ensures.same.faults) w.in-Ok.ensures.never_falls.0) w.in-Ok.ensures.never_falls.1 w.close_outbox.ensures.faults w.close_inbox.ensures.faults
@@ -41,7 +41,7 @@ returns-clause-ended g c = λ first.
               lived = lived_since g.K.Sink.faults (hears g.K.Sink g.N.Dialer g.N.Link.Link g.C.Clock) _ _ (live_of c.args.outside) w.now-now.new.self _ _ _ _ (subst (λ (n : ℕ). g.C.Clock.last c.args.outside.clock ≤ n) (sym w.now-now.ensures.last) w.now-now.ensures.never_falls) w.run_over_boxes-status.ensures.lived;
             })));
       }))
-      | in-Err w ↦ given_by_plans _ told c.args.role c.args.configuration before c.args.outside.config _ _ _ _ _ _ refl w.devices-is w.status-is
+      | in-Err w ↦ given_by_plans _ told c.args.role c.args.configuration before c.args.outside.config _ _ _ _ refl w.status-is
           (⊎_elim
           (λ r. inl (record {
             refused = refused_by g.D.Disk.told g.D.Disk.may_leave g.D.Disk.faults c.end_config-end.result (end_of c.args.role c.args.configuration.link) _ _ _ end r.0;

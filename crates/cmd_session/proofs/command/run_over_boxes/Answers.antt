@@ -12,14 +12,14 @@ returns-clause-lived g c =
     let as_before = c.in-Ok.ensures.cause.risen in
     ⊎_elim
     (λ b. inl (record {
-      cause = ⊎_elim (λ m. inl m) (λ f. inr (f.0, subst (λ n. HasRisen n (g.K.Sink.faults c.live.new.devices.out)) as_before f.1)) b.cause;
+      cause = ⊎_elim (λ m. inl m) (λ f. inr (f.0, subst (λ n. HasRisen n (g.K.Sink.faults c.live.result.1.live.out)) as_before f.1)) b.cause;
       dialer_is = b.dialer_is;
       out_kept = keeps_behind _ _ _ c.in-Ok.ensures.nothing b.out_kept;
       box_is = b.box_is;
       outbox_is = b.outbox_is;
     }))
-    (λ h. inr (lived_from (hears g.K.Sink g.N.Dialer g.N.Link.Link g.C.Clock) _ _ c.args.devices.now _ _ _ _ _ _ c.in-Ok.ensures.nothing (omega arith) h))
+    (λ h. inr (lived_from (hears g.K.Sink g.N.Dialer g.N.Link.Link g.C.Clock) _ _ c.args.over.live _ _ _ _ _ _ c.in-Ok.ensures.nothing (omega arith) h))
     c.live.ensures.lived
 
 pub returns-clause-output : goal.returns-clause-output
-returns-clause-output g c = λ e. subst (λ n. HasRisen n (g.K.Sink.faults c.live.new.devices.out)) c.in-Ok.ensures.cause.risen (c.live.ensures.output e)
+returns-clause-output g c = λ e. subst (λ n. HasRisen n (g.K.Sink.faults c.live.result.1.live.out)) c.in-Ok.ensures.cause.risen (c.live.ensures.output e)

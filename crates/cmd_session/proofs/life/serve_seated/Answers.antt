@@ -11,15 +11,18 @@ use Rattle.life_laws.proofs.Senders.{fresh_seated}
 use Rattle.life_laws.specs.PlanLives.{clocked}
 use Rattle.life_laws.proofs.Passes.{part_at, served_at}
 use Rattle.cmd_session.proofs.Counting.{front_of}
-use Rattle.cmd_session.proofs.Opened.{seen_at}
+use Rattle.conn_serve.specs.Hears as lives
+use Rattle.cmd_session.proofs.Opened.{seen_at, opens_with}
 use Rattle.cmd_session.proofs.life.serve_seated.Goals as goal
 
-pub serve_beside-answer-requires-clause-opened : goal.serve_beside-answer-requires-clause-opened
-serve_beside-answer-requires-clause-opened g c κs within =
+pub serve_beside-answer-requires-clause-may : goal.serve_beside-answer-requires-clause-may
+serve_beside-answer-requires-clause-may g c κs within =
     let last = c.args.plans.len + 1 in
     let there = subst (λ k. pass_at c.seat-senders.new.passes (k + 1) ≡ Some c.take_last-pass.result) c.len-count.ensures c.take_last-pass.ensures.there in
-    seen_at c.args.passes.now c.seat-senders.new.passes c.take_last-pass.result last last (opening_of c.args.gate.now) (c.requires.made.each last (record { from_one = omega arith; up_to = omega arith })).1
-    (c.seat-senders.ensures.others last (omega arith)) there
+    let opened = seen_at c.args.passes.now c.seat-senders.new.passes c.take_last-pass.result last last (opening_of c.args.gate.now) (c.requires.made.each last (record { from_one = omega arith; up_to = omega arith })).1
+    (c.seat-senders.ensures.others last (omega arith)) there in
+    opens_with (lives.hears g.K.Sink g.N.Dialer g.N.Link.Link g.C.Clock) c.args.gate.now c.args.config _ c.take_last-pass.ensures.own c.take_last-pass.ensures.free opened c.requires.sent c.requires.lent
+    (c.requires.least, c.requires.greatest, c.requires.credentials) c.requires.flow c.requires.limit c.requires.numbered
 
 pub returns-clause-served : goal.returns-clause-served
 returns-clause-served g c =
@@ -42,8 +45,8 @@ returns-clause-served g c =
     let taken = subst (λ (k : ℕ). pass_at c.seat-senders.new.passes (k + 1) ≡ Some last) c.len-count.ensures c.take_last-pass.ensures.there in
     let part = part_at c.args.passes.now c.seat-senders.new.passes last (n + 1) _ (c.requires.made.each (n + 1) (record { from_one = omega arith; up_to = omega arith })).1 (c.seat-senders.ensures.others (n + 1) (omega arith)) taken in
     let of_made = if n + 1 == 1 then n + 1 else 0 in
-    served_at gate (opening_of gate) all seated.items counted.items served.new.senders.items c.give_last.new.passes c.unseat.new.passes served.new.pass (known last) (known served.new.pass) fresh c.count_done.ensures.each
+    served_at gate (opening_of gate) all seated.items counted.items served.new.senders.items c.give_last.new.passes c.unseat.new.passes served.result.1.pass (known last) (known served.result.1.pass) fresh c.count_done.ensures.each
     (subst (λ (k : ℕ). Seated gate served.new.senders.items (k + 1)) (served.ensures.count ∙ (c.count_done.ensures.count ∙ (c.seat-senders.ensures.count ∙ same))) served.ensures.seated)
-    c.unseat.ensures.theirs (subst (λ (k : ℕ). pass_at c.give_last.new.passes (k + 1) ≡ Some served.new.pass) (c.len-count.ensures ∙ same) c.give_last.ensures.there)
-    (of_made, part ∙ ap (λ (k : ℕ). new_part (k + 1) of_made (opening_of gate)) same) served.ensures.looks refl (λ e. c.take_last-pass.ensures.first (c.len-count.ensures ∙ (same ∙ e)))
-    (clocked g.O.Journal.tells g.N.Link.Link (g.C.Clock.last c.args.clock.now) (g.C.Clock.last served.new.clock)) _ _ _ _ _ _ _ _ _ _ _ _ served.ensures.through (λ u some. served.ensures.marked u (omega (arith, some, counted.ok.0))) served.ensures.limits
+    c.unseat.ensures.theirs (subst (λ (k : ℕ). pass_at c.give_last.new.passes (k + 1) ≡ Some served.result.1.pass) (c.len-count.ensures ∙ same) c.give_last.ensures.there)
+    (of_made, part ∙ ap (λ (k : ℕ). new_part (k + 1) of_made (opening_of gate)) same) served.ensures.comes_back.looks refl (λ e. c.take_last-pass.ensures.first (c.len-count.ensures ∙ (same ∙ e)))
+    (clocked g.O.Journal.tells g.N.Link.Link (g.C.Clock.last c.args.devices.clock) (g.C.Clock.last served.result.1.clock)) _ _ _ _ _ _ _ _ _ _ _ _ served.ensures.through (λ u some. served.ensures.marked u (omega (arith, some, counted.ok.0))) served.ensures.comes_back.kind.0

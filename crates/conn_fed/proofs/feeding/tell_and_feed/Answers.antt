@@ -1,4 +1,4 @@
-use Rattle.std.proofs.Common.{inl, inr, refl, ap}
+use Rattle.std.proofs.Common.{inl, inr, ap}
 use Rattle.conn_feed.specs.Fed.{parts_of}
 use Rattle.conn_feed.specs.Course.{point_of}
 use Rattle.conn_feed.proofs.Nothing.{none_fed}

@@ -11,7 +11,13 @@ use Rattle.jr_dated.specs.declared.journal.Journal.{Ghosts}
 use Rattle.jr_kept.specs.declared.inbox.Inbox.{Inbox}
 use Rattle.jr_kept.specs.Inbox.{flow_of, limits_of}
 use Rattle.gate_turn.specs.Views.{Part}
+use Rattle.gate_turn.specs.Places.{known}
+use Rattle.gate_turn.specs.declared.pass.Pass.{Pass}
 use Rattle.gate_senders.specs.declared.gate.Gate.{Gate}
+use Rattle.gate_senders.specs.declared.kept.Kept.{Kept}
+use Rattle.conn_turns.specs.Lines.{Line}
+use Rattle.conn_loop.specs.Ends.{line_in, pass_of, pass_in, box_in}
+use Rattle.conn_loop.specs.declared.live.LiveEnd.{LiveEnd}
 use Rattle.conn_door.specs.declared.answer.ServeFault.{ServeFault}
 use Rattle.conn_door.specs.declared.answer.ServeFault.TheVariants as faults
 use Rattle.conn_serve.specs.Causes.{IsBlamed}
@@ -37,6 +43,16 @@ module _ {J : Type 0} {G : Ghosts J} where
 
   pub blamed_none : {tells : Type 0} (old new : FaultsAt J G) → IsBlamed tells old new faults.Memory
   blamed_none old new = record { output = λ e. cc; journal = λ e. cc; changed = λ which at e. cc; dial = λ e. cc; full = λ entries bytes e. cc }
+
+module _ {O I C : Type 0} {G : Ghosts O} {H : Ghosts I} where
+  -- of a live end of these, so
+  pub may_begin_new : (config : EndConfig) (most : ℕ) (h : History) (line : Line) (pass : Pass (Kept O G)) (box : Inbox I H) (e : LiveEnd O I C G H) → line_in e ≡ line → pass_of e ≡ pass → box_in e ≡ box
+      → line.machine ≡ fresh config (opened_state h box) most → BeginsHistory h (known pass).seen → length h.made < 1099511627776 → length config.credentials ≤ 2048 → flow_of box ≡ config.peer_flow → most ≤ (limits_of box).entries
+      → MayBegin (line_in e).machine (pass_in e) (box_in e)
+  may_begin_new config most h line pass box e lines passes boxes is begins few credentials flow within =
+      subst (λ (p : Pass (Kept O G)). MayBegin (line_in e).machine (known p) (box_in e)) (sym passes)
+      (subst (λ (b : Inbox I H). MayBegin (line_in e).machine (known pass) b) (sym boxes)
+      (may_open config most h (line_in e).machine (known pass) box (ap (λ (l : Line). l.machine) lines ∙ is) begins few credentials flow within))
 
 module _ {J : Type 0} {G : Ghosts J} {O : Type 0} {H : Ghosts O} where
   pub served_at : {L : Type 0} (links : LinkGhosts L) (before behind : ℕ) (gate : Gate O H) (old new : ServingAt J G O H) (m n : State) (result : Result (Unit {0}) ServeFault) → m ≡ n
