@@ -41,9 +41,9 @@ pub fn add_frame(
     Ok(())
 }
 
-// Adds the frame of the bytes of a message (Simple Open Framing Header).
+/// Adds the frame of the bytes of a message (Simple Open Framing Header).
 #[tactic(auto, unfolding(sofh_frame::specs::Framing::header_of))]
-fn add_bytes(order: Order, message: &[u8], frames: &mut Vec<u8>) -> Result<(), AllocError>
+pub fn add_bytes(order: Order, message: &[u8], frames: &mut Vec<u8>) -> Result<(), AllocError>
     requires { length message.now ≤ 16384 }
     ensures { OnOk result (frames.new.items ≡ frames.old.items ++ spelled (record { order = order; message = message.now })) }
 {

@@ -7,12 +7,13 @@ ghost use Rattle.cmd_codec.specs.Encoding.{IsMade, Makes, MakesFront, Pushed, Re
 ghost use Rattle.cmd_codec.specs.Encoded.{text_limit};
 ghost use Rattle.cmd_codec.specs.Encodes.{LeavesWire, Writes};
 
-use crate::frame::add_frame;
+use crate::frame::{add_bytes, add_frame};
 use cmd_base::{Bad, Status};
 use gw_outside::{Failed, Sink, push_all};
 use sbe_encode::{EncodeError, EncodeFault};
+use sbe_from_text::{Sheet, write_text};
 use sbe_layout::Plan;
-use sbe_text::{Refusal, Spare, first_message, next_message};
+use sbe_text::{Refusal, first_message};
 use std::alloc::Global;
 
 /// How many bytes of frames wait at least before they are pushed.
@@ -43,42 +44,42 @@ pub enum Stop {
     Memory,
 }
 
-// Room that serves one message after another: for its items, and for its bytes.
-#[derive(Drop)]
-struct Rooms {
-    items: Spare,
-    bytes: Vec<u8>,
-}
-
-impl Rooms {
-    fn new(alloc: Global) -> Rooms {
-        Rooms {
-            items: Spare::new(alloc),
-            bytes: Vec::new(alloc),
-        }
-    }
-}
-
 // Adds the frame of the message at the front of a text, and gives the text behind it.
 fn write_message<'a>(
     alloc: Global,
     plan: &Plan,
     left: &'a [u8],
-    rooms: &mut Rooms,
+    sheet: &mut Sheet,
     frames: &mut Vec<u8>,
 ) -> Result<&'a [u8], Stop>
     ensures { WritesOne plan.now left.now frames.old.items frames.new.items result }
 {
-    match next_message(alloc, &mut rooms.items, plan, left) {
-        Ok((message, rest)) => {
-            let added = add_frame(alloc, plan, &message, &mut rooms.bytes, frames);
-            rooms.items.keep(message);
-            match added {
-                Ok(()) => Ok(rest),
-                Err(EncodeError::Fault(fault)) => Err(Stop::Fault(fault)),
-                Err(EncodeError::Memory) => Err(Stop::Memory),
-            }
-        }
+    // what is wrong with a message is told by its tree
+    let Some(rest) = write_text(alloc, plan, left, sheet) else {
+        return write_tree(alloc, plan, left, sheet, frames);
+    };
+    match add_bytes(plan.order, sheet.bytes.as_slice(), frames) {
+        Ok(()) => Ok(rest),
+        Err(_) => Err(Stop::Memory),
+    }
+}
+
+// The same by a tree of the message.
+fn write_tree<'a>(
+    alloc: Global,
+    plan: &Plan,
+    left: &'a [u8],
+    sheet: &mut Sheet,
+    frames: &mut Vec<u8>,
+) -> Result<&'a [u8], Stop>
+    ensures { WritesOne plan.now left.now frames.old.items frames.new.items result }
+{
+    match first_message(alloc, plan, left) {
+        Ok((message, rest)) => match add_frame(alloc, plan, &message, &mut sheet.bytes, frames) {
+            Ok(()) => Ok(rest),
+            Err(EncodeError::Fault(fault)) => Err(Stop::Fault(fault)),
+            Err(EncodeError::Memory) => Err(Stop::Memory),
+        },
         Err(Refusal::Left(lines)) => Err(Stop::Line(lines)),
         Err(Refusal::Memory) => Err(Stop::Memory),
     }
@@ -105,11 +106,11 @@ fn make_front<'a>(
     requires short { length text.now ≤ text_limit }
     ensures { MakesFront plan.now text.now frames.new.items result }
 {
-    let mut rooms = Rooms::new(alloc);
+    let mut sheet = Sheet::new(alloc);
     let mut number = 1;
     let mut left = text;
     while !left.is_empty() && frames.len() <= text.len() {
-        match write_message(alloc, plan, left, &mut rooms, frames) {
+        match write_message(alloc, plan, left, &mut sheet, frames) {
             Ok(rest) => {
                 number += 1;
                 left = rest;
@@ -177,11 +178,11 @@ pub fn write_all<K: Sink>(
     ensures cause { result ≡ Status.OutputFault → HasRisen (K.faults wire.old) (K.faults wire.new) }
 {
     let _ = text;
-    let mut rooms = Rooms::new(alloc);
+    let mut sheet = Sheet::new(alloc);
     let mut number = place.number;
     let mut left = place.left;
     while !left.is_empty() {
-        match write_message(alloc, plan, left, &mut rooms, frames) {
+        match write_message(alloc, plan, left, &mut sheet, frames) {
             Ok(rest) => {
                 let Ok(()) = push_full(wire, frames) else {
                     return Status::OutputFault;

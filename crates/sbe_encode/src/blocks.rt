@@ -156,15 +156,15 @@ fn has_counts(plan: &BlockPlan, block: &Block) -> bool
         && block.vars.len() == plan.vars.len()
 }
 
-// Whether the dimension of a group of so many entries can be written.
-fn holds_dimension(plan: &GroupPlan, count: u128) -> bool
+/// Whether the dimension of a group of so many entries can be written.
+pub fn holds_dimension(plan: &GroupPlan, count: u128) -> bool
     ensures { result ≡ holds_dimension (head_of plan.now) count }
 {
     can_count(plan.block_prim, plan.block.block_length) && can_count(plan.count_prim, count)
 }
 
-// Writes the dimension of a group of so many entries.
-fn write_dimension(
+/// Writes the dimension of a group of so many entries.
+pub fn write_dimension(
     order: Order,
     plan: &GroupPlan,
     count: u128,

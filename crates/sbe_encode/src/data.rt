@@ -12,8 +12,8 @@ use sbe_prim::Order;
 use sbe_value::Datum;
 use std::alloc::Global;
 
-// Writes a datum: its length, and its bytes.
-fn write_datum(
+/// Writes a datum: its length, and its bytes.
+pub fn write_datum(
     alloc: Global,
     order: Order,
     plan: &DataPlan,

@@ -12,6 +12,11 @@ mod message;
 mod range;
 mod shape;
 
+pub use blocks::{holds_dimension, write_dimension};
+pub use bytes::write_zeros;
+pub use data::write_datum;
 pub use fault::{EncodeError, EncodeFault};
+pub use items::{Extent, end_block, write_integer, write_item};
 pub use laws::{canonical_reads_back, faultless_where_writable};
-pub use message::{encode, encode_into};
+pub use message::{LONGEST, encode, encode_into, write_header};
+pub use shape::holds_numbers;

@@ -1,6 +1,7 @@
 //! Writing a message by a plan.
 
 ghost use Rattle.std.specs.Prelude.{◌≡◌, ◌++◌, [], None, Some, Err, OnOk, OnErr, length};
+ghost use Rattle.sbe_value.specs.declared.message.Message.{Message};
 ghost use Rattle.sbe_grammar.specs.Canonical.{canonical, header_bytes, message_bytes};
 ghost use Rattle.sbe_encode.specs.declared.fault.EncodeFault.{EncodeFault};
 ghost use Rattle.sbe_encode.specs.declared.fault.EncodeError.TheVariants.{Fault};
@@ -16,7 +17,7 @@ use sbe_value::{Bytes, Message};
 use std::alloc::Global;
 
 /// The most bytes of a message.
-const LONGEST: usize = 16_384;
+pub const LONGEST: usize = 16_384;
 
 /// Writes a message behind `out`, at the plan's version (SBE 1.0, "Message structure"): its header, its root block, its
 /// groups and its data. A message that may not be written is refused with its first fault in schema order; every
@@ -86,7 +87,7 @@ fn write_message(
 ) -> Result<(), EncodeError>
     ensures { Writes result out.old.items out.new.items (message_bytes plan.now layout.now message.now) (layout_fault plan.now.listings layout.now message.now) }
 {
-    write_header(alloc, plan, layout, message, out)?;
+    write_header(alloc, plan, layout, message.template, out)?;
     let listings = plan.listings.as_slice();
     write_block(
         alloc,
@@ -98,21 +99,21 @@ fn write_message(
     )
 }
 
-// Writes the header of a message.
-fn write_header(
+/// Writes the header of a message of a template.
+pub fn write_header(
     alloc: Global,
     plan: &Plan,
     layout: &MessagePlan,
-    message: &Message,
+    template: u16,
     out: &mut Vec<u8>,
 ) -> Result<(), EncodeError>
-    ensures { Writes result out.old.items out.new.items (header_bytes plan.now layout.now message.now) (header_fault layout.now) }
+    ensures { (m : Message) → m.template ≡ template → Writes result out.old.items out.new.items (header_bytes plan.now layout.now m) (header_fault layout.now) }
 {
     if !can_count(Primitive::UInt16, layout.root.block_length) {
         return Err(shape_here(alloc));
     }
     write_count(Primitive::UInt16, plan.order, layout.root.block_length, out)?;
-    write_count(Primitive::UInt16, plan.order, message.template as u128, out)?;
+    write_count(Primitive::UInt16, plan.order, template as u128, out)?;
     write_count(Primitive::UInt16, plan.order, plan.id as u128, out)?;
     write_count(Primitive::UInt16, plan.order, plan.version as u128, out)?;
     Ok(())

@@ -3,6 +3,7 @@
 ghost use Rattle.std.specs.Prelude.{◌≡◌, ◌^◌, ◌<◌, ◌≤◌, pos, slice_get};
 ghost use Rattle.std.specs.List.{list_any, list_all};
 ghost use Rattle.std.specs.Ordering.{int_eq};
+ghost use Rattle.sbe_value.specs.declared.item.Item.TheVariants.{Num};
 ghost use Rattle.sbe_grammar.specs.Canonical.{least_by, greatest_by, is_listed, without_bit, without_bits, names_all, may_have, in_range, is_written, is_ranged, is_admitted, prim_of, null_in};
 ghost use Rattle.sbe_prim.specs.Primitives.{lies_within};
 
@@ -17,6 +18,13 @@ pub fn is_admitted(listings: &[Listing], kind: ItemKind, item: &Item) -> bool
     ensures { result ≡ is_admitted listings.now kind item.now }
 {
     is_written(kind, item) && is_ranged(listings, kind, item)
+}
+
+/// The same of a number.
+pub fn admits_number(listings: &[Listing], kind: ItemKind, value: i128) -> bool
+    ensures { result ≡ is_admitted listings.now kind (Num value) }
+{
+    can_write(prim_of(kind), value) && may_have(listings, kind, value)
 }
 
 // Whether the number of an item, or that for no value, can be written.

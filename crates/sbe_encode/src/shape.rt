@@ -1,8 +1,9 @@
 //! Whether a value has the form that its item has.
 
-ghost use Rattle.std.specs.Prelude.{◌≡◌, not, ◌&&◌};
+ghost use Rattle.std.specs.Prelude.{◌≡◌, true, not, ◌&&◌};
+ghost use Rattle.sbe_value.specs.declared.item.Item.TheVariants.{Null};
 ghost use Rattle.sbe_grammar.specs.Canonical.{is_absent};
-ghost use Rattle.sbe_grammar.specs.Fits.{has_form, number, text, raw, is_optional};
+ghost use Rattle.sbe_grammar.specs.Fits.{form_of, has_form, number, text, raw, is_optional};
 ghost use Rattle.sbe_encode.specs.Faults.{is_shaped};
 
 use sbe_layout::{ItemKind, ItemPlan};
@@ -29,6 +30,16 @@ pub fn is_shaped(plan: &ItemPlan, item: &Item) -> bool
             }
         }
         ItemKind::Enum { .. } | ItemKind::Set { .. } => matches!(item, Item::Num(_)),
+    }
+}
+
+/// Whether an item is a number.
+pub fn holds_numbers(plan: &ItemPlan) -> bool
+    ensures { result ≡ true → form_of plan.now ≡ number (has_form (form_of plan.now) Null) }
+{
+    match plan.kind {
+        ItemKind::Number { prim, length, .. } => length < 2 && is_integral(prim),
+        ItemKind::Enum { .. } | ItemKind::Set { .. } => true,
     }
 }
 

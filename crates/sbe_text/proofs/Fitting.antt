@@ -192,6 +192,12 @@ layout_has_template ms line l e =
     also_some (also (behind (codes "message ") line) (named ms)) (λ m. message_of m.template ms) l _ e (λ m _ k.
     let P : ℕ → Type 0 = λ n. Some l ≡ message_of n ms in subst P (sym (layout_found m.template ms l k)) (sym k))
 
+-- a layout that a line names is that of its template
+pub layout_read : (ms : List MessagePlan) (ls : List (List ℕ)) (l : MessagePlan) (rest : List (List ℕ)) → read_line (layout_on ms) ls ≡ Ok (l, rest) → message_of l.template ms ≡ Some l
+layout_read ms [] l rest e = absurd (cc)
+layout_read ms (line ∷ ls) l rest e =
+    sym (layout_has_template ms line l (taken_ok (length (line ∷ ls)) (layout_on ms line) ls l rest e))
+
 body_fits : (schema : Plan) (l : MessagePlan) (ls rest : List (List ℕ)) (m : Message) → Some l ≡ message_of l.template schema.messages → read_body l ls ≡ Ok (m, rest) → Fits schema m
 body_fits schema l ls rest m found h =
     next_ok (read_elements [] l.root.items (read_groups [] l.root.groups) l.root.vars ls) _ (m, rest) _ h (λ e after h1 k1.

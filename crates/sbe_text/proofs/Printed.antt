@@ -59,21 +59,21 @@ word_unreturned [] h = refl
 word_unreturned (x ∷ []) h = rw (no_return (x == 10) (x == 13) true h) refl
 word_unreturned (x ∷ y ∷ ys) h = ap (λ bs. x ∷ bs) (word_unreturned (y ∷ ys) (both_right (is_word_byte x) (is_word (y ∷ ys)) h))
 
-line_back : (xs rest : List ℕ) → is_word xs ≡ true → lines_in (xs ++ 10 ∷ rest) ≡ xs ∷ lines_in rest
+pub line_back : (xs rest : List ℕ) → is_word xs ≡ true → lines_in (xs ++ 10 ∷ rest) ≡ xs ∷ lines_in rest
 line_back xs rest h = first_of_lines xs rest (word_no_feeds xs h) ∙ ap (λ x. x ∷ lines_in rest) (word_unreturned xs h)
 
-word_append : (xs ys : List ℕ) → is_word xs ≡ true → is_word ys ≡ true → is_word (xs ++ ys) ≡ true
+pub word_append : (xs ys : List ℕ) → is_word xs ≡ true → is_word ys ≡ true → is_word (xs ++ ys) ≡ true
 word_append [] ys h k = k
 word_append (x ∷ xs) ys h k = both (is_word_byte x) (is_word (xs ++ ys)) (both_left (is_word_byte x) (is_word xs) h) (word_append xs ys (both_right (is_word_byte x) (is_word xs) h) k)
 
 digit_word : (c : ℕ) → is_digit c ≡ true → is_word_byte c ≡ true
 digit_word c h = grind (arith, nat_tests)
 
-digits_word : (ds : List ℕ) → are_digits ds ≡ true → is_word ds ≡ true
+pub digits_word : (ds : List ℕ) → are_digits ds ≡ true → is_word ds ≡ true
 digits_word [] h = refl
 digits_word (c ∷ cs) h = both (is_word_byte c) (is_word cs) (digit_word c (both_left (is_digit c) (are_digits cs) h)) (digits_word cs (both_right (is_digit c) (are_digits cs) h))
 
-decimal_word : (n : ℕ) → n < 10 ^ 64 → is_word (decimal n) ≡ true
+pub decimal_word : (n : ℕ) → n < 10 ^ 64 → is_word (decimal n) ≡ true
 decimal_word n h = digits_word (decimal n) (digits_are (decimal n) (decimal_is_IsNumeral_wide n h).0.1)
 
 plain_byte : (c : ℕ) → is_plain c ≡ true → is_word_byte c ≡ true
@@ -127,7 +127,7 @@ element_lined before name value rest h k m =
     ap lines_in (append_assoc (before ++ name ++ codes " = " ++ value) (10 ∷ []) rest)
     ∙ line_back (before ++ name ++ codes " = " ++ value) rest (word_append (before ++ name ++ codes " = ") value (word_append (before ++ name) (codes " = ") (word_append before name h k) refl) m)
 
-element_back : {A : Type 0} (before name value rest : List ℕ) (made : List ℕ → Option A) (x : A) → is_word before ≡ true → is_word name ≡ true → is_word value ≡ true → made value ≡ Some x → read_element before name made (lines_in (element_line before name value ++ rest)) ≡ Ok (x, lines_in rest)
+pub element_back : {A : Type 0} (before name value rest : List ℕ) (made : List ℕ → Option A) (x : A) → is_word before ≡ true → is_word name ≡ true → is_word value ≡ true → made value ≡ Some x → read_element before name made (lines_in (element_line before name value ++ rest)) ≡ Ok (x, lines_in rest)
 element_back before name value rest made x h k m e =
     rw (element_lined before name value rest h k m, value_on_joined before name value, e) refl
 
@@ -159,7 +159,7 @@ data_back before (v ∷ vs) (d ∷ ds) rest w n f h =
 
 -- ---- groups
 
-at_word : (before : List ℕ) (g : PlanHead) (at : ℕ) → is_word before ≡ true → is_word g.name ≡ true → at < 10 ^ 64 → is_word (before_in before g at) ≡ true
+pub at_word : (before : List ℕ) (g : PlanHead) (at : ℕ) → is_word before ≡ true → is_word g.name ≡ true → at < 10 ^ 64 → is_word (before_in before g at) ≡ true
 at_word before g at w n h =
     word_append (before ++ g.name ++ 91 ∷ decimal at) (93 ∷ 46 ∷ []) (word_append (before ++ g.name) (91 ∷ decimal at) (word_append before g.name w n) (decimal_word at h)) refl
 

@@ -64,7 +64,7 @@ value_on_joined before name value =
     let line : before ++ name ++ codes " = " ++ value ≡ before ++ (name ++ (codes " = " ++ value)) = simp append_assoc in
     rw (line, behind_joined before (name ++ (codes " = " ++ value)), behind_joined name (codes " = " ++ value)) (behind_joined (codes " = ") value)
 
-other_first : (b w : ℕ) (bs ws : List ℕ) → (b == w) ≡ false → bytes_eq (b ∷ bs) (w ∷ ws) ≡ false
+pub other_first : (b w : ℕ) (bs ws : List ℕ) → (b == w) ≡ false → bytes_eq (b ∷ bs) (w ∷ ws) ≡ false
 other_first b w bs ws e = rw e refl
 
 -- ---- numbers
@@ -132,7 +132,7 @@ first_digit : (n : ℕ) → n < 10 ^ 64 → FirstDigit (decimal n)
 first_digit n h =
     let numeral = decimal_is_IsNumeral_wide n h in first_of (decimal n) numeral.0.0 (digits_are (decimal n) numeral.0.1)
 
-digit_no : (b w : ℕ) → is_digit b ≡ true → is_digit w ≡ false → (b == w) ≡ false
+pub digit_no : (b w : ℕ) → is_digit b ≡ true → is_digit w ≡ false → (b == w) ≡ false
 digit_no b w d e = let P : Bool → Type 0 = λ t. (b == w) ≡ t → t ≡ false in elim (b == w) as P [ true ↦ λ h. absurd (false≢true (sym e ∙ ap is_digit (sym ((Decides-eqb b w).0 h)) ∙ d)) | false ↦ λ h. refl ] refl
 
 digits_no_word : (ds : List ℕ) (w : ℕ) (ws : List ℕ) → FirstDigit ds → is_digit w ≡ false → bytes_eq ds (w ∷ ws) ≡ false

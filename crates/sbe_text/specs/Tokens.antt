@@ -1,5 +1,5 @@
 -- What stands on a line: a path, and the value of an element by its form (this project's profile).
-use Rattle.std.specs.Prelude.{ℕ, zero, suc, ◌-◌, ◌^◌, ◌==◌, ◌&&◌, ◌||◌, nat_le, ℤ, pos, negsuc, Bool, true, not, if◌then◌else◌, Option, Some, None, Result, Ok, Err, List, [], ◌∷◌, length, take, drop, codes}
+use Rattle.std.specs.Prelude.{◌≡◌, ℕ, zero, suc, ◌-◌, ◌^◌, ◌<◌, ◌≤◌, ◌==◌, ◌&&◌, ◌||◌, nat_le, ℤ, pos, negsuc, Bool, true, false, not, if◌then◌else◌, Option, Some, None, Result, Ok, Err, List, [], ◌∷◌, length, take, drop, codes}
 use Rattle.std.specs.Option.{option_map}
 use Rattle.std.specs.Str.{bytes_eq}
 use Rattle.std.specs.Str.Parse.{digits_value}
@@ -45,6 +45,13 @@ is_digit byte = nat_le 48 byte && nat_le byte 57
 abbrev pub are_digits : List ℕ → Bool
 are_digits [] = true
 are_digits (byte ∷ bytes) = is_digit byte && are_digits bytes
+
+-- so many digits, of this number, stand in front, and where there are bytes behind them not all are digits
+pub record AreInFront (text : List ℕ) (number count : ℕ) : Type 0 where
+  pub digits : are_digits (take count text) ≡ true
+  pub value : digits_value 10 (take count text) ≡ number
+  pub within : count ≤ length text
+  pub end : count < length text → are_digits text ≡ false
 
 -- decimal digits without a leading zero (48), of a number that 128 bits hold
 abbrev pub natural_of : List ℕ → Option ℕ

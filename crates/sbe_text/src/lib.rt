@@ -16,8 +16,11 @@ mod wire;
 
 pub use error::{Refusal, TextError};
 pub use laws::printed_reads_back;
-pub use parse::{first_message, next_message, parse_message, refused_line};
-pub use path::names_begin;
+pub use parse::{
+    element, first_message, next_message, parse_message, read_end, read_layout, refused_line,
+};
+pub use path::{names_begin, open_entry, open_group};
 pub use print::{print_message, write_lines, write_named_lines};
 pub use spare::Spare;
+pub use token::{Count, behind, datum, entry_count, leading_digits, value};
 pub use wire::{Draft, print_wire};

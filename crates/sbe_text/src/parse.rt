@@ -14,7 +14,7 @@ ghost use Rattle.sbe_text.specs.Tokens.{value_on, is_line};
 ghost use Rattle.sbe_text.specs.Reading.{read_item, read_datum, read_elements, read_entries, read_group, read_groups, named, layout_on, read_message, alone, message_of_text};
 
 use crate::error::{Refusal, TextError};
-use crate::path::begin_names;
+use crate::path::{open_entry, open_group};
 use crate::spare::Spare;
 use crate::token::{Count, behind, datum, entry_count, value, value_on};
 use sbe_layout::{BlockPlan, DataPlan, GroupPlan, ItemPlan, MessagePlan, MessagePlans, Plan};
@@ -135,8 +135,8 @@ fn read_message<'a>(
     ))
 }
 
-// The layout that the line of a message names.
-fn read_layout<'p, 'a>(
+/// The layout that the line of a message names.
+pub fn read_layout<'p, 'a>(
     messages: &'p MessagePlans,
     left: &'a [u8],
 ) -> Result<(&'p MessagePlan, &'a [u8]), Refusal>
@@ -172,8 +172,8 @@ fn named<'p>(messages: &'p [MessagePlan], name: &[u8]) -> Option<&'p MessagePlan
     None
 }
 
-// The line `end`.
-fn read_end(left: &[u8]) -> Result<&[u8], Refusal>
+/// The line `end`.
+pub fn read_end(left: &[u8]) -> Result<&[u8], Refusal>
     ensures { Gives (λ rest. (codes "end", lines_in rest.now)) result (read_line (is_line (codes "end")) (lines_in left.now)) }
 {
     match first_line(left) {
@@ -182,8 +182,12 @@ fn read_end(left: &[u8]) -> Result<&[u8], Refusal>
     }
 }
 
-// The value on the line of an element.
-fn element<'a>(before: &[u8], name: &Bytes, left: &'a [u8]) -> Result<(&'a [u8], &'a [u8]), Refusal>
+/// The value on the line of an element.
+pub fn element<'a>(
+    before: &[u8],
+    name: &Bytes,
+    left: &'a [u8],
+) -> Result<(&'a [u8], &'a [u8]), Refusal>
     ensures { Gives (λ x. (x.0.now, lines_in x.1.now)) result (read_line (value_on before.now name.now) (lines_in left.now)) }
 {
     let Some((line, rest)) = first_line(left) else {
@@ -342,9 +346,12 @@ fn read_entries<'a>(
 {
     let mut entries = room_for(alloc, &plan.block, count)?;
     let mut inner = Vec::new(alloc);
+    inner.extend_from_slice(before)?;
+    open_group(&plan.name, &mut inner)?;
+    let opened = inner.len();
     let mut left = left;
     for at in 0..count {
-        begin_names(before, plan, at, &mut inner)?;
+        open_entry(opened, at, &mut inner)?;
         let (entry, rest) = read_block(alloc, spare, inner.as_slice(), &plan.block, left)?;
         entries.push(entry)?;
         left = rest;

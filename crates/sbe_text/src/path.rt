@@ -4,7 +4,7 @@ ghost use Rattle.std.specs.Prelude.{◌≡◌, [], ◌∷◌, ◌++◌, take, de
 ghost use Rattle.sbe_layout.specs.Views.{head_of};
 ghost use Rattle.sbe_text.specs.Written.{before_in};
 
-use crate::values::write_natural;
+use crate::values::{write_natural, write_piece};
 use sbe_layout::GroupPlan;
 use sbe_value::Bytes;
 use std::alloc::{AllocError, Global};
@@ -54,6 +54,14 @@ pub fn open_entry(opened: usize, at: u128, names: &mut Vec<u8>) -> Result<(), Al
     ensures { OnOk result (names.new.items ≡ take opened names.old.items ++ decimal at ++ 93 ∷ 46 ∷ []) }
 {
     names.truncate(opened);
-    write_natural(at, names)?;
-    names.extend_from_slice(b"].")
+    match u64::try_from(at) {
+        Ok(short) => {
+            let mut room = *b"                    ].";
+            write_piece(short, &mut room, names)
+        }
+        Err(_) => {
+            write_natural(at, names)?;
+            names.extend_from_slice(b"].")
+        }
+    }
 }

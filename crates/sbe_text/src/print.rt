@@ -13,7 +13,7 @@ ghost use Rattle.sbe_text.specs.Written.{datum_text, element_line, before_in, it
 
 use crate::names::write_names;
 use crate::path::begin_names;
-use crate::values::{seen, write_datum, write_natural, write_value};
+use crate::values::{seen, write_datum, write_number_line, write_piece, write_value};
 use sbe_decode::Value;
 use sbe_layout::{BlockPlan, DataPlan, GroupPlan, ItemPlan, Listing, Plan};
 use sbe_value::{Block, Blocks, Bytes, Datum, Group, Item, Lines, Message};
@@ -151,9 +151,15 @@ pub fn write_item(
     ensures { OnOk result (lines.new.items ≡ lines.old.items ++ item_line listings.now before.now plan.now (item_of value.entry)) }
 {
     write_path(before, &plan.name, lines)?;
-    write_value(value, lines)?;
-    write_names(listings, plan.kind, value, lines)?;
-    lines.extend_from_slice(b"\n")
+    match (listings, value) {
+        // most values are numbers without names
+        ([], Value::Num(number)) => write_number_line(number, lines),
+        _ => {
+            write_value(value, lines)?;
+            write_names(listings, plan.kind, value, lines)?;
+            lines.extend_from_slice(b"\n")
+        }
+    }
 }
 
 /// Writes the path of an element, and what stands before its value.
@@ -240,6 +246,6 @@ fn write_entries(
 pub fn write_count(count: u64, lines: &mut Vec<u8>) -> Result<(), AllocError>
     ensures { OnOk result (lines.new.items ≡ lines.old.items ++ decimal count ++ 10 ∷ []) }
 {
-    write_natural(count as u128, lines)?;
-    lines.extend_from_slice(b"\n")
+    let mut room = *b"                    \n";
+    write_piece(count, &mut room, lines)
 }

@@ -1,13 +1,13 @@
 //! What stands on a line: the path of an element, and its value.
 
-ghost use Rattle.std.specs.Prelude.{◌≡◌, true, IfOk, ◌^◌, ◌-◌, nat_le, if◌then◌else◌, codes};
+ghost use Rattle.std.specs.Prelude.{◌≡◌, true, IfOk, IfSome, ◌^◌, ◌-◌, ◌&&◌, nat_le, if◌then◌else◌, codes};
 ghost use Rattle.std.specs.Str.{bytes_eq};
 ghost use Rattle.sbe_prim.specs.Primitives.{is_integer};
 ghost use Rattle.sbe_schema.specs.Kinds.{is_char};
 ghost use Rattle.std.specs.Option.{option_copied};
 ghost use Rattle.std.specs.Str.Parse.{digits_value};
 ghost use Rattle.sbe_grammar.specs.Fits.{form_of, is_optional, number, raw, text as text_form};
-ghost use Rattle.sbe_text.specs.Tokens.{behind, in_front, value_on, are_digits, held, natural_of, positive, negative, number_of, raw_of, quoted_of, characters_of, present_of, value_of, datum_of, count_of};
+ghost use Rattle.sbe_text.specs.Tokens.{AreInFront, behind, in_front, value_on, are_digits, held, natural_of, positive, negative, number_of, raw_of, quoted_of, characters_of, present_of, value_of, datum_of, count_of};
 
 use crate::values::are_plain;
 use hex::FromHexError;
@@ -214,10 +214,40 @@ fn natural(text: &[u8]) -> Option<u128>
     ensures { result ≡ natural_of text.now }
 {
     let first = *text.first()?;
-    if !are_digits(text) || (first == b'0' && text.len() > 1) {
+    if first == b'0' && text.len() > 1 {
         return None;
     }
     digits_value(text)
+}
+
+// The number of decimal digits, where 128 bits hold it; none where a byte is no digit. Most are held by 64 bits: their digits
+// are looked at once, and cost a part of the others'.
+#[tactic(auto, using(crate::proofs::Numerals::all_in_front, crate::proofs::Numerals::some_in_front))]
+fn digits_value(text: &[u8]) -> Option<u128>
+    ensures { result ≡ (if are_digits text.now && nat_le (digits_value 10 text.now) (2 ^ 128 - 1) then Some (digits_value 10 text.now) else None) }
+{
+    match leading_digits(text) {
+        Some((number, count)) if count == text.len() => Some(u128::from(number)),
+        Some(_) => None,
+        None if are_digits(text) => long_value(text),
+        None => None,
+    }
+}
+
+/// The number of the decimal digits at the front of a text, and how many they are; none where 64 bits do not hold it.
+#[tactic(auto, using(crate::proofs::Numerals::more_digits, crate::proofs::Numerals::more_value, crate::proofs::Numerals::no_digits))]
+pub fn leading_digits(text: &[u8]) -> Option<(u64, usize)>
+    ensures { IfSome result (λ x. AreInFront text.now x.0 x.1) }
+{
+    let mut number = 0u64;
+    for (at, byte) in text.iter().enumerate() {
+        if !byte.is_ascii_digit() {
+            return Some((number, at));
+        }
+        let value = u64::from(byte.saturating_sub(b'0'));
+        number = number.checked_mul(10)?.checked_add(value)?;
+    }
+    Some((number, text.len()))
 }
 
 fn are_digits(text: &[u8]) -> bool
@@ -231,30 +261,7 @@ fn are_digits(text: &[u8]) -> bool
     true
 }
 
-// The number of decimal digits, where 128 bits hold it. Most are held by 64 bits, whose digits cost a part of the others'.
-fn digits_value(digits: &[u8]) -> Option<u128>
-    requires { are_digits digits.now ≡ true }
-    ensures { result ≡ (if nat_le (digits_value 10 digits.now) (2 ^ 128 - 1) then Some (digits_value 10 digits.now) else None) }
-{
-    match short_value(digits) {
-        Some(number) => Some(u128::from(number)),
-        None => long_value(digits),
-    }
-}
-
-#[tactic(auto, using(crate::proofs::Numerals::digits_grow, crate::proofs::Numerals::digits_next, crate::proofs::Numerals::digits_left))]
-fn short_value(digits: &[u8]) -> Option<u64>
-    requires { are_digits digits.now ≡ true }
-    ensures { result ≡ (if nat_le (digits_value 10 digits.now) (2 ^ 64 - 1) then Some (digits_value 10 digits.now) else None) }
-{
-    let mut number = 0u64;
-    for digit in digits {
-        let value = u64::from(digit.saturating_sub(b'0'));
-        number = number.checked_mul(10)?.checked_add(value)?;
-    }
-    Some(number)
-}
-
+// The number of decimal digits, where 128 bits hold it.
 #[tactic(auto, using(crate::proofs::Numerals::digits_grow, crate::proofs::Numerals::digits_next, crate::proofs::Numerals::digits_left))]
 fn long_value(digits: &[u8]) -> Option<u128>
     requires { are_digits digits.now ≡ true }

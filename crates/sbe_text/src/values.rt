@@ -1,12 +1,12 @@
 //! The texts of values: what stands behind the `=` of a line.
 
-ghost use Rattle.std.specs.Prelude.{◌≡◌, ◌<◌, ◌++◌, OnOk, slice_index, codes, decimal};
+ghost use Rattle.std.specs.Prelude.{◌≡◌, ◌<◌, ◌≤◌, [], ◌∷◌, ◌++◌, OnOk, length, drop, slice_index, codes, decimal};
 ghost use Rattle.std.specs.Fmt.{signed_decimal};
 ghost use Rattle.hex.specs.Hex.{lower_digits, encode_lower};
 ghost use Rattle.sbe_decode.specs.Shown.{item_of};
 ghost use Rattle.sbe_text.specs.Written.{is_plain, are_plain, raw_text, value_text, datum_text};
 
-use itoa::Buffer;
+use itoa::{Buffer, write_digits};
 use sbe_decode::Value;
 use sbe_value::{Datum, Item};
 use std::alloc::AllocError;
@@ -47,6 +47,34 @@ fn write_number(number: i128, lines: &mut Vec<u8>) -> Result<(), AllocError>
     match i64::try_from(number) {
         Ok(short) => lines.extend_from_slice(digits.format(short).as_bytes()),
         Err(_) => lines.extend_from_slice(digits.format(number).as_bytes()),
+    }
+}
+
+/// Writes a number of 64 bits in decimal and what stands behind it, in one piece: that is what `room` has behind its first 20
+/// bytes, which are for the digits.
+#[tactic(auto, using(crate::proofs::Numerals::short_decimal))]
+pub fn write_piece(number: u64, room: &mut [u8], lines: &mut Vec<u8>) -> Result<(), AllocError>
+    requires { 20 ≤ length room.old }
+    ensures { OnOk result (lines.new.items ≡ lines.old.items ++ decimal number ++ drop 20 room.old) }
+{
+    let at = write_digits(number, room, 20);
+    let (_, piece) = room.split_at(at);
+    lines.extend_from_slice(piece)
+}
+
+/// Writes a number in decimal, and ends its line.
+pub fn write_number_line(number: i128, lines: &mut Vec<u8>) -> Result<(), AllocError>
+    ensures { OnOk result (lines.new.items ≡ lines.old.items ++ signed_decimal number ++ 10 ∷ []) }
+{
+    match u64::try_from(number) {
+        Ok(short) => {
+            let mut room = *b"                    \n";
+            write_piece(short, &mut room, lines)
+        }
+        Err(_) => {
+            write_number(number, lines)?;
+            lines.extend_from_slice(b"\n")
+        }
     }
 }
 

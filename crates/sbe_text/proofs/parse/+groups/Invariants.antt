@@ -1,4 +1,4 @@
-use Rattle.std.proofs.Common.{◌≡◌, ◌+◌, ◌*◌, ◌-◌, drop}
+use Rattle.std.proofs.Common.{◌≡◌, ◌∷◌, [], ◌++◌, ◌+◌, ◌*◌, ◌-◌, drop, take}
 use Rattle.sbe_layout.specs.Trees.{weight_of}
 use Rattle.sbe_layout.specs.Views.{head_of, plans_of}
 use Rattle.text_words.specs.Lines.{lines_in}
@@ -24,5 +24,7 @@ invariant-read_groups-loop-plan l =
     groups_before l.groups.items (read_groups l.before (plans_of (drop l.plan-index l.plans)) (lines_in l.left)) ≡ read_groups l.before (plans_of l.plans) (lines_in l.initial.left)
 
 abbrev pub invariant-read_entries-loop-at : goal.invariant-read_entries-loop-at
-invariant-read_entries-loop-at l =
-    entries_before l.entries.items (repeated (l.count - l.at) l.at (entry_at l.before (head_of l.plan) (λ path. read_groups path l.plan.block.groups)) (lines_in l.left)) ≡ repeated l.count 0 (entry_at l.before (head_of l.plan) (λ path. read_groups path l.plan.block.groups)) (lines_in l.initial.left)
+invariant-read_entries-loop-at l = record {
+  read : entries_before l.entries.items (repeated (l.count - l.at) l.at (entry_at l.before (head_of l.plan) (λ path. read_groups path l.plan.block.groups)) (lines_in l.left)) ≡ repeated l.count 0 (entry_at l.before (head_of l.plan) (λ path. read_groups path l.plan.block.groups)) (lines_in l.initial.left);
+  path : take l.opened l.inner.items ≡ l.before ++ l.plan.name ++ 91 ∷ [];
+}

@@ -1,0 +1,4 @@
+pub mod Parts
+pub mod Elements
+pub mod Messages
+pub mod Lined
