@@ -321,29 +321,29 @@ pub ends_are_told : EndsAreTold
 ends_are_told hi ha w before later now_i now_a known may keeps = told_from hi ha w before later now_i now_a (counted_at_first hi ha w known) may keeps
 
 -- a Terminate is among what a turn reads, or heartbeats stand before it
-reads_it : (P : Type 0) (most : ℕ) (way : List Piece) → 1 ≤ under_way shutting way → (all_beats (take most way) ≡ false → P) → (BeatsFirst most way → P) → P
-reads_it P most way one reads beats =
-    by_bool _ (all_beats (take most way))
-    (λ first. by_length _ most (length way) (λ many. beats (record { many = many; beats = first }))
-    (λ few. let none = (beats_none way (subst (λ (ps : List Piece). all_beats ps ≡ true) (take_all most way few) first)).shuttings in absurd (omega (arith, one, none))))
+reads_it : (P : Type 0) (per_turn : ℕ) (way : List Piece) → 1 ≤ under_way shutting way → (all_beats (take per_turn way) ≡ false → P) → (BeatsFirst per_turn way → P) → P
+reads_it P per_turn way one reads beats =
+    by_bool _ (all_beats (take per_turn way))
+    (λ first. by_length _ per_turn (length way) (λ many. beats (record { many = many; beats = first }))
+    (λ few. let none = (beats_none way (subst (λ (ps : List Piece). all_beats ps ≡ true) (take_all per_turn way few) first)).shuttings in absurd (omega (arith, one, none))))
     (λ other. reads other)
 
 some_none : (e : Option Ending) → e ≡ None → IsSome e → ⊥
 some_none e none some = true≢false (sym some ∙ ap (λ (k : Option Ending). is_some k) none)
 
 pub closing_to_do : ClosingToDo
-closing_to_do most_i most_a hi ha seen w b over one_goes =
+closing_to_do most_i most_a seen_i seen_a w b over one_goes =
     by_bool _ (is_some w.initiator.ending)
     (λ ended. outward (acceptor_goes ended one_goes) (b.outward (inl ended)))
     (λ none_i. by_bool _ (is_some w.acceptor.ending)
     (λ ended. homeward (none_is w.initiator.ending none_i) (b.homeward (inl ended)))
     (λ none_a. by_over (none_is w.initiator.ending none_i) (none_is w.acceptor.ending none_a) over))
   where
-    homeward : w.initiator.ending ≡ None → (1 ≤ under_way shutting w.homeward) ⊎ IsSome w.initiator.ending → HasToDo most_i most_a hi ha seen w
+    homeward : w.initiator.ending ≡ None → (1 ≤ under_way shutting w.homeward) ⊎ IsSome w.initiator.ending → HasToDo most_i most_a seen_i seen_a w
     homeward going (inl one) = reads_it _ most_i w.homeward one (λ other. acts.at_initiator going (acts.reads other)) (λ first. acts.homeward_beats going first)
     homeward going (inr ended) = absurd (some_none w.initiator.ending going ended)
 
-    outward : w.acceptor.ending ≡ None → (1 ≤ under_way shutting w.outward) ⊎ IsSome w.acceptor.ending → HasToDo most_i most_a hi ha seen w
+    outward : w.acceptor.ending ≡ None → (1 ≤ under_way shutting w.outward) ⊎ IsSome w.acceptor.ending → HasToDo most_i most_a seen_i seen_a w
     outward going (inl one) = reads_it _ most_a w.outward one (λ other. acts.at_acceptor going (acts.reads other)) (λ first. acts.outward_beats going first)
     outward going (inr ended) = absurd (some_none w.acceptor.ending going ended)
 
@@ -351,6 +351,6 @@ closing_to_do most_i most_a hi ha seen w b over one_goes =
     acceptor_goes ended (inl none) = absurd (some_none w.initiator.ending none ended)
     acceptor_goes ended (inr none) = none
 
-    by_over : w.initiator.ending ≡ None → w.acceptor.ending ≡ None → IsOver w.initiator ⊎ IsOver w.acceptor → HasToDo most_i most_a hi ha seen w
+    by_over : w.initiator.ending ≡ None → w.acceptor.ending ≡ None → IsOver w.initiator ⊎ IsOver w.acceptor → HasToDo most_i most_a seen_i seen_a w
     by_over none_i none_a (inl i) = outward none_a (b.outward i)
     by_over none_i none_a (inr a) = homeward none_i (b.homeward a)

@@ -3,7 +3,7 @@ use Rattle.std.proofs.Common.{◌≡◌, ◌⊎◌, inl, inr, ℕ, ◌≤◌, �
 use Rattle.std.specs.Prelude.{is_some, is_none}
 use Rattle.std.proofs.lemmas.Bool.{ltb-true, ltb-false}
 use Rattle.std.proofs.lemmas.List.{take_all}
-use Rattle.session_model.specs.Journal.{Entry}
+use Rattle.session_model.specs.Journal.{Entry, History}
 use Rattle.fixp_msgs.specs.declared.numbering.Range.{Range}
 use Rattle.fixp_msgs.specs.Message.{negotiate, negotiation_response, negotiation_reject, establish, establishment_ack, establishment_reject, sequence, unsequenced_heartbeat, retransmit_request, retransmission, retransmit_reject, applied, not_applied, finished_sending, finished_receiving, terminate}
 use Rattle.flow_retrans.specs.declared.request.Request.{Request}
@@ -25,13 +25,13 @@ use Rattle.fixp_replies.specs.Facts.{is_initiator, is_open, own_is_exchanged, pe
 use Rattle.fixp_machine.specs.Machine.{State, around}
 use Rattle.connection_laws.specs.Writing.{Piece, said, entry}
 use Rattle.honest_ends.specs.Worlds.{World, world_after}
-use Rattle.honest_ends.proofs.Asking.{inside, coming, is_serving}
+use Rattle.honest_ends.proofs.Asking.{turns, inside, coming, is_serving}
 use Rattle.honest_ends.proofs.Phased as phased
 use Rattle.honest_ends.proofs.Phased.{Shaking}
 use Rattle.honest_ends.proofs.Numbering.{Counted, counted_at_first, counted_after, numbered_of}
 use Rattle.drain_laws.specs.Counts.{finish, answer, request, restart, opening, shutting, under_way, in_piece, read_of, answered_of, told_of, exchanged_of, unanswered_of, unshaken_of, read, answered, told, exchanged, unshaken}
 use Rattle.drain_ends.specs.Standing.{BothGo, Exact, Standing}
-use Rattle.drain_ends.specs.Acting.{is_beat_of, is_beat, all_beats, Acts, BeatsFirst, HasToDo, SomethingToDo}
+use Rattle.drain_ends.specs.Acting.{is_beat_of, is_beat, all_beats, is_sequence_of, is_sequence, has_sequence, Acts, BeatsFirst, HasToDo, IsWhole, SomethingToDo}
 use Rattle.drain_ends.specs.Acting as acts
 use Rattle.honest_ends.proofs.Serving.{by_bool}
 use Rattle.drain_ends.proofs.Stood.{standing_holds, acceptor_phase}
@@ -174,35 +174,67 @@ or_last false true false p q = absurd (true≢false (sym q))
 abbrev OwnDone : State → Type 0
 OwnDone s = ((own_is_exchanged s.facts.connection.own_finish ≡ true) × (exchanged s.facts ≡ 1)) ⊎ (is_absent s.config.own_flow ≡ true)
 
-own_flow : (most : ℕ) (h : List Entry) (seen : ℕ) (s : State) (way : List Piece) → is_established s.facts.connection.phase ≡ true → is_some s.facts.connection.serving ≡ false → told s.facts ≡ 0 → s.facts.recorded.sent ≤ seen → seen ≡ length h
-    → Acts most h seen s way ⊎ OwnDone s
-own_flow most h seen s way est free none sent all = by_absent (is_absent s.config.own_flow) refl
+own_flow : (per_turn : ℕ) (h : List Entry) (seen : History) (s : State) (way : List Piece) → is_established s.facts.connection.phase ≡ true → is_some s.facts.connection.serving ≡ false → told s.facts ≡ 0 → s.facts.recorded.sent ≤ length seen.made → IsWhole h seen
+    → Acts per_turn seen s way ⊎ OwnDone s
+own_flow per_turn h seen s way est free none sent all = by_absent (is_absent s.config.own_flow) refl
   where
-    by_finish : Finish s.facts.connection.own_finish → is_absent s.config.own_flow ≡ false → s.facts.recorded.sent ≡ length h → Acts most h seen s way ⊎ OwnDone s
+    by_finish : Finish s.facts.connection.own_finish → is_absent s.config.own_flow ≡ false → s.facts.recorded.sent ≡ length seen.made → Acts per_turn seen s way ⊎ OwnDone s
     by_finish (open_yet o) present whole =
-        inl (acts.tells all (five_true (is_absent s.config.own_flow) (is_established s.facts.connection.phase) (is_open s.facts.connection.own_finish) (s.facts.recorded.sent == length h) (is_none s.facts.connection.serving)
-        present est o (eq-eqb s.facts.recorded.sent (length h) whole) (none_serves s.facts.connection.serving free)))
+        inl (acts.tells all.finished (five_true (is_absent s.config.own_flow) (is_established s.facts.connection.phase) (is_open s.facts.connection.own_finish) (s.facts.recorded.sent == length seen.made) (is_none s.facts.connection.serving)
+        present est o (eq-eqb s.facts.recorded.sent (length seen.made) whole) (none_serves s.facts.connection.serving free)))
     by_finish (awaits one) present whole = absurd (omega (arith, one, none))
     by_finish (done e one) present whole = inr (inl (e, one))
 
-    by_sent : (b : Bool) → nat_lt s.facts.recorded.sent seen ≡ b → is_absent s.config.own_flow ≡ false → Acts most h seen s way ⊎ OwnDone s
-    by_sent true t present = inl (acts.sends est present (ltb-true s.facts.recorded.sent seen t))
-    by_sent false t present = let low = ltb-false s.facts.recorded.sent seen t in by_finish (finish_is s.facts.connection.own_finish) present (omega (arith, low, sent, all))
+    by_sent : (b : Bool) → nat_lt s.facts.recorded.sent (length seen.made) ≡ b → is_absent s.config.own_flow ≡ false → Acts per_turn seen s way ⊎ OwnDone s
+    by_sent true t present = inl (acts.sends est present (ltb-true s.facts.recorded.sent (length seen.made) t))
+    by_sent false t present = let low = ltb-false s.facts.recorded.sent (length seen.made) t in by_finish (finish_is s.facts.connection.own_finish) present (omega (arith, low, sent))
 
-    by_absent : (b : Bool) → is_absent s.config.own_flow ≡ b → Acts most h seen s way ⊎ OwnDone s
+    by_absent : (b : Bool) → is_absent s.config.own_flow ≡ b → Acts per_turn seen s way ⊎ OwnDone s
     by_absent true t = inr (inr t)
-    by_absent false t = by_sent (nat_lt s.facts.recorded.sent seen) refl t
+    by_absent false t = by_sent (nat_lt s.facts.recorded.sent (length seen.made)) refl t
 
 -- so many messages, or fewer
 pub by_length : (P : Type 0) (n k : ℕ) → (n ≤ k → P) → (k ≤ n → P) → P
 by_length P n k more few = by_bool P (nat_lt k n) (λ t. let h = ltb-true k n t in few (omega (arith, h))) (λ t. more (ltb-false k n t))
 
+-- a retransmission that comes in, and no longer, has its Sequence among what is under way
+turned_off : (p : Piece) → (is_sequence p ≡ true) ⊎ (turns p true ≡ true)
+turned_off (said (sequence next)) = inl refl
+turned_off (said unsequenced_heartbeat) = inr refl
+turned_off (said (negotiate id timestamp flow credentials)) = inr refl
+turned_off (said (negotiation_response id timestamp flow credentials)) = inr refl
+turned_off (said (negotiation_reject id timestamp code reason)) = inr refl
+turned_off (said (establish id timestamp keepalive next expected credentials)) = inr refl
+turned_off (said (establishment_ack id timestamp keepalive next expected)) = inr refl
+turned_off (said (establishment_reject id timestamp code reason)) = inr refl
+turned_off (said (retransmit_request id timestamp first count)) = inr refl
+turned_off (said (retransmission id next timestamp count)) = inr refl
+turned_off (said (retransmit_reject id timestamp code reason)) = inr refl
+turned_off (said (applied first count)) = inr refl
+turned_off (said (not_applied first count)) = inr refl
+turned_off (said (finished_sending id last)) = inr refl
+turned_off (said (finished_receiving id)) = inr refl
+turned_off (said (terminate id code reason)) = inr refl
+turned_off (entry payload) = inr refl
+
+sequence_in : (way : List Piece) → inside true way ≡ false → has_sequence way ≡ true
+sequence_in [] none = absurd (true≢false none)
+sequence_in (p ∷ later) none = by_turn (λ on. sequence_in later (ap (λ b. inside b later) (sym on) ∙ none)) (turned_off p)
+  where
+    or_second : (a b : Bool) → b ≡ true → (a || b) ≡ true
+    or_second true b e = refl
+    or_second false b e = e
+
+    by_turn : (turns p true ≡ true → has_sequence later ≡ true) → (is_sequence p ≡ true) ⊎ (turns p true ≡ true) → (is_sequence p || has_sequence later) ≡ true
+    by_turn more (inl is) = ap (λ b. b || has_sequence later) is
+    by_turn more (inr on) = or_second (is_sequence p) (has_sequence later) (more on)
+
 -- both ends, with nothing but heartbeats under way
-at_rest : (most_i most_a : ℕ) (hi ha : List Entry) (w : World) (seen : ℕ) → Counted hi ha w → Standing w → BothGo w → unshaken w.initiator.facts ≡ 0 → w.acceptor.facts.recorded.sent ≤ seen
-    → ((answered w.acceptor.facts ≡ 1) ⊎ (is_absent w.acceptor.config.peer_flow ≡ true) → seen ≡ length ha)
+at_rest : (most_i most_a : ℕ) (hi ha : List Entry) (w : World) (seen_i seen_a : History) → Counted hi ha w → Standing w → BothGo w → unshaken w.initiator.facts ≡ 0 → IsWhole hi seen_i → w.acceptor.facts.recorded.sent ≤ length seen_a.made
+    → ((answered w.acceptor.facts ≡ 1) ⊎ (is_absent w.acceptor.config.peer_flow ≡ true) → IsWhole ha seen_a)
     → is_some w.initiator.facts.connection.serving ≡ false → is_some w.acceptor.facts.connection.serving ≡ false
-    → NotCounted w.outward → NotCounted w.homeward → read w.initiator.facts ≡ 0 → read w.acceptor.facts ≡ 0 → HasToDo most_i most_a hi ha seen w
-at_rest most_i most_a hi ha w seen n st go shaken sent marked free_i free_a out home unread_i unread_a = by_initiator (own_flow most_i hi (length hi) w.initiator w.homeward est_i free_i told_i (numbered_of hi ha w n).outward.sent refl)
+    → NotCounted w.outward → NotCounted w.homeward → read w.initiator.facts ≡ 0 → read w.acceptor.facts ≡ 0 → HasToDo most_i most_a seen_i seen_a w
+at_rest most_i most_a hi ha w seen_i seen_a n st go shaken whole sent marked free_i free_a out home unread_i unread_a = by_initiator (own_flow most_i hi seen_i w.initiator w.homeward est_i free_i told_i (let all = whole.all in let most = (numbered_of hi ha w n).outward.sent in omega (arith, all, most)) whole)
   where
     i : Facts
     i = w.initiator.facts
@@ -244,24 +276,24 @@ at_rest most_i most_a hi ha w seen n st go shaken sent marked free_i free_a out 
     peer_part (inl d) = ap (λ b. b || (is_absent w.initiator.config.peer_flow && is_shaken i.connection.phase)) (answered_is i.connection.peer_finish (answered_i d.1))
     peer_part (inr absent) = or_last (peer_is_exchanged i.connection.peer_finish) (is_absent w.initiator.config.peer_flow) (is_shaken i.connection.phase) (ap (λ (f : Flow). is_absent f) n.holds.matches.homeward ∙ absent) done_i
 
-    by_acceptor : OwnDone w.initiator → Acts most_a ha seen w.acceptor w.outward ⊎ OwnDone w.acceptor → HasToDo most_i most_a hi ha seen w
+    by_acceptor : OwnDone w.initiator → Acts most_a seen_a w.acceptor w.outward ⊎ OwnDone w.acceptor → HasToDo most_i most_a seen_i seen_a w
     by_acceptor mine (inl act) = acts.at_acceptor go.acceptor act
     by_acceptor mine (inr theirs) = acts.at_initiator go.initiator (acts.shuts (four_true (is_initiator w.initiator.config.role) (is_established i.connection.phase) (finishes_exchanged (around w.initiator 0 0) i) (is_none i.connection.serving)
         (ap (λ r. is_initiator r) n.holds.matches.initiates) est_i (two_true _ _ (own_part mine) (peer_part theirs)) (none_serves i.connection.serving free_i)))
 
-    by_initiator : Acts most_i hi (length hi) w.initiator w.homeward ⊎ OwnDone w.initiator → HasToDo most_i most_a hi ha seen w
+    by_initiator : Acts most_i seen_i w.initiator w.homeward ⊎ OwnDone w.initiator → HasToDo most_i most_a seen_i seen_a w
     by_initiator (inl act) = acts.at_initiator go.initiator act
-    by_initiator (inr mine) = by_acceptor mine (own_flow most_a ha seen w.acceptor w.outward est_a free_a told_a sent (marked (mark mine)))
+    by_initiator (inr mine) = by_acceptor mine (own_flow most_a ha seen_a w.acceptor w.outward est_a free_a told_a sent (marked (mark mine)))
 
 pub something_to_do : SomethingToDo
-something_to_do most_i most_a hi ha w steps seen known may go begun sent marked =
+something_to_do most_i most_a hi ha w steps seen_i seen_a known may go begun whole sent marked =
     by_bool _ (is_some i.connection.serving) (λ t. acts.at_initiator go.initiator (acts.serves t)) (λ free_i.
     by_bool _ (is_some a.connection.serving) (λ t. acts.at_acceptor go.acceptor (acts.serves t)) (λ free_a.
     by_bool _ (all_beats (take most_a now.outward)) (λ out_first.
     by_bool _ (all_beats (take most_i now.homeward)) (λ home_first.
     by_length _ most_a (length now.outward) (λ many. acts.outward_beats go.acceptor (record { many = many; beats = out_first })) (λ out_few.
     by_length _ most_i (length now.homeward) (λ many. acts.homeward_beats go.initiator (record { many = many; beats = home_first })) (λ home_few.
-    quiet free_i free_a
+    quiet free_i free_a out_few home_few
     (subst (λ (ps : List Piece). all_beats ps ≡ true) (take_all most_a now.outward out_few) out_first)
     (subst (λ (ps : List Piece). all_beats ps ≡ true) (take_all most_i now.homeward home_few) home_first))))
     (λ other. acts.at_initiator go.initiator (acts.reads other))) (λ other. acts.at_acceptor go.acceptor (acts.reads other))))
@@ -285,22 +317,28 @@ something_to_do most_i most_a hi ha w steps seen known may go begun sent marked 
     yet_a = (acceptor_phase now.initiator.config now.acceptor.config i now.initiator.ending a now.outward now.homeward n.holds.shaking).1
 
     -- what comes in to an end has its Sequence under way, where nothing is served
-    nothing_comes : (writer reader : Facts) (way : List Piece) → inside (coming reader) way ≡ is_serving writer → is_serving writer ≡ false → coming reader ≡ true → 1 ≤ length way
-    nothing_comes writer reader [] even free comes = absurd (true≢false (sym comes ∙ (even ∙ free)))
-    nothing_comes writer reader (p ∷ way) even free comes = omega arith
+    nothing_comes : (per_turn : ℕ) (writer reader : Facts) (way : List Piece) → inside (coming reader) way ≡ is_serving writer → is_serving writer ≡ false → coming reader ≡ true → length way ≤ per_turn → has_sequence (take per_turn way) ≡ true
+    nothing_comes per_turn writer reader way even free comes few =
+        subst (λ (ps : List Piece). has_sequence ps ≡ true) (sym (take_all per_turn way few)) (sequence_in way (ap (λ b. inside b way) (sym comes) ∙ (even ∙ free)))
 
-    quiet : is_some i.connection.serving ≡ false → is_some a.connection.serving ≡ false → all_beats now.outward ≡ true → all_beats now.homeward ≡ true → HasToDo most_i most_a hi ha seen now
-    quiet free_i free_a out home =
+    quiet : is_some i.connection.serving ≡ false → is_some a.connection.serving ≡ false → length now.outward ≤ most_a → length now.homeward ≤ most_i → all_beats now.outward ≡ true → all_beats now.homeward ≡ true → HasToDo most_i most_a seen_i seen_a now
+    quiet free_i free_a out_few home_few out home =
         by_bool _ (request_is.is_coming a.connection.requester)
-        (λ comes. acts.at_acceptor go.acceptor (acts.ends_range comes (nothing_comes i a now.outward (n.holds.outward_requests.even go.acceptor yet_a) free_i comes)))
+        (λ comes. acts.at_acceptor go.acceptor (acts.ends_range (est_a out home) comes (nothing_comes most_a i a now.outward (n.holds.outward_requests.even go.acceptor yet_a) free_i comes out_few)))
         (λ none_a. by_bool _ (request_is.is_coming i.connection.requester)
-        (λ comes. acts.at_initiator go.initiator (acts.ends_range comes (nothing_comes a i now.homeward (n.holds.homeward_requests.even go.initiator go.yet) free_a comes)))
-        (λ none_i. at_rest most_i most_a hi ha now seen n st go (shaken_now out home) sent marked free_i free_a (beats_none now.outward out) (beats_none now.homeward home)
+        (λ comes. acts.at_initiator go.initiator (acts.ends_range (est_i out home) comes (nothing_comes most_i a i now.homeward (n.holds.homeward_requests.even go.initiator go.yet) free_a comes home_few)))
+        (λ none_i. at_rest most_i most_a hi ha now seen_i seen_a n st go (shaken_now out home) whole sent marked free_i free_a (beats_none now.outward out) (beats_none now.homeward home)
         (unread now.acceptor now.initiator now.homeward now.outward st.homeward (beats_none now.homeward home) (beats_none now.outward out) none_i)
         (unread now.initiator now.acceptor now.outward now.homeward st.outward (beats_none now.outward out) (beats_none now.homeward home) none_a)))
       where
         shaken_now : all_beats now.outward ≡ true → all_beats now.homeward ≡ true → unshaken i ≡ 0
         shaken_now out home = let e = st.opens begun in let x = (beats_none now.outward out).openings in let y = (beats_none now.homeward home).openings in omega (arith, e, x, y)
+
+        est_i : all_beats now.outward ≡ true → all_beats now.homeward ≡ true → is_established i.connection.phase ≡ true
+        est_i out home = shaken_open i.connection.phase (shaken_now out home) go.yet
+
+        est_a : all_beats now.outward ≡ true → all_beats now.homeward ≡ true → is_established a.connection.phase ≡ true
+        est_a out home = acceptor_done now.initiator.config now.acceptor.config i now.initiator.ending a now.outward now.homeward n.holds.shaking (ap (λ b. b || is_closing i.connection.phase) (est_i out home))
 
         unread : (writer reader : State) (way back : List Piece) → Exact writer reader way back → NotCounted way → NotCounted back → request_is.is_coming reader.facts.connection.requester ≡ false → read reader.facts ≡ 0
         unread writer reader way back e out home none =

@@ -1,6 +1,6 @@
 -- That each step of two ends lowers what is still to do, but a heartbeat.
 use Rattle.std.proofs.Common.{◌≡◌, inl, inr, ℕ, ◌+◌, ◌-◌, ◌*◌, ◌≤◌, ◌&&◌, ◌||◌, nat_lt, Bool, true, false, if◌then◌else◌, List, [], ◌∷◌, ◌++◌, length, Option, Some, None, refl, sym, ap, subst, ◌∙◌, arith, append-nil, length-append, true≢false}
-use Rattle.std.specs.Prelude.{is_some, IfSome}
+use Rattle.std.specs.Prelude.{is_some, is_none, IfSome}
 use Rattle.std.specs.List.{AllByRecursion}
 use Rattle.std.proofs.lemmas.Bool.Decides.{nat_tests}
 use Rattle.session_model.specs.Journal.{Entry}
@@ -49,15 +49,15 @@ use Rattle.drain_laws.specs.Weights.{weights, entry_weight, weight_in}
 use Rattle.drain_laws.specs.Loads.{end_of, asked, load, load_at}
 use Rattle.drain_laws.specs.Frames as frames
 use Rattle.drain_laws.specs.Frames.{Fills, IsHonest, falls}
-use Rattle.drain_laws.specs.Calls.{weight_out, weights_out, Falls}
-use Rattle.drain_laws.proofs.Framed.{frames_fall}
+use Rattle.drain_laws.specs.Calls.{weight_out, weights_out, beats_at, Falls}
+use Rattle.drain_laws.proofs.Framed.{frames_fall, closing_falls}
 use Rattle.drain_laws.proofs.Called as called
 use Rattle.drain_laws.proofs.Begun.{begins_fall}
 use Rattle.drain_laws.proofs.Evened.{replies_even}
-use Rattle.drain_ends.specs.Standing.{BothGo, Standing}
 use Rattle.drain_ends.specs.Agreeing.{IsNoReject, Agreed}
 use Rattle.drain_ends.specs.Falling.{measure, beat_of, call_lowers, HasSome, StepsFall, MeetsFall}
-use Rattle.drain_ends.proofs.Stood.{standing_holds, acceptor_phase}
+use Rattle.drain_ends.proofs.Stood.{acceptor_phase}
+use Rattle.drain_ends.proofs.Filled.{Filled, filled_holds}
 use Rattle.drain_ends.proofs.Agreed.{agreed_holds}
 
 -- no number is asked for past the last one of the writer's outbox
@@ -263,12 +263,15 @@ record Lifts (m n : ℕ) (s t : State) (out : List Piece) (w k : ℕ) : Type 0 w
   falls : weights_out t.config out + load_at m n t + k ≤ w + load_at m n s
   config : t.config ≡ s.config
 
-lifts : (m n : ℕ) (s : State) (p : Piece) (at now : ℕ) → s.ending ≡ None → Fills s.facts.connection.receiver.next s.facts.connection.requester → IsHonest (around s at now) s.facts (incoming_of p)
-    → ((run s (reading p at now)).ending ≡ None → is_recoverable (run s (reading p at now)).config.peer_flow ≡ true → asked (run s (reading p at now)).facts ≤ n + 1)
+abbrev Lowered : (m n : ℕ) → State → Piece → (at now : ℕ) → Type 0
+Lowered m n s p at now =
+    weights (reply_of (around s at now) s.facts (incoming_of p)).written + 4 * length (to_tell s.config (reply_of (around s at now) s.facts (incoming_of p)).act)
+    + load s.config m n (reply_of (around s at now) s.facts (incoming_of p)).next (reply_of (around s at now) s.facts (incoming_of p)).ending + falls s.facts (incoming_of p)
+    ≤ weight_in s.config (incoming_of p) + load s.config m n s.facts None
+
+lifts : (m n : ℕ) (s : State) (p : Piece) (at now : ℕ) → s.ending ≡ None → Lowered m n s p at now
     → Lifts m n s (run s (reading p at now)) (written s (reading p at now)) (weight_in s.config (incoming_of p)) (falls s.facts (incoming_of p))
-lifts m n s p at now going fills honest most =
-    let low = frames_fall x m n s.facts (incoming_of p) fills honest
-    (λ none rec. subst (λ (f : Facts). asked f ≤ n + 1) rd.facts (most (rd.ending ∙ none) (ap (λ (c : EndConfig). is_recoverable c.peer_flow) rd.config ∙ rec))) in
+lifts m n s p at now going low =
     let now_load : load t.config m n t.facts t.ending ≡ load s.config m n o.next o.ending = ap (λ (c : EndConfig). load c m n t.facts t.ending) rd.config ∙ (ap (λ (f : Facts). load s.config m n f t.ending) rd.facts ∙ ap (λ (e : Option Ending). load s.config m n o.next e) rd.ending) in
     let was_load : load s.config m n s.facts s.ending ≡ load s.config m n s.facts None = ap (λ (e : Option Ending). load s.config m n s.facts e) going in
     let told = ap length (reads_untold s p at now) ∙ length-append s.untold (to_tell s.config o.act) in
@@ -298,9 +301,19 @@ lifts m n s p at now going fills honest most =
 out_behind : (c d : EndConfig) (ps qs : List Piece) → d ≡ c → weights_out d (ps ++ qs) ≡ weights_out c ps + weights_out d qs
 out_behind c d ps qs e = ap (λ (k : EndConfig). weights_out k (ps ++ qs)) e ∙ (called.out_append c ps qs ∙ ap (λ (k : EndConfig). weights_out c ps + weights_out k qs) (sym e))
 
-initiator_reading : (hi ha : List Entry) (w : World) (p : Piece) (left : List Piece) (at now : ℕ) → w.homeward ≡ p ∷ left → Counted hi ha w → Standing w → Agreed w → BothGo w → MayRead w.initiator
+-- where an end does not close, what it asks for is known
+honest_lifts : (m n : ℕ) (s : State) (p : Piece) (at now : ℕ) → s.ending ≡ None → Fills s.facts.connection.receiver.next s.facts.connection.requester → IsHonest (around s at now) s.facts (incoming_of p)
+    → ((run s (reading p at now)).ending ≡ None → is_recoverable (run s (reading p at now)).config.peer_flow ≡ true → asked (run s (reading p at now)).facts ≤ n + 1)
+    → Lifts m n s (run s (reading p at now)) (written s (reading p at now)) (weight_in s.config (incoming_of p)) (falls s.facts (incoming_of p))
+honest_lifts m n s p at now going fills honest most =
+    let rd = reads_as s p at now in
+    lifts m n s p at now going
+    (frames_fall (around s at now) m n s.facts (incoming_of p) fills honest
+    (λ none rec. subst (λ (f : Facts). asked f ≤ n + 1) rd.facts (most (rd.ending ∙ none) (ap (λ (c : EndConfig). is_recoverable c.peer_flow) rd.config ∙ rec))))
+
+initiator_reading : (hi ha : List Entry) (w : World) (p : Piece) (left : List Piece) (at now : ℕ) → w.homeward ≡ p ∷ left → Counted hi ha w → Filled w → Agreed w → MayRead w.initiator
     → measure hi ha (initiator_read w (p ∷ left) at now) + falls w.initiator.facts (incoming_of p) ≤ measure hi ha w
-initiator_reading hi ha w p left at now e n st ag go may =
+initiator_reading hi ha w p left at now e n fl ag may =
     let m = length hi in
     let k = length ha in
     let a = lift.falls in
@@ -321,28 +334,31 @@ initiator_reading hi ha w p left at now e n st ag go may =
     sh : Shaking s.config w.acceptor.config s.facts s.ending w.acceptor.facts w.outward (p ∷ left)
     sh = subst (λ (ps : List Piece). Shaking s.config w.acceptor.config s.facts s.ending w.acceptor.facts w.outward ps) e n.holds.shaking
 
-    ready : Ready s.config s.facts (p ∷ left) (w.acceptor.facts.recorded.sent + 1) (served w.acceptor.facts.connection.serving)
-    ready = subst (λ (ps : List Piece). Ready s.config s.facts ps (w.acceptor.facts.recorded.sent + 1) (served w.acceptor.facts.connection.serving)) e (n.homeward.goes go.initiator go.yet).0
-
-    honest : IsHonest (around s at now) s.facts (incoming_of p)
-    honest = by_bool _ (is_shaken s.facts.connection.phase)
-        (λ done. flowing_honest (around s at now) s.facts w.acceptor.config p left _ _ done (initiator_flows s.config w.acceptor.config s.facts s.ending w.acceptor.facts w.outward (p ∷ left) sh done).0 ready)
-        (λ before. initiator_before (around s at now) w.acceptor.config s.facts s.ending w.acceptor.facts p w.outward left sh go.initiator before (subst (λ (ps : List Piece). AllByRecursion IsNoReject ps) e ag.accepted).0)
-
     then_counted : Counted hi ha (initiator_read w (p ∷ left) at now)
     then_counted = subst (λ (ps : List Piece). Counted hi ha (initiator_read w ps at now)) e (counted_step hi ha w (initiator_reads at now) n may)
 
     rd : Reads s (incoming_of p) (reply_of (around s at now) s.facts (incoming_of p)) t (written s (reading p at now))
     rd = reads_as s p at now
 
+    -- an initiator that closes is deaf: what it asked for stays as it was
     lift : Lifts (length hi) (length ha) s t (written s (reading p at now)) (weight_in s.config (incoming_of p)) (falls s.facts (incoming_of p))
-    lift = lifts (length hi) (length ha) s p at now go.initiator st.homeward.fills honest
+    lift = by_bool _ (is_closing s.facts.connection.phase)
+        (λ closing. lifts (length hi) (length ha) s p at now may.0.going (closing_falls (around s at now) (length hi) (length ha) s.facts (incoming_of p) closing))
+        (λ yet. honest_lifts (length hi) (length ha) s p at now may.0.going (fl.initiator may.0.going yet) (honest yet)
         (λ none rec. asked_most ha w.acceptor t left (w.outward ++ written s (reading p at now)) then_counted.homeward none
-        (ap (λ (f : Facts). is_closing f.connection.phase) rd.facts ∙ (replies_even (around s at now) s.facts (incoming_of p) go.yet (sym rd.ending ∙ none)).0.opens.closing) rec)
+        (ap (λ (f : Facts). is_closing f.connection.phase) rd.facts ∙ (replies_even (around s at now) s.facts (incoming_of p) yet (sym rd.ending ∙ none)).0.opens.closing) rec))
+      where
+        honest : is_closing s.facts.connection.phase ≡ false → IsHonest (around s at now) s.facts (incoming_of p)
+        honest yet =
+            let ready : Ready s.config s.facts (p ∷ left) (w.acceptor.facts.recorded.sent + 1) (served w.acceptor.facts.connection.serving) =
+            subst (λ (ps : List Piece). Ready s.config s.facts ps (w.acceptor.facts.recorded.sent + 1) (served w.acceptor.facts.connection.serving)) e (n.homeward.goes may.0.going yet).0 in
+            by_bool _ (is_shaken s.facts.connection.phase)
+            (λ done. flowing_honest (around s at now) s.facts w.acceptor.config p left _ _ done (initiator_flows s.config w.acceptor.config s.facts s.ending w.acceptor.facts w.outward (p ∷ left) sh done).0 ready)
+            (λ before. initiator_before (around s at now) w.acceptor.config s.facts s.ending w.acceptor.facts p w.outward left sh may.0.going before (subst (λ (ps : List Piece). AllByRecursion IsNoReject ps) e ag.accepted).0)
 
-acceptor_reading : (hi ha : List Entry) (w : World) (p : Piece) (left : List Piece) (at now : ℕ) → w.outward ≡ p ∷ left → Counted hi ha w → Standing w → BothGo w → MayRead w.acceptor
+acceptor_reading : (hi ha : List Entry) (w : World) (p : Piece) (left : List Piece) (at now : ℕ) → w.outward ≡ p ∷ left → Counted hi ha w → Filled w → MayRead w.acceptor
     → measure hi ha (acceptor_read w (p ∷ left) at now) + falls w.acceptor.facts (incoming_of p) ≤ measure hi ha w
-acceptor_reading hi ha w p left at now e n st go may =
+acceptor_reading hi ha w p left at now e n fl may =
     let m = length hi in
     let k = length ha in
     let a = lift.falls in
@@ -367,7 +383,7 @@ acceptor_reading hi ha w p left at now e n st go may =
     yet = (acceptor_phase w.initiator.config s.config w.initiator.facts w.initiator.ending s.facts (p ∷ left) w.homeward sh).1
 
     ready : Ready s.config s.facts (p ∷ left) (w.initiator.facts.recorded.sent + 1) (served w.initiator.facts.connection.serving)
-    ready = subst (λ (ps : List Piece). Ready s.config s.facts ps (w.initiator.facts.recorded.sent + 1) (served w.initiator.facts.connection.serving)) e (n.outward.goes go.acceptor yet).0
+    ready = subst (λ (ps : List Piece). Ready s.config s.facts ps (w.initiator.facts.recorded.sent + 1) (served w.initiator.facts.connection.serving)) e (n.outward.goes may.0.going yet).0
 
     honest : IsHonest (around s at now) s.facts (incoming_of p)
     honest = by_bool _ (is_shaken s.facts.connection.phase)
@@ -381,7 +397,7 @@ acceptor_reading hi ha w p left at now e n st go may =
     rd = reads_as s p at now
 
     lift : Lifts (length ha) (length hi) s t (written s (reading p at now)) (weight_in s.config (incoming_of p)) (falls s.facts (incoming_of p))
-    lift = lifts (length ha) (length hi) s p at now go.acceptor st.outward.fills honest
+    lift = honest_lifts (length ha) (length hi) s p at now may.0.going (fl.acceptor may.0.going) honest
         (λ none rec. asked_most hi w.initiator t left (w.homeward ++ written s (reading p at now)) then_counted.outward none
         (ap (λ (f : Facts). is_closing f.connection.phase) rd.facts ∙ (replies_even (around s at now) s.facts (incoming_of p) yet (sym rd.ending ∙ none)).0.opens.closing) rec)
 
@@ -389,17 +405,19 @@ acceptor_reading hi ha w p left at now e n st go may =
 call_numbers : (m n : ℕ) (s : State) (call : Call) (k : ℕ) → Falls m n s call k → weights_out s.config (writes s call) + load_at m n (step s call) + k ≤ load_at m n s + 0
 call_numbers m n s call k h = omega (arith, h)
 
-turn_numbers : (m n : ℕ) (s : State) (now : ℕ) → s.ending ≡ None → (b : Bool) → closes (around s 0 now) s.facts ≡ b
-    → weights_out s.config (writes s (turn_done now)) + load_at m n (step s (turn_done now)) + (if b then 4 else 0) ≤ load_at m n s + 0
-turn_numbers m n s now going true t = call_numbers m n s (turn_done now) 4 (called.calls_fall.shuts m n s now going t)
-turn_numbers m n s now going false t = call_numbers m n s (turn_done now) 0 (called.calls_fall.ends_turn m n s now)
+turn_numbers : (m n : ℕ) (s : State) (now : ℕ) (e : Option Ending) → s.ending ≡ e → (b : Bool) → closes (around s 0 now) s.facts ≡ b
+    → weights_out s.config (writes s (turn_done now)) + load_at m n (step s (turn_done now)) + (if is_none e && b then 4 else 0) ≤ load_at m n s + 0
+turn_numbers m n s now None going true t = call_numbers m n s (turn_done now) 4 (called.calls_fall.shuts m n s now going t)
+turn_numbers m n s now None going false t = call_numbers m n s (turn_done now) 0 (called.calls_fall.ends_turn m n s now)
+turn_numbers m n s now (Some x) over b t = call_numbers m n s (turn_done now) 0 (called.calls_fall.ends_turn m n s now)
 
-closed_numbers : (m n : ℕ) (s : State) (last now : ℕ) → s.ending ≡ None → (b : Bool) → tells_finish (around s 0 now) s.facts last ≡ b
-    → weights_out s.config (writes s (closed last now)) + load_at m n (step s (closed last now)) + (if b then 4 else 0) ≤ load_at m n s + 0
-closed_numbers m n s last now going true t = call_numbers m n s (closed last now) 4 (called.calls_fall.tells m n s last now going t)
-closed_numbers m n s last now going false t = call_numbers m n s (closed last now) 0 (called.calls_fall.finishes m n s last now)
+closed_numbers : (m n : ℕ) (s : State) (last now : ℕ) (e : Option Ending) → s.ending ≡ e → (b : Bool) → tells_finish (around s 0 now) s.facts last ≡ b
+    → weights_out s.config (writes s (closed last now)) + load_at m n (step s (closed last now)) + (if is_none e && b then 4 else 0) ≤ load_at m n s + 0
+closed_numbers m n s last now None going true t = call_numbers m n s (closed last now) 4 (called.calls_fall.tells m n s last now going t)
+closed_numbers m n s last now None going false t = call_numbers m n s (closed last now) 0 (called.calls_fall.finishes m n s last now)
+closed_numbers m n s last now (Some x) over b t = call_numbers m n s (closed last now) 0 (called.calls_fall.finishes m n s last now)
 
-tick_numbers : (m n : ℕ) (s : State) (now : ℕ) → weights_out s.config (writes s (tick now)) + load_at m n (step s (tick now)) + 0 ≤ load_at m n s + 1
+tick_numbers : (m n : ℕ) (s : State) (now : ℕ) → weights_out s.config (writes s (tick now)) + load_at m n (step s (tick now)) + 0 ≤ load_at m n s + beats_at s now
 tick_numbers m n s now = let h = called.calls_fall.beats m n s now in omega (arith, h)
 
 recoverable_only : (f : Flow) → (is_recoverable f ≡ false → ⊥) → is_idempotent f ≡ false
@@ -408,42 +426,42 @@ recoverable_only flows.Idempotent never = absurd (never refl)
 recoverable_only flows.Unsequenced never = refl
 recoverable_only flows.None never = refl
 
-call_falls : (h : List Entry) (n : ℕ) (s : State) (call : Call) → IsOther h call → MayStand h s call → HasSome call → s.ending ≡ None → s.facts.recorded.sent ≤ length h → (is_recoverable s.config.own_flow ≡ false → s.facts.connection.serving ≡ None)
-    → weights_out s.config (writes s call) + load_at (length h) n (step s call) + call_lowers s call ≤ load_at (length h) n s + beat_of call
-call_falls h n s (begin now) other may some going sent serves = absurd other
-call_falls h n s (frame incoming at now) other may some going sent serves = absurd other
-call_falls h n s (bad_frame at now) other may some going sent serves = absurd other
-call_falls h n s (did now) other may some going sent serves = absurd other
-call_falls h n s (tick now) other may some going sent serves = tick_numbers (length h) n s now
-call_falls h n s (turn_done now) other may some going sent serves = turn_numbers (length h) n s now going (closes (around s 0 now) s.facts) refl
-call_falls h n s (closed last now) other may some going sent serves = closed_numbers (length h) n s last now going (tells_finish (around s 0 now) s.facts last) refl
-call_falls h n s link_end other may some going sent serves = call_numbers (length h) n s link_end 0 (called.calls_fall.cuts (length h) n s)
-call_falls h n s (live payloads now) other may some going sent serves =
+call_falls : (h : List Entry) (n : ℕ) (s : State) (call : Call) → IsOther h call → MayStand h s call → HasSome call → s.facts.recorded.sent ≤ length h → (is_recoverable s.config.own_flow ≡ false → s.facts.connection.serving ≡ None)
+    → weights_out s.config (writes s call) + load_at (length h) n (step s call) + call_lowers s call ≤ load_at (length h) n s + beat_of s call
+call_falls h n s (begin now) other may some sent serves = absurd other
+call_falls h n s (frame incoming at now) other may some sent serves = absurd other
+call_falls h n s (bad_frame at now) other may some sent serves = absurd other
+call_falls h n s (did now) other may some sent serves = absurd other
+call_falls h n s (tick now) other may some sent serves = tick_numbers (length h) n s now
+call_falls h n s (turn_done now) other may some sent serves = turn_numbers (length h) n s now s.ending refl (closes (around s 0 now) s.facts) refl
+call_falls h n s (closed last now) other may some sent serves = closed_numbers (length h) n s last now s.ending refl (tells_finish (around s 0 now) s.facts last) refl
+call_falls h n s link_end other may some sent serves = call_numbers (length h) n s link_end 0 (called.calls_fall.cuts (length h) n s)
+call_falls h n s (live payloads now) other may some sent serves =
     call_numbers (length h) n s (live payloads now) (4 * length payloads) (called.calls_fall.sends (length h) n s payloads now (is_done s.facts.connection.phase may.comes.established) (entries_reach h s.facts.recorded.sent payloads sent may.comes.entries))
-call_falls h n s (again payloads now) other may some going sent serves =
+call_falls h n s (again payloads now) other may some sent serves =
     call_numbers (length h) n s (again payloads now) (4 * length payloads) (called.calls_fall.resends (length h) n s may.comes.range payloads now (recoverable_only s.config.own_flow (λ never. absurd (cc (serves never, may.comes.serves)))) may.comes.serves some may.comes.within)
-call_falls h n s (taken count) other may some going sent serves = call_numbers (length h) n s (taken count) 0 (called.calls_fall.takes (length h) n s count)
-call_falls h n s reserve other may some going sent serves = call_numbers (length h) n s reserve 0 (called.calls_fall.reserves (length h) n s)
-call_falls h n s held_done other may some going sent serves = call_numbers (length h) n s held_done 0 (called.calls_fall.holds (length h) n s)
+call_falls h n s (taken count) other may some sent serves = call_numbers (length h) n s (taken count) 0 (called.calls_fall.takes (length h) n s count)
+call_falls h n s reserve other may some sent serves = call_numbers (length h) n s reserve 0 (called.calls_fall.reserves (length h) n s)
+call_falls h n s held_done other may some sent serves = call_numbers (length h) n s held_done 0 (called.calls_fall.holds (length h) n s)
 
 pub steps_fall : StepsFall
-steps_fall hi ha w steps known agreed may go = record {
-  at_initiator = λ p left at now e here. subst (λ (ps : List Piece). measure hi ha (initiator_read v ps at now) + falls v.initiator.facts (incoming_of p) ≤ measure hi ha v) (sym e) (initiator_reading hi ha v p left at now e n st ag go here);
-  at_acceptor = λ p left at now e here. subst (λ (ps : List Piece). measure hi ha (acceptor_read v ps at now) + falls v.acceptor.facts (incoming_of p) ≤ measure hi ha v) (sym e) (acceptor_reading hi ha v p left at now e n st go here);
+steps_fall hi ha w steps known agreed may = record {
+  at_initiator = λ p left at now e here. subst (λ (ps : List Piece). measure hi ha (initiator_read v ps at now) + falls v.initiator.facts (incoming_of p) ≤ measure hi ha v) (sym e) (initiator_reading hi ha v p left at now e n fl ag here);
+  at_acceptor = λ p left at now e here. subst (λ (ps : List Piece). measure hi ha (acceptor_read v ps at now) + falls v.acceptor.facts (incoming_of p) ≤ measure hi ha v) (sym e) (acceptor_reading hi ha v p left at now e n fl here);
   by_initiator = λ call some here.
       let s = v.initiator in
       let d = does_as hi s call here.0 here.1 n.holds.initiator.serves n.holds.initiator_window.opening in
-      let f = call_falls hi (length ha) s call here.0 here.1 some go.initiator n.outward.sent n.holds.initiator.serves in
+      let f = call_falls hi (length ha) s call here.0 here.1 some n.outward.sent n.holds.initiator.serves in
       let out = out_behind s.config (step s call).config v.outward (written s (call ∷ [])) d.config in
       let same = ap (λ (c : EndConfig). weights_out c (written s (call ∷ []))) d.config ∙ ap (λ ps. weights_out s.config ps) (append-nil (writes s call)) in
-      first_numbers (weights_out s.config (writes s call)) (load_at (length hi) (length ha) (step s call)) (load_at (length hi) (length ha) s) (beat_of call) (call_lowers s call) (load_at (length ha) (length hi) v.acceptor) (weights_out s.config v.outward) (weights_out v.acceptor.config v.homeward) (weights_out (step s call).config (v.outward ++ written s (call ∷ []))) (weights_out (step s call).config (written s (call ∷ []))) f out same;
+      first_numbers (weights_out s.config (writes s call)) (load_at (length hi) (length ha) (step s call)) (load_at (length hi) (length ha) s) (beat_of s call) (call_lowers s call) (load_at (length ha) (length hi) v.acceptor) (weights_out s.config v.outward) (weights_out v.acceptor.config v.homeward) (weights_out (step s call).config (v.outward ++ written s (call ∷ []))) (weights_out (step s call).config (written s (call ∷ []))) f out same;
   by_acceptor = λ call some here.
       let s = v.acceptor in
       let d = does_as ha s call here.0 here.1 n.holds.acceptor.serves n.holds.acceptor_window.opening in
-      let f = call_falls ha (length hi) s call here.0 here.1 some go.acceptor n.homeward.sent n.holds.acceptor.serves in
+      let f = call_falls ha (length hi) s call here.0 here.1 some n.homeward.sent n.holds.acceptor.serves in
       let out = out_behind s.config (step s call).config v.homeward (written s (call ∷ [])) d.config in
       let same = ap (λ (c : EndConfig). weights_out c (written s (call ∷ []))) d.config ∙ ap (λ ps. weights_out s.config ps) (append-nil (writes s call)) in
-      second_numbers (weights_out s.config (writes s call)) (load_at (length ha) (length hi) (step s call)) (load_at (length ha) (length hi) s) (beat_of call) (call_lowers s call) (load_at (length hi) (length ha) v.initiator) (weights_out s.config v.homeward) (weights_out v.initiator.config v.outward) (weights_out (step s call).config (v.homeward ++ written s (call ∷ []))) (weights_out (step s call).config (written s (call ∷ []))) f out same;
+      second_numbers (weights_out s.config (writes s call)) (load_at (length ha) (length hi) (step s call)) (load_at (length ha) (length hi) s) (beat_of s call) (call_lowers s call) (load_at (length hi) (length ha) v.initiator) (weights_out s.config v.homeward) (weights_out v.initiator.config v.outward) (weights_out (step s call).config (v.homeward ++ written s (call ∷ []))) (weights_out (step s call).config (written s (call ∷ []))) f out same;
 }
   where
     v : World
@@ -452,8 +470,8 @@ steps_fall hi ha w steps known agreed may go = record {
     n : Counted hi ha v
     n = counted_after hi ha w steps (counted_at_first hi ha w known) may
 
-    st : Standing v
-    st = standing_holds hi ha w steps known may go
+    fl : Filled v
+    fl = filled_holds hi ha w steps known may
 
     ag : Agreed v
     ag = agreed_holds hi ha w steps known.0 agreed may

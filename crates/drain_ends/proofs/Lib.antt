@@ -1,6 +1,7 @@
 pub mod Stood
 pub mod Doing
 pub mod Agreed
+pub mod Filled
 pub mod Fallen
 pub mod Shut
 pub mod Closed

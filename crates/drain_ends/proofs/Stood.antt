@@ -60,7 +60,7 @@ pub in_so : (kind : Message → ℕ) (p : Piece) → in_piece kind p ≡ in_fram
 in_so kind (said m) = refl
 in_so kind (entry payload) = refl
 
-told_once : (q : OwnFinish) → told_of q + exchanged_of q ≤ 1
+pub told_once : (q : OwnFinish) → told_of q + exchanged_of q ≤ 1
 told_once own.Open = omega arith
 told_once own.Told = omega arith
 told_once own.Exchanged = omega arith
@@ -180,12 +180,12 @@ comes_matching r requests.Nothing m = tt
 comes_matching r (requests.Asked range) m = m
 comes_matching r (requests.Coming range next left) m = m.0
 
-comes_by : (h : List Entry) (writer reader : State) (way back : List Piece) → Follows h writer reader way back → reader.ending ≡ None → is_closing reader.facts.connection.phase ≡ false → ComesBy reader.facts.connection.receiver reader.facts.connection.requester
+pub comes_by : (h : List Entry) (writer reader : State) (way back : List Piece) → Follows h writer reader way back → reader.ending ≡ None → is_closing reader.facts.connection.phase ≡ false → ComesBy reader.facts.connection.receiver reader.facts.connection.requester
 comes_by h writer reader way back f none yet = by_bool _ (is_recoverable reader.config.peer_flow)
     (λ rec. comes_matching reader.facts.connection.receiver reader.facts.connection.requester ((f.expects none yet).line rec).matches)
     (λ other. subst (λ (q : Request). ComesBy reader.facts.connection.receiver q) (sym ((f.expects none yet).idle other).none) tt)
 
-is_answer : (f : Facts) (p : Piece) → Answers f.connection.requester p → IsAnswer f (incoming_of p)
+pub is_answer : (f : Facts) (p : Piece) → Answers f.connection.requester p → IsAnswer f (incoming_of p)
 is_answer f (said (retransmission id next timestamp count)) a = a.0
 is_answer f (said (retransmit_reject id timestamp code reason)) a = tt
 is_answer f (said (negotiate id timestamp flow credentials)) a = tt
@@ -205,7 +205,7 @@ is_answer f (said (terminate id code reason)) a = tt
 is_answer f (entry payload) a = tt
 
 -- an end whose connection goes on behind a message went on before it
-yet_before : (x : Around) (f : Facts) (p : Piece) → is_closing (reply_of x f (incoming_of p)).next.connection.phase ≡ false → is_closing f.connection.phase ≡ false
+pub yet_before : (x : Around) (f : Facts) (p : Piece) → is_closing (reply_of x f (incoming_of p)).next.connection.phase ≡ false → is_closing f.connection.phase ≡ false
 yet_before x f p yet = by_bool _ (is_closing f.connection.phase)
     (λ closing. absurd (true≢false (sym closing ∙ (ap (λ (g : Facts). is_closing g.connection.phase) (sym (closing_is_deaf x f (incoming_of p) closing).next) ∙ yet)))) (λ e. e)
 
@@ -411,7 +411,7 @@ other_beside h reserve other = tt
 other_beside h held_done other = tt
 
 -- what a call makes of an end that goes on behind it
-stays_even : (h : List Entry) (s : State) (call : Call) → IsOther h call → (step s call).ending ≡ None → is_closing (step s call).facts.connection.phase ≡ false → StaysEven s (run s (call ∷ [])) (written s (call ∷ []))
+pub stays_even : (h : List Entry) (s : State) (call : Call) → IsOther h call → (step s call).ending ≡ None → is_closing (step s call).facts.connection.phase ≡ false → StaysEven s (run s (call ∷ [])) (written s (call ∷ []))
 stays_even h s call other none yet = subst (λ (out : List Piece). StaysEven s (step s call) out) (sym (append-nil (writes s call))) (calls_even s call (other_beside h call other) none yet)
 
 initiator_doing : (hi ha : List Entry) (w : World) (call : Call) → Counted hi ha w → IsOther hi call → MayStand hi w.initiator call → WhileGoing w → WhileGoing (after w (initiator_does call))
@@ -497,6 +497,10 @@ begins x recorded = by_case (is_initiator x.config.role) recorded.negotiated
     by_case true true = record { finishes = refl; answers = refl; requests = refl; restarts = refl; shuts = refl; opens = λ _. refl; waits = λ e. absurd (true≢false e); read = refl; answered = refl; told = refl; exchanged = refl; unanswered = refl; fills = tt }
     by_case true false = record { finishes = refl; answers = refl; requests = refl; restarts = refl; shuts = refl; opens = λ _. refl; waits = λ e. absurd (true≢false e); read = refl; answered = refl; told = refl; exchanged = refl; unanswered = refl; fills = tt }
     by_case false n = record { finishes = refl; answers = refl; requests = refl; restarts = refl; shuts = refl; opens = λ e. absurd (true≢false (sym e)); waits = λ _. refl; read = refl; answered = refl; told = refl; exchanged = refl; unanswered = refl; fills = tt }
+
+-- nothing is asked for then
+pub begins_filled : (x : Around) (recorded : EndState) → Fills (begun x recorded).next.connection.receiver.next (begun x recorded).next.connection.requester
+begins_filled x recorded = (begins x recorded).fills
 
 first_even : {i j : Bool} (f g : Facts) (ms ns : List Message) → Begins i f ms → Begins j g ns → Even f g (said_all ms) (said_all ns)
 first_even f g ms ns a b =

@@ -2,7 +2,7 @@
 -- to do (FIXP 1.1, "Session termination").
 use Rattle.std.specs.Prelude.{◌≡◌, ⊤, ℕ, ◌≤◌, ◌⊎◌, List, ◌∷◌, ◌++◌, None, IsSome}
 use Rattle.std.specs.List.{AllByRecursion}
-use Rattle.session_model.specs.Journal.{Entry}
+use Rattle.session_model.specs.Journal.{Entry, History}
 use Rattle.fixp_machine.specs.Machine.{State}
 use Rattle.connection_laws.specs.Writing.{Piece}
 use Rattle.honest_ends.specs.Worlds.{World, Step, meets, initiator_reads, acceptor_reads, initiator_does, acceptor_does, world_after, AllMayStep}
@@ -34,7 +34,7 @@ EndsAreTold = (hi ha : List Entry) (w : World) (before later : List Step) (now_i
     → AllMayStep hi ha w (before ++ meets now_i now_a ∷ later) → AllByRecursion KeepsLink later
     → BothTold (world_after w (before ++ meets now_i now_a ∷ later))
 
--- so where one has ended or closes it, and not both have ended, one has something to do, however many messages a turn takes
+-- so where one has ended or closes it, and not both have ended, one has something to do
 abbrev pub ClosingToDo : Type 0
-ClosingToDo = (most_i most_a : ℕ) (hi ha : List Entry) (seen : ℕ) (w : World) → BothTold w → IsOver w.initiator ⊎ IsOver w.acceptor → (w.initiator.ending ≡ None) ⊎ (w.acceptor.ending ≡ None)
-    → HasToDo most_i most_a hi ha seen w
+ClosingToDo = (most_i most_a : ℕ) (seen_i seen_a : History) (w : World) → BothTold w → IsOver w.initiator ⊎ IsOver w.acceptor → (w.initiator.ending ≡ None) ⊎ (w.acceptor.ending ≡ None)
+    → HasToDo most_i most_a seen_i seen_a w

@@ -1,5 +1,6 @@
 -- The measure of two ends over a whole session, and what they have to do in it: the premises of the laws can be met.
-use Rattle.std.specs.Prelude.{◌≡◌, [], ◌∷◌}
+use Rattle.std.specs.Prelude.{◌≡◌, true, false, [], ◌∷◌}
+use Rattle.session_model.specs.Journal.{History}
 use Rattle.fixp_machine.specs.Machine.{turn_done, closed}
 use Rattle.honest_ends.specs.Worlds.{World, meets, acceptor_reads, initiator_reads, initiator_does, acceptor_does, after, world_after}
 use Rattle.honest_ends.specs.PhaseSamples.{outbox, beginning, after_loss, after_repair, at_end}
@@ -37,6 +38,13 @@ WaitedSample =
     IsKnown beginning × (under_way request asked_for.homeward ≡ 1) × (counts.unanswered asked_for.acceptor.facts ≡ 1)
     × (under_way finish after_repair.outward ≡ 0) × (under_way shutting closing.outward ≡ 1)
 
+-- the initiator has seen its outbox whole, and the acceptor nothing of its own
+abbrev pub whole : History
+whole = record { made = outbox; finished = true }
+
+abbrev pub nothing : History
+nothing = record { made = []; finished = false }
+
 -- the initiator is to tell its finish, and then to close the connection
 abbrev pub ToDoSample : Type 0
-ToDoSample = HasToDo 16 16 outbox [] 0 after_repair × HasToDo 16 16 outbox [] 0 exchanged × HasToDo 16 16 outbox [] 0 closing
+ToDoSample = HasToDo 16 16 whole nothing after_repair × HasToDo 16 16 whole nothing exchanged × HasToDo 16 16 whole nothing closing

@@ -22,7 +22,7 @@ use Rattle.fixp_machine.specs.Machine.{State, tick, turn_done, closed, link_end,
 use Rattle.connection_laws.specs.Writing.{Piece, said_all, entries, said_breaking, range_closed, written_again, writes}
 use Rattle.drain_laws.specs.Weights.{weight_of, weights, entry_weight}
 use Rattle.drain_laws.specs.Loads.{unsent, sent_load, served_load, told_load, end_of, closing_load, close_load, load_at}
-use Rattle.drain_laws.specs.Calls.{weights_out, Falls, CallsFall}
+use Rattle.drain_laws.specs.Calls.{weights_out, beats_at, Falls, CallsFall}
 use Rattle.drain_laws.proofs.Lifting.{weights_append, close_least, loses_less}
 
 pub said_weighs : (c : EndConfig) (ms : List Message) → weights_out c (said_all ms) ≡ weights ms
@@ -259,24 +259,24 @@ reserves : (m n : ℕ) (s : State) → Falls m n s reserve 0
 reserves m n s = omega arith
 
 -- a heartbeat weighs 1
-beat_weighs : (x : Around) (f : Facts) (last : ℕ) (unsent : List ℕ) → weights (heartbeats x f last unsent) ≤ 1
-beat_weighs x f last (b ∷ unsent) = omega arith
+beat_weighs : (x : Around) (f : Facts) (last : ℕ) (unsent : List ℕ) → weights (heartbeats x f last unsent) ≡ length (heartbeats x f last unsent)
+beat_weighs x f last (b ∷ unsent) = refl
 beat_weighs x f last [] = by_test (is_established f.connection.phase && is_none f.connection.serving && is_due x last)
   where
-    by_flow : (b : Bool) → weights ((if b then sequence (f.recorded.sent + 1) else unsequenced_heartbeat) ∷ []) ≤ 1
-    by_flow true = omega arith
-    by_flow false = omega arith
+    by_flow : (b : Bool) → weights ((if b then sequence (f.recorded.sent + 1) else unsequenced_heartbeat) ∷ []) ≡ 1
+    by_flow true = refl
+    by_flow false = refl
 
-    by_test : (b : Bool) → weights (if b then heartbeat x f ∷ [] else []) ≤ 1
+    by_test : (b : Bool) → weights (if b then heartbeat x f ∷ [] else []) ≡ length (if b then heartbeat x f ∷ [] else [])
     by_test true = by_flow (is_sequenced x.config.own_flow)
-    by_test false = omega arith
+    by_test false = refl
 
 -- a connection that ends has nothing to close any more
 going_least : (c : EndConfig) (p : Phase) (ending : Option Ending) → is_some ending ≡ false → 4 ≤ close_load c p ending
 going_least c p None e = close_least (is_initiator c.role) (is_closing p)
 going_least c p (Some ending) e = absurd (true≢false e)
 
-beats : (m n : ℕ) (s : State) (now : ℕ) → weights_out s.config (writes s (tick now)) + load_at m n (step s (tick now)) ≤ load_at m n s + 1
+beats : (m n : ℕ) (s : State) (now : ℕ) → weights_out s.config (writes s (tick now)) + load_at m n (step s (tick now)) ≤ load_at m n s + beats_at s now
 beats m n s now = by_end (is_some s.ending) refl
   where
     x : Around
@@ -288,7 +288,7 @@ beats m n s now = by_end (is_some s.ending) refl
     beat : State
     beat = wrote (record s { moment = now }) (bytes_of hb) now
 
-    by_fault : (v : Option Violation) → is_some s.ending ≡ false → weights_out s.config (said_all (hb ++ said_breaking s v now)) + load_at m n (broken_by beat v now) ≤ load_at m n s + 1
+    by_fault : (v : Option Violation) → is_some s.ending ≡ false → weights_out s.config (said_all (hb ++ said_breaking s v now)) + load_at m n (broken_by beat v now) ≤ load_at m n s + length hb
     by_fault None going =
         let w = said_weighs s.config (hb ++ []) ∙ weights_append hb [] in
         let one = beat_weighs x s.facts s.last_sent s.unsent in
@@ -302,7 +302,7 @@ beats m n s now = by_end (is_some s.ending) refl
 
     by_end : (b : Bool) → is_some s.ending ≡ b
         → weights_out s.config (if b then [] else said_all (hb ++ said_breaking s (lateness x s.facts s.start s.last_received) now))
-        + load_at m n (if b then record s { moment = now } else broken_by beat (lateness x s.facts s.start s.last_received) now) ≤ load_at m n s + 1
+        + load_at m n (if b then record s { moment = now } else broken_by beat (lateness x s.facts s.start s.last_received) now) ≤ load_at m n s + (if b then 0 else length hb)
     by_end true t = omega arith
     by_end false t = by_fault (lateness x s.facts s.start s.last_received) t
 

@@ -23,6 +23,7 @@ use Rattle.fixp_shake.specs.declared.violation.Violation.TheVariants.{AfterFinis
 use Rattle.fixp_shake.specs.Flows.{is_recoverable, is_idempotent}
 use Rattle.fixp_shake.specs.Phases.{is_idle, is_negotiating, is_establishing, is_established, is_closing, is_shaken}
 use Rattle.fixp_replies.specs.declared.act.Act.TheVariants as acts
+use Rattle.fixp_replies.specs.declared.act.Ending.{Ending}
 use Rattle.fixp_replies.specs.declared.act.Ending.TheVariants as endings
 use Rattle.fixp_replies.specs.declared.facts.Facts.{Facts}
 use Rattle.fixp_replies.specs.declared.facts.OwnFinish.TheVariants as own
@@ -36,14 +37,14 @@ use Rattle.fixp_replies.specs.Expecting.{answers_next, returned, softened, told_
 use Rattle.fixp_replies.specs.Handshake.{awaits_client, serves_client, established, acknowledges, establish_rows, established_again_rows, establish_rows_in, shaken, reached}
 use Rattle.fixp_replies.specs.Flowing.{counted, taken_as, finish_act, peer_finished, answers_finish, is_filled, is_past_finish, sequence_taken, sequence_follows, sequence_rows, restarted, finished_last, finish_fault, finished}
 use Rattle.fixp_replies.specs.Serving.{request_answered, own_finishing}
-use Rattle.fixp_replies.specs.Replies.{template_of, rows_of, answer_of, terminates}
+use Rattle.fixp_replies.specs.Replies.{template_of, rows_of, answer_of, reply_of, terminates}
 use Rattle.fixp_machine.specs.Machine.{to_tell}
 use Rattle.fixp_machine.proofs.Rows.{AllRows, by_row, all_rows, all_within, announced_rows, own_rows}
 use Rattle.fixp_machine.proofs.Tests.{not_negotiated, not_established, not_opened}
 use Rattle.drain_laws.specs.Weights.{weight_of, weights, entry_weight, weight_in}
 use Rattle.drain_laws.specs.Loads.{end_of, open_load, lost_load, read_load, load}
 use Rattle.drain_laws.specs.Frames.{Fills, IsWhole, IsHonest, falls, FramesFall}
-use Rattle.drain_laws.proofs.Lifting.{weights_append, rest, Low, stopping, halting, breaking, resting, bad, refusing, going, skip_tells, skip_weighs, return_weighs, sending_before, closing_before, loses_less, Unmoved, unmoved, skips_same, established_load, returned_rest}
+use Rattle.drain_laws.proofs.Lifting.{weights_append, close_least, rest, Low, stopping, halting, breaking, resting, bad, refusing, going, skip_tells, skip_weighs, return_weighs, sending_before, closing_before, loses_less, Unmoved, unmoved, skips_same, established_load, returned_rest}
 
 -- what an act leaves to be told, but for an Apply
 finish_tells : (c : EndConfig) (recorded : Option ℕ) (last : ℕ) → 4 * length (to_tell c (finish_act recorded last)) ≡ 0
@@ -483,6 +484,49 @@ deaf_least x f (unknown template) e = omega arith
 and_left : (a b : Bool) → (a && b) ≡ true → a ≡ true
 and_left true b e = refl
 and_left false b e = absurd (true≢false (sym e))
+
+-- An outcome lowers the measure, whatever was asked for
+record Sinks (x : Around) (m n : ℕ) (f : Facts) (w k : ℕ) (o : Outcome) : Type 0 where
+  sinks : weights o.written + 4 * length (to_tell x.config o.act) + load x.config m n o.next o.ending + k ≤ w + load x.config m n f None
+
+sinking : (x : Around) (m n : ℕ) (f : Facts) (code : ℕ) (ending : Ending) → Sinks x m n f 4 4 (ends x f code ending)
+sinking x m n f code ending = let c = close_least (is_initiator x.config.role) (is_closing f.connection.phase) in record { sinks = omega (arith, c) }
+
+-- so each frame does that is read by an end which closes: it looks at nothing but the peer's Terminate
+pub closing_falls : (x : Around) (m n : ℕ) (f : Facts) (i : Incoming) → is_closing f.connection.phase ≡ true
+    → weights (reply_of x f i).written + 4 * length (to_tell x.config (reply_of x f i).act) + load x.config m n (reply_of x f i).next (reply_of x f i).ending + falls f i
+    ≤ weight_in x.config i + load x.config m n f None
+closing_falls x m n f i closing = (by_row (Sinks x m n f (weight_in x.config i) (falls f i)) (is_closing f.connection.phase && not (terminates x i)) (ignores f) (answer_of x f i)
+    (λ _. let least = deaf_least x f i closing in record { sinks = omega (arith, least) })
+    (λ heard. ends_it i (not_not (terminates x i) (ap (λ b. b && not (terminates x i)) (sym closing) ∙ heard)))).sinks
+  where
+    not_not : (b : Bool) → not b ≡ false → b ≡ true
+    not_not true e = refl
+    not_not false e = absurd (true≢false e)
+
+    ends_it : (i : Incoming) → terminates x i ≡ true → Sinks x m n f (weight_in x.config i) (falls f i) (answer_of x f i)
+    ends_it (session (terminate id code reason)) t =
+        all_rows (Sinks x m n f 4 4) (not_in_phase x f 16) (rows_of x f (session (terminate id code reason))) (sinking x m n f 2 _)
+        (λ _. sinking x m n f 2 _, λ _. (λ _. sinking x m n f 1 _, λ _. tt))
+    ends_it (session (negotiate _ _ _ _)) t = absurd (true≢false (sym t))
+    ends_it (session (negotiation_response _ _ _ _)) t = absurd (true≢false (sym t))
+    ends_it (session (negotiation_reject _ _ _ _)) t = absurd (true≢false (sym t))
+    ends_it (session (establish _ _ _ _ _ _)) t = absurd (true≢false (sym t))
+    ends_it (session (establishment_ack _ _ _ _ _)) t = absurd (true≢false (sym t))
+    ends_it (session (establishment_reject _ _ _ _)) t = absurd (true≢false (sym t))
+    ends_it (session (sequence _)) t = absurd (true≢false (sym t))
+    ends_it (session unsequenced_heartbeat) t = absurd (true≢false (sym t))
+    ends_it (session (retransmit_request _ _ _ _)) t = absurd (true≢false (sym t))
+    ends_it (session (retransmission _ _ _ _)) t = absurd (true≢false (sym t))
+    ends_it (session (retransmit_reject _ _ _ _)) t = absurd (true≢false (sym t))
+    ends_it (session (applied _ _)) t = absurd (true≢false (sym t))
+    ends_it (session (not_applied _ _)) t = absurd (true≢false (sym t))
+    ends_it (session (finished_sending _ _)) t = absurd (true≢false (sym t))
+    ends_it (session (finished_receiving _)) t = absurd (true≢false (sym t))
+    ends_it (application _) t = absurd (true≢false (sym t))
+    ends_it wrong_order t = absurd (true≢false (sym t))
+    ends_it too_short t = absurd (true≢false (sym t))
+    ends_it (unknown _) t = absurd (true≢false (sym t))
 
 pub frames_fall : FramesFall
 frames_fall x m n f i fills fair = (by_row (Low x m n f (weight_in x.config i) (falls f i)) (is_closing f.connection.phase && not (terminates x i)) (ignores f) (answer_of x f i)

@@ -1,10 +1,10 @@
 -- What the other calls of an end make of the measure: what it sends, tells and closes lowers it, and a heartbeat alone raises it.
-use Rattle.std.specs.Prelude.{◌≡◌, ℕ, ◌+◌, ◌*◌, ◌≤◌, true, false, List, [], ◌∷◌, length, Some, None}
+use Rattle.std.specs.Prelude.{◌≡◌, ℕ, ◌+◌, ◌*◌, ◌≤◌, true, false, if◌then◌else◌, List, [], ◌∷◌, length, Some, None, is_some}
 use Rattle.fixp_msgs.specs.declared.numbering.Range.{Range}
 use Rattle.fixp_shake.specs.declared.config.EndConfig.{EndConfig}
 use Rattle.fixp_shake.specs.Flows.{is_idempotent}
 use Rattle.fixp_shake.specs.Phases.{is_shaken}
-use Rattle.fixp_replies.specs.Events.{closes, tells_finish}
+use Rattle.fixp_replies.specs.Events.{closes, heartbeats, tells_finish}
 use Rattle.fixp_machine.specs.Machine.{State, Call, tick, turn_done, closed, link_end, live, again, taken, reserve, held_done, around, step}
 use Rattle.connection_laws.specs.Writing.{Piece, said, entry, writes}
 use Rattle.drain_laws.specs.Weights.{weight_of, entry_weight}
@@ -22,6 +22,10 @@ weights_out c (p ∷ later) = weight_out c p + weights_out c later
 -- a call lowers the measure by k, with what it writes
 abbrev pub Falls : (m n : ℕ) → State → Call → (k : ℕ) → Type 0
 Falls m n s call k = weights_out s.config (writes s call) + load_at m n (step s call) + k ≤ load_at m n s
+
+-- how many heartbeats a tick writes at this moment: one at most, and none where the connection has ended
+abbrev pub beats_at : State → (now : ℕ) → ℕ
+beats_at s now = if is_some s.ending then 0 else length (heartbeats (around s 0 now) s.facts s.last_sent s.unsent)
 
 -- Entries that go live, or again, lower it by 4 each, and so do the finish that is told and the connection that is closed. The other
 -- calls do not raise it, but a tick that writes a heartbeat, by 1
@@ -41,4 +45,4 @@ pub record CallsFall : Type 0 where
   pub takes : (m n : ℕ) (s : State) (count : ℕ) → Falls m n s (taken count) 0
   pub reserves : (m n : ℕ) (s : State) → Falls m n s reserve 0
   pub beats : (m n : ℕ) (s : State) (now : ℕ)
-      → weights_out s.config (writes s (tick now)) + load_at m n (step s (tick now)) ≤ load_at m n s + 1
+      → weights_out s.config (writes s (tick now)) + load_at m n (step s (tick now)) ≤ load_at m n s + beats_at s now

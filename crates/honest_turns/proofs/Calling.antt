@@ -12,8 +12,9 @@ use Rattle.connection_laws.specs.Writing.{Piece, writes}
 use Rattle.connection_laws.specs.Courses.{Waiting, Course, counting, called, next_done, next_course, course_after, next_held}
 use Rattle.connection_laws.specs.Standing.{MayStand, AllMayStand}
 use Rattle.connection_laws.proofs.Continuing.{state_is_run}
-use Rattle.honest_ends.specs.Worlds.{World, initiator_does, written, initiator_calls, IsOther}
-use Rattle.honest_turns.proofs.Reaching.{Reaches, stays, one, and_then}
+use Rattle.honest_ends.specs.Worlds.{World, Step, initiator_does, written, initiator_calls, IsOther}
+use Rattle.honest_turns.specs.Steps.{does_all}
+use Rattle.honest_turns.proofs.Reaching.{Reaches, stays, one, and_then, leads}
 
 pub written_append : (s : State) (first later : List Call) → written s (first ++ later) ≡ written s first ++ written (run s first) later
 written_append s [] later = refl
@@ -21,7 +22,7 @@ written_append s (call ∷ first) later =
     ap (λ (ps : List Piece). writes s call ++ ps) (written_append (step s call) first later)
     ∙ sym (append_assoc (writes s call) (written (step s call) first) (written (run (step s call) first) later))
 
-calls_join : (w : World) (one two : List Piece) (first later : List Call) → initiator_calls (initiator_calls w one first) two later ≡ initiator_calls w two (first ++ later)
+pub calls_join : (w : World) (one two : List Piece) (first later : List Call) → initiator_calls (initiator_calls w one first) two later ≡ initiator_calls w two (first ++ later)
 calls_join w one two first later =
     let s : State = w.initiator in
     let more : List Piece = written (run s first) later in
@@ -29,27 +30,32 @@ calls_join w one two first later =
     ∙ ap (λ (ps : List Piece). record w { initiator = run s (first ++ later); outward = ps; homeward = two })
     (append_assoc w.outward (written s first) more ∙ ap (λ (ps : List Piece). w.outward ++ ps) (sym (written_append s first later)))
 
-pub no_calls : (hi ha : List Entry) (w : World) → Reaches hi ha w (initiator_calls w w.homeward [])
-no_calls hi ha w =
-    subst (λ (v : World). Reaches hi ha w v) (ap (λ (ps : List Piece). record w { outward = ps }) (sym (append-nil w.outward))) (stays hi ha w)
+abbrev pub no_calls : (hi ha : List Entry) (w : World) → Reaches hi ha w (initiator_calls w w.homeward [])
+no_calls hi ha w = leads hi ha w w (initiator_calls w w.homeward []) (stays hi ha w) (ap (λ (ps : List Piece). record w { outward = ps }) (sym (append-nil w.outward)))
 
 -- calls, and then further ones
-pub calls_then : (hi ha : List Entry) (w : World) (one two : List Piece) (first later : List Call) → Reaches hi ha w (initiator_calls w one first)
+abbrev pub calls_then : (hi ha : List Entry) (w : World) (one two : List Piece) (first later : List Call) → Reaches hi ha w (initiator_calls w one first)
     → Reaches hi ha (initiator_calls w one first) (initiator_calls (initiator_calls w one first) two later) → Reaches hi ha w (initiator_calls w two (first ++ later))
 calls_then hi ha w one two first later x y =
-    subst (λ (v : World). Reaches hi ha w v) (calls_join w one two first later)
-    (and_then hi ha w (initiator_calls w one first) (initiator_calls (initiator_calls w one first) two later) x y)
+    leads hi ha w (initiator_calls (initiator_calls w one first) two later) (initiator_calls w two (first ++ later))
+    (and_then hi ha w (initiator_calls w one first) (initiator_calls (initiator_calls w one first) two later) x y) (calls_join w one two first later)
 
 -- the state of a connection behind calls
 pub state_then : (c : Course) (s : State) (cs : List Call) → c.state ≡ s → (course_after c cs).state ≡ run s cs
 state_then c s cs is = state_is_run c cs ∙ ap (λ (x : State). run x cs) is
 
 -- calls other than those of frames
-pub others : (hi ha : List Entry) (w : World) (c : Course) (cs : List Call) → c.state ≡ w.initiator → AllMayStand hi c cs → AllByRecursion (IsOther hi) cs → Reaches hi ha w (initiator_calls w w.homeward cs)
+abbrev pub others : (hi ha : List Entry) (w : World) (c : Course) (cs : List Call) → c.state ≡ w.initiator → AllMayStand hi c cs → AllByRecursion (IsOther hi) cs → Reaches hi ha w (initiator_calls w w.homeward cs)
 others hi ha w c [] is may other = no_calls hi ha w
 others hi ha w c (call ∷ later) is may other =
     calls_then hi ha w w.homeward w.homeward (call ∷ []) later (one hi ha w (initiator_does call) (other.0, subst (λ (s : State). MayStand hi s call) is may.0))
     (others hi ha (initiator_calls w w.homeward (call ∷ [])) (next_course c call) later (state_then c w.initiator (call ∷ []) is) may.1 other.1)
+
+-- each is a step
+pub others_by : (hi ha : List Entry) (w : World) (c : Course) (cs : List Call) (is : c.state ≡ w.initiator) (may : AllMayStand hi c cs) (other : AllByRecursion (IsOther hi) cs) → (others hi ha w c cs is may other).steps ≡ does_all cs
+others_by hi ha w c [] is may other = refl
+others_by hi ha w c (call ∷ later) is may other =
+    ap (λ (ss : List Step). initiator_does call ∷ ss) (others_by hi ha (initiator_calls w w.homeward (call ∷ [])) (next_course c call) later (state_then c w.initiator (call ∷ []) is) may.1 other.1)
 
 pub may_first : (h : List Entry) (c : Course) (first later : List Call) → AllMayStand h c (first ++ later) → AllMayStand h c first
 may_first h c [] later may = tt

@@ -35,7 +35,7 @@ use Rattle.honest_turns.specs.Links.{of_initiator, of_acceptor, OverOneLink}
 use Rattle.honest_turns.specs.Sides.{Side, behind, IsReady, MakesTurns, Agree}
 use Rattle.honest_turns.specs.Laws.{ConnectionHolds}
 use Rattle.honest_turns.proofs.Reaching.{Reaches, one, and_then}
-use Rattle.honest_turns.proofs.Opening.{WritesLegal, Way}
+use Rattle.honest_turns.specs.Opened.{WritesLegal, Way}
 use Rattle.honest_turns.proofs.Calling.{state_then}
 use Rattle.honest_turns.proofs.Stopping.{StopsIn}
 use Rattle.honest_turns.proofs.Linking.{Stops, Ahead, going, Linked, linked}

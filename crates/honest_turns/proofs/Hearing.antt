@@ -27,9 +27,10 @@ use Rattle.turn_laws.proofs.Draining.{frame_drained}
 use Rattle.turn_laws.proofs.Going.{Steady, Goes, nothing, and_then, partly_goes}
 use Rattle.two_ends.specs.Reading.{incoming_of, ReadsAs}
 use Rattle.two_ends.proofs.Cutting.{all_is_read}
-use Rattle.honest_ends.specs.Worlds.{World, initiator_reads, initiator_read, initiator_calls, IsOther}
-use Rattle.honest_turns.proofs.Reaching.{Reaches, one}
-use Rattle.honest_turns.proofs.Calling.{no_calls, calls_then, state_then, may_second, others, may_first}
+use Rattle.honest_ends.specs.Worlds.{World, Step, initiator_reads, initiator_read, initiator_calls, IsOther}
+use Rattle.honest_turns.specs.Steps.{frame_steps, frames_steps}
+use Rattle.honest_turns.proofs.Reaching.{Reaches, one, leads}
+use Rattle.honest_turns.proofs.Calling.{no_calls, calls_then, state_then, may_second, others, others_by, may_first}
 
 -- a frame stands at the front of what was written: it is the first message of it
 record Front (pieces : List Piece) (f : Frame) (behind : List ℕ) : Type 0 where
@@ -105,9 +106,12 @@ legal_fits (said m) legal = legal.fields
 legal_fits (entry payload) legal = tt
 
 -- what is left to read once some frames were taken, of which this line was left
-record Read (hi ha : List Entry) (w : World) (cs : List Call) (held left_held : List ℕ) : Type 0 where
+record Read (hi ha : List Entry) (w : World) (cs : List Call) (steps : List Step) (held left_held : List ℕ) : Type 0 where
   left : List Piece
   reaches : Reaches hi ha w (initiator_calls w left cs)
+  by : reaches.steps ≡ steps
+  read : Piece
+  joins : w.homeward ≡ read ∷ left
   goes_on : (tail : List ℕ) → held ++ tail ≡ bytes_written w.homeward → left_held ++ tail ≡ bytes_written left
   legal : AllByRecursion IsLegalPiece left
   fits : AllByRecursion FitsCall cs
@@ -152,12 +156,16 @@ heard_go h now l (t ∷ later) c s k =
     and_then h c l.machine (frame_calls now t) (calls_of_frames now later) x (heard_go h now (line_after now l t) later (course_after c (frame_calls now t)) x.after k.1)
 
 frame_read : (hi ha : List Entry) (w : World) (c : Course) (now : ℕ) (l : Line) (t : TakenFrame) (tail : List ℕ) → c.state ≡ w.initiator → w.initiator ≡ l.machine → AllMayStand hi c (frame_calls now t) → IsHeard now l t
-    → IsInTime now → AllByRecursion IsLegalPiece w.homeward → l.held ++ tail ≡ bytes_written w.homeward → Read hi ha w (frame_calls now t) l.held (drop (size_of t.frame) l.held)
+    → IsInTime now → AllByRecursion IsLegalPiece w.homeward → l.held ++ tail ≡ bytes_written w.homeward → Read hi ha w (frame_calls now t) (frame_steps now t) l.held (drop (size_of t.frame) l.held)
 frame_read hi ha w c now l t tail at is may k time legal e = record {
   left = x.later;
   reaches = calls_then hi ha w x.later x.later act helds
-      (subst (λ (v : World). Reaches hi ha w v) there (one hi ha w (initiator_reads t.at now) (subst IsOpen at may.0.comes, subst IsDrained (sym is) k.drained)))
+      (leads hi ha w (initiator_read w w.homeward t.at now) (initiator_calls w x.later act) (one hi ha w (initiator_reads t.at now) (subst IsOpen at may.0.comes, subst IsDrained (sym is) k.drained)) there)
       (others hi ha (initiator_calls w x.later act) (course_after c act) helds (state_then c w.initiator act at) (may_second hi c act helds may) (helds_other hi t.helds));
+  read = x.piece;
+  joins = x.is;
+  by = ap (λ (ss : List Step). initiator_reads t.at now ∷ ss)
+      (others_by hi ha (initiator_calls w x.later act) (course_after c act) helds (state_then c w.initiator act at) (may_second hi c act helds may) (helds_other hi t.helds));
   goes_on = λ more here.
       append_cancel_left (spelled t.frame) (behind ++ more) (bytes_written x.later)
       (spells more here ∙ (ap (λ (ps : List Piece). bytes_written ps) x.is ∙ ap (λ (bs : List ℕ). bs ++ bytes_written x.later) (sym x.reads.bytes)));
@@ -198,28 +206,36 @@ frame_read hi ha w c now l t tail at is may k time legal e = record {
         ∙ (ap (λ (i : Incoming). initiator_calls w x.later (calls.frame i t.at now ∷ did now ∷ [])) (sym same)
         ∙ act_done w x.later now t t.recorded (k.recorded ∙ ap (λ (s : State). is_record (reply_of (around s t.at now) s.facts t.incoming).act) (sym is)))
 
-pub record FramesRead (hi ha : List Entry) (w : World) (cs : List Call) (held left_held : List ℕ) : Type 0 where
+pub record FramesRead (hi ha : List Entry) (w : World) (cs : List Call) (steps : List Step) (count : ℕ) (held left_held : List ℕ) : Type 0 where
   pub left : List Piece
   pub reaches : Reaches hi ha w (initiator_calls w left cs)
+  pub by : reaches.steps ≡ steps
+  pub read : List Piece
+  pub joins : w.homeward ≡ read ++ left
+  pub counts : length read ≡ count
   pub goes_on : (tail : List ℕ) → held ++ tail ≡ bytes_written w.homeward → left_held ++ tail ≡ bytes_written left
   pub legal : AllByRecursion IsLegalPiece left
   pub fits : AllByRecursion FitsCall cs
 
 pub frames_read : (hi ha : List Entry) (w : World) (c : Course) (now : ℕ) (l : Line) (frames : List TakenFrame) (tail : List ℕ) → c.state ≡ w.initiator → w.initiator ≡ l.machine
     → AllMayStand hi c (calls_of_frames now frames) → AreHeard now l frames → IsInTime now → AllByRecursion IsLegalPiece w.homeward → l.held ++ tail ≡ bytes_written w.homeward
-    → FramesRead hi ha w (calls_of_frames now frames) l.held (lines_after now l frames).held
+    → FramesRead hi ha w (calls_of_frames now frames) (frames_steps now frames) (length frames) l.held (lines_after now l frames).held
 unfolding line_after
-frames_read hi ha w c now l [] tail at is may k time legal e = record { left = w.homeward; reaches = no_calls hi ha w; goes_on = λ more here. here; legal = legal; fits = tt }
+frames_read hi ha w c now l [] tail at is may k time legal e = record { left = w.homeward; reaches = no_calls hi ha w; by = refl; read = []; joins = refl; counts = refl; goes_on = λ more here. here; legal = legal; fits = tt }
 frames_read hi ha w c now l (t ∷ later) tail at is may k time legal e =
     let first : List Call = frame_calls now t in
     let more : List Call = calls_of_frames now later in
-    let x : Read hi ha w first l.held (drop (size_of t.frame) l.held) = frame_read hi ha w c now l t tail at is (may_first hi c first more may) k.0 time legal e in
+    let x : Read hi ha w first (frame_steps now t) l.held (drop (size_of t.frame) l.held) = frame_read hi ha w c now l t tail at is (may_first hi c first more may) k.0 time legal e in
     let v : World = initiator_calls w x.left first in
-    let y : FramesRead hi ha v more (drop (size_of t.frame) l.held) (lines_after now (line_after now l t) later).held =
+    let y : FramesRead hi ha v more (frames_steps now later) (length later) (drop (size_of t.frame) l.held) (lines_after now (line_after now l t) later).held =
     frames_read hi ha v (course_after c first) now (line_after now l t) later tail (state_then c w.initiator first at) (ap (λ (s : State). run s first) is) (may_second hi c first more may) k.1 time x.legal (x.goes_on tail e) in
     record {
       left = y.left;
       reaches = calls_then hi ha w x.left y.left first more x.reaches y.reaches;
+      by = ap (λ (ss : List Step). ss ++ y.reaches.steps) x.by ∙ ap (λ (ss : List Step). frame_steps now t ++ ss) y.by;
+      read = x.read ∷ y.read;
+      joins = x.joins ∙ ap (λ (ps : List Piece). x.read ∷ ps) y.joins;
+      counts = ap (λ (n : ℕ). suc n) y.counts;
       goes_on = λ rest here. y.goes_on rest (x.goes_on rest here);
       legal = y.legal;
       fits = all_append FitsCall first more x.fits y.fits;

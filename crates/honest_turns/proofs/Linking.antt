@@ -13,11 +13,12 @@ use Rattle.turn_laws.specs.Legs.{AreTurns, given_in, sent_in, IsTimelyTurn}
 use Rattle.honest_ends.specs.Worlds.{World}
 use Rattle.honest_turns.specs.Links.{Move, initiator_turns, acceptor_turns, of_initiator, of_acceptor, Passes}
 use Rattle.honest_turns.proofs.Reaching.{Reaches, stays, and_then, turned, reaches_turned}
-use Rattle.honest_turns.proofs.Opening.{WritesLegal, Open, Way, Passed, Moved, turn_moves}
+use Rattle.honest_turns.specs.Opened.{WritesLegal, Open, Way, Passed}
+use Rattle.honest_turns.proofs.Opening.{Moved, turn_moves}
 use Rattle.honest_turns.proofs.Stopping.{StopsIn, Stopped, turn_stops}
 
 -- what was seen before turns begins what was seen behind them
-seen_on : (before after : History) (old new : Line) (t : Turn) → IsTurn before after old new t → BeginsHistory before after
+pub seen_on : (before after : History) (old new : Line) (t : Turn) → IsTurn before after old new t → BeginsHistory before after
 seen_on before after old new (only_sends now sent lost) k = subst (λ (x : History). BeginsHistory before x) (sym k.1) (begins_self before)
 seen_on before after old new (works w) k =
     let v = k.served in
@@ -100,7 +101,7 @@ one_turn outbox ha b w m theirs own_held held out home t later last_m last_held 
     let same : t ≡ u = cc e in
     let rest : later ≡ whole ++ option_to_list cut = cc e in
     let a : AreTurns before after l last (t ∷ whole) = subst (λ (x : Turn). AreTurns before after l last (x ∷ whole)) (sym same) b' in
-    let x : Moved outbox ha b w a.1 theirs held (out ++ sent_in t) home =
+    let x : Moved outbox ha b w l a.1 t theirs held (out ++ sent_in t) home =
     turn_moves outbox ha b w before a.2 l a.1 t theirs held out home legal (passed_so_far outbox before after l last t whole passed a) o a.0 a.3 (subst IsFaithful (sym same) f.0) timely.0
     (subst (λ (y : State). Way w.outward y held out) (sym is) outward) (subst (λ (bs : List ℕ). Way w.homeward theirs bs (given_in t ++ home)) (sym holds) homeward) in
     record {

@@ -22,28 +22,11 @@ use Rattle.turn_laws.proofs.Going.{may_append, after_append}
 use Rattle.turn_laws.proofs.Working.{turn_may_stand, turn_makes_calls}
 use Rattle.turn_laws.proofs.Sent.{Took, turn_took}
 use Rattle.honest_ends.specs.Worlds.{World, written, initiator_calls}
+use Rattle.honest_turns.specs.Opened.{WritesLegal, Open, Way, Passed}
+use Rattle.honest_turns.specs.Steps.{initiator_steps, taken_in}
 use Rattle.honest_turns.proofs.Reaching.{Reaches}
 use Rattle.honest_turns.proofs.Calling.{output_after}
 use Rattle.honest_turns.proofs.Turning.{TurnSteps, turn_steps}
-
--- whatever calls come on a connection, where each may come and fits, all that was written on it is legal
-abbrev pub WritesLegal : History → Course → Type 0
-WritesLegal outbox b = (cs : List Call) → AllMayStand outbox.made b cs → AllByRecursion FitsCall cs → AllByRecursion IsLegalPiece (course_after b cs).output
-
--- one end's connection so far: the machine of the world is that of the line, but for the room
-pub record Open (outbox : History) (b : Course) (s : State) (l : Line) : Type 0 where
-  pub calls : List Call
-  pub may : AllMayStand outbox.made b calls
-  pub fits : AllByRecursion FitsCall calls
-  pub at : StandsAt outbox.made (course_after b calls) l
-  pub alike : step s reserve ≡ step l.machine reserve
-
--- what an end wrote and the other has not read: of its bytes, those held by the other, those under way, and, where the writer's connection
--- goes on, those unsent
-pub record Way (pieces : List Piece) (writer : State) (held under : List ℕ) : Type 0 where
-  pub legal : AllByRecursion IsLegalPiece pieces
-  pub within : IsPrefix (held ++ under) (bytes_written pieces)
-  pub exact : writer.ending ≡ None → bytes_written pieces ≡ (held ++ under) ++ writer.unsent
 
 -- the calls of a whole turn begin with a reserve
 record Reserved (t : Turn) : Type 0 where
@@ -65,15 +48,16 @@ same_run s m cs later made alike = ap (λ (ds : List Call). run s ds) made ∙ (
 pub same_written : (s m : State) (cs later : List Call) → cs ≡ reserve ∷ later → step s reserve ≡ step m reserve → written s cs ≡ written m cs
 same_written s m cs later made alike = ap (λ (ds : List Call). written s ds) made ∙ (ap (λ (x : State). written x later) alike ∙ ap (λ (ds : List Call). written m ds) (sym made))
 
--- what is said of the outbox, which has less than 2^40 entries
-pub record Passed (outbox : History) (after : History) : Type 0 where
-  pub begins : BeginsHistory after outbox
-  pub few : length outbox.made < 2 ^ 40
-
 -- a whole turn of the initiator: its connection goes on, and so does what is under way both ways
-pub record Moved (outbox : History) (ha : List Entry) (b : Course) (w : World) (new : Line) (theirs : State) (held out home : List ℕ) : Type 0 where
+pub record Moved (outbox : History) (ha : List Entry) (b : Course) (w : World) (old new : Line) (t : Turn) (theirs : State) (held out home : List ℕ) : Type 0 where
   pub world : World
   pub reaches : Reaches outbox.made ha w world
+  pub by : reaches.steps ≡ initiator_steps t
+  pub says : world.outward ≡ w.outward ++ written w.initiator (calls_of t)
+  pub read : List Piece
+  pub joins : w.homeward ≡ read ++ world.homeward
+  pub counts : length read ≡ length (taken_in t)
+  pub goes_on : (tail : List ℕ) → (old.held ++ given_in t) ++ tail ≡ bytes_written w.homeward → new.held ++ tail ≡ bytes_written world.homeward
   pub acceptor : world.acceptor ≡ w.acceptor
   pub here : Open outbox b world.initiator new
   pub outward : Way world.outward new.machine held out
@@ -127,10 +111,16 @@ way_read pieces left theirs held given home left_held way legal goes_on = record
 
 pub turn_moves : (outbox : History) (ha : List Entry) (b : Course) (w : World) (before after : History) (old new : Line) (t : Turn) (theirs : State) (held out home : List ℕ)
     → WritesLegal outbox b → Passed outbox after → Open outbox b w.initiator old → old.machine.ending ≡ None → IsTurn before after old new t → IsFaithful t → IsTimelyTurn t
-    → Way w.outward old.machine held out → Way w.homeward theirs old.held (given_in t ++ home) → Moved outbox ha b w new theirs held (out ++ sent_in t) home
+    → Way w.outward old.machine held out → Way w.homeward theirs old.held (given_in t ++ home) → Moved outbox ha b w old new t theirs held (out ++ sent_in t) home
 turn_moves outbox ha b w before after old new t theirs held out home legal passed o going k faithful timely outward homeward = record {
   world = initiator_calls w x.left cs;
   reaches = x.reaches;
+  by = x.by;
+  says = refl;
+  read = x.read;
+  joins = x.joins;
+  counts = x.counts;
+  goes_on = x.goes_on;
   acceptor = refl;
   here = record {
     calls = o.calls ++ cs;

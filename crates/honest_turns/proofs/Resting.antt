@@ -29,7 +29,7 @@ use Rattle.honest_ends.proofs.RestLaws.{rest_has_all, all_is_equal}
 use Rattle.honest_turns.specs.Links.{of_initiator, of_acceptor}
 use Rattle.honest_turns.specs.Sides.{Side, behind, inbox_behind, MakesTurns, AreAtRest, HasWhole}
 use Rattle.honest_turns.specs.Laws.{RestHolds, WholeIsEqual}
-use Rattle.honest_turns.proofs.Opening.{Way}
+use Rattle.honest_turns.specs.Opened.{Way}
 use Rattle.honest_turns.proofs.Linking.{Linked}
 use Rattle.honest_turns.proofs.Connecting.{two_anew, starts_known, stood_last, behind_last, Met, meet}
 

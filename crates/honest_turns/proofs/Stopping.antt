@@ -1,5 +1,5 @@
 -- A turn of an end that was cut short, as steps of a world.
-use Rattle.std.proofs.Common.{◌≡◌, ℕ, Bool, true, false, if◌then◌else◌, List, [], ◌∷◌, ◌++◌, Option, Some, None, refl, sym, ap, subst, ◌∙◌, append-nil, append_assoc, zero, suc}
+use Rattle.std.proofs.Common.{◌≡◌, ℕ, Bool, true, false, if◌then◌else◌, List, [], ◌∷◌, ◌++◌, Option, Some, None, refl, sym, ap, subst, ◌∙◌, append-nil, append_assoc, zero, suc, length}
 use Rattle.std.specs.Prelude.{is_some, replicate}
 use Rattle.std.specs.List.{AllByRecursion}
 use Rattle.std.proofs.lemmas.Grind.{flat_map-append}
@@ -27,11 +27,13 @@ use Rattle.turn_laws.specs.Legs.{given_in, sent_in, moment_of, IsTimelyTurn}
 use Rattle.turn_laws.proofs.Going.{Goes, may_append, after_append, and_then, first_go}
 use Rattle.turn_laws.proofs.Working.{steady_at}
 use Rattle.honest_ends.specs.Worlds.{World, written, initiator_calls}
+use Rattle.honest_turns.specs.Steps.{does_all, frames_steps}
 use Rattle.honest_turns.proofs.Reaching.{Reaches}
 use Rattle.honest_turns.proofs.Calling.{output_after}
 use Rattle.honest_turns.proofs.Hearing.{FramesRead, AreHeard, heard_go}
 use Rattle.honest_turns.proofs.Turning.{took_steps}
-use Rattle.honest_turns.proofs.Opening.{WritesLegal, Open, Way, same_run, same_written, regroup, way_on, way_read}
+use Rattle.honest_turns.specs.Opened.{WritesLegal, Open, Way}
+use Rattle.honest_turns.proofs.Opening.{same_run, same_written, regroup, way_on, way_read}
 
 -- A turn that was cut short took these frames of what it received, and sent nothing: how it leaves the machine, and the bytes held
 pub record StopsIn (l : Line) (t : Turn) (m : State) (held : List ℕ) : Type 0 where
@@ -88,7 +90,7 @@ frame_taken c now t = ap (λ (e : Course). e.taken) (after_append c (act_calls n
     by_recorded true = by_pending d.state.pending d.waiting (called d (did now)) ∙ framed
     by_recorded false = framed
 
-frames_taken : (c : Course) (now : ℕ) (frames : List TakenFrame) → (course_after c (calls_of_frames now frames)).taken ≡ c.taken
+pub frames_taken : (c : Course) (now : ℕ) (frames : List TakenFrame) → (course_after c (calls_of_frames now frames)).taken ≡ c.taken
 frames_taken c now [] = refl
 frames_taken c now (t ∷ later) =
     ap (λ (e : Course). e.taken) (after_append c (frame_calls now t) (calls_of_frames now later))
@@ -156,7 +158,7 @@ turn_stops outbox ha b w l t m theirs left_held held out home legal o k timely o
         let first = first_go h c l.machine k.now (steady_at h c l o.at) in
         and_then h c l.machine (first_calls k.now) took first (heard_go h k.now r k.frames (course_after c (first_calls k.now)) first.after k.taken)
 
-    x : FramesRead h ha w cs r.held n.held
+    x : FramesRead h ha w cs (does_all (first_calls k.now) ++ frames_steps k.now k.frames) (length k.frames) r.held n.held
     x = took_steps h ha w c l r k.now k.frames (home ++ homeward.within.0) o.at.machine o.alike refl goes.may k.taken (subst IsInTime k.moment timely.time) homeward.legal
         (sym (regroup l.held (given_in t) home homeward.within.0) ∙ homeward.within.1)
 

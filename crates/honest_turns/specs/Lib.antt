@@ -5,4 +5,6 @@ pub mod Lives
 pub mod Sessions
 pub mod Samples
 pub mod Counting
+pub mod Opened
+pub mod Steps
 pub mod Waiting

@@ -1,0 +1,8 @@
+//! What an end sends again.
+
+ghost use Rattle.drain_steps.specs.Ranges.{RangesHold};
+
+/// A range that is served has messages, all of which were sent before.
+pub fn ranges_hold()
+    ensures law { RangesHold }
+{}
