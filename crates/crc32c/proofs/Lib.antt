@@ -1,0 +1,4 @@
+pub mod Bursts
+pub mod Pieces
+pub mod Steps
+pub mod Tables
