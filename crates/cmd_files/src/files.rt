@@ -5,9 +5,7 @@ use crate::report::Report;
 use cmd_config::Purpose;
 use cmd_run::{Bad, Command, JournalCause, Outside, Status, Which, command_of, run};
 use gw_outside::{Disk, Sink, Source};
-use gw_real::{
-    Begun, FileDisk, FileSink, FileSource, Kept, Named, Opening, Reason, STANDARD_OUTPUT,
-};
+use gw_real::{Begun, FileDisk, FileSink, FileSource, Kept, Named, Opening, STANDARD_OUTPUT};
 use say_config::{Wanted, push_config_fault};
 use say_faults::{push_decode_fault, push_encode_fault, push_text_fault};
 use say_session::{
@@ -16,7 +14,7 @@ use say_session::{
 use sbe_layout::Plan;
 use schema_load::load;
 use schema_toml::{ConfigFault, TEXT_LIMIT};
-use session_files::{push_place, text_of_file};
+use session_files::{TWO_INPUTS, are_both_standard, out_of, push_place, text_of_file};
 use sofh_frame::ROOM;
 use std::alloc::{AllocError, Global};
 use std::fs::File;
@@ -97,14 +95,19 @@ impl<'a> Run<'a> {
     /// The files that an output must not be the same as.
     fn others(&self) -> [Named<'a>; 7] {
         [
-            self.config,
-            self.input,
+            self.config.read_from(),
+            self.input.read_from(),
             self.wire,
             self.out,
             self.outbox,
             self.inbox,
             STANDARD_OUTPUT,
         ]
+    }
+
+    /// Whether standard output gets frames, which stand there alone.
+    fn prints_frames(&self) -> bool {
+        matches!(self.command, Command::Encode) && self.wire.is_standard()
     }
 
     /// The files that a journal must not be the same as; an output sees for itself that it is no journal.
@@ -154,10 +157,7 @@ impl<'a> Run<'a> {
             Status::InputFault => {
                 self.push_unread(line, outside.config.reason(), outside.input.reason())
             }
-            Status::OutputFault => {
-                let out = outside.out.name();
-                self.push_unwritten(line, out, outside.out.reason(), outside.wire.reason())
-            }
+            Status::OutputFault => push_unwritten(line, &outside.out, &outside.wire),
             Status::JournalFault => { self.push_failed(line, &outside.out_disk, &outside.in_disk) }
             Status::JournalBad {
                 cause: JournalCause::NotFormatted,
@@ -211,21 +211,6 @@ impl<'a> Run<'a> {
         }
     }
 
-    /// Adds which output could not be written; OUT may be standard output.
-    fn push_unwritten(
-        &self,
-        line: &mut String,
-        out_name: Named<'_>,
-        out: Option<Reason<'_>>,
-        wire: Option<Reason<'_>>,
-    ) -> Result<(), AllocError> {
-        match (out, wire) {
-            (Some(reason), _) => push_sink(line, out_name, reason),
-            (None, Some(reason)) => push_sink(line, self.wire, reason),
-            (None, None) => Ok(()),
-        }
-    }
-
     /// Adds which journal failed.
     fn push_failed<R>(
         &self,
@@ -275,13 +260,13 @@ impl<'a> Run<'a> {
     ) -> Result<(), AllocError> {
         match bad {
             Bad::Decode { frame, fault } => {
-                let place = place_of_frame(rt, alloc, self.input.path, *frame);
+                let place = place_of_frame(rt, alloc, self.input.read_path(), *frame);
                 let plan = plan_of(alloc, config);
                 push_place(line, self.input)?;
                 push_decode_fault(line, plan.as_ref(), *frame, place, *fault)
             }
             Bad::Encode { .. } | Bad::Line { .. } => {
-                match Again::read(rt, alloc, config, self.input.path) {
+                match Again::read(rt, alloc, config, self.input.read_path()) {
                     Some(again) => self.push_again(alloc, line, &again, bad),
                     None => push_input(line, self.input, kept, bad),
                 }
@@ -315,6 +300,19 @@ impl<'a> Run<'a> {
             Which::Outbox => self.outbox,
             Which::Inbox => self.inbox,
         }
+    }
+}
+
+/// Adds which output could not be written; one of them may be standard output.
+fn push_unwritten<R, P>(
+    line: &mut String,
+    out: &FileSink<'_, R, File, P>,
+    wire: &FileSink<'_, R, File, P>,
+) -> Result<(), AllocError> {
+    match (out.reason(), wire.reason()) {
+        (Some(reason), _) => push_sink(line, out.name(), reason),
+        (None, Some(reason)) => push_sink(line, wire.name(), reason),
+        (None, None) => Ok(()),
     }
 }
 
@@ -358,21 +356,31 @@ struct Apart<'a> {
     journals: &'a [Named<'a>],
 }
 
-/// The devices of a run, with this one for OUT. Of INPUT as many of the last bytes are kept as are read at once: they say what is
-/// wrong with a frame.
+/// The device for WIRE. It may be standard output where the command writes nothing else.
+fn wire_of<'a, R: Print>(
+    rt: &'a R,
+    files: Run<'a>,
+    others: &'a [Named<'a>],
+) -> FileSink<'a, R, File, Printer<'a, R>> {
+    if files.prints_frames() {
+        return out_of(rt, files.wire, others);
+    }
+    FileSink::new(rt, files.wire, others)
+}
+
+/// The devices of a run. Of INPUT as many of the last bytes are kept as are read at once: they say what is wrong with a frame.
 fn devices<'a, R: Files<File = File> + Print + AllocGlobal>(
     rt: &'a R,
     files: Run<'a>,
     apart: Apart<'a>,
-    out: FileSink<'a, R, File, Printer<'a, R>>,
 ) -> Devices<'a, R, Printer<'a, R>> {
     let alloc = rt.alloc();
     let [first, second] = files.openings();
     Outside {
-        config: FileSource::new(rt, alloc, files.config.path, TEXT_LIMIT + 1),
-        input: FileSource::new(rt, alloc, files.input.path, ROOM),
-        wire: FileSink::new(rt, files.wire, apart.outputs),
-        out,
+        config: FileSource::new(rt, alloc, files.config.read_path(), TEXT_LIMIT + 1),
+        input: FileSource::new(rt, alloc, files.input.read_path(), ROOM),
+        wire: wire_of(rt, files, apart.outputs),
+        out: out_of(rt, files.out, apart.outputs),
         out_disk: FileDisk::new(rt, files.outbox, apart.journals, first),
         in_disk: FileDisk::new(rt, files.inbox, apart.journals, second),
     }
@@ -418,24 +426,14 @@ fn report_of<R: Files<File = File> + AllocGlobal, P: Drop>(
         out_disk: _,
         in_disk: _,
     } = outside;
-    Report { status, line }
+    Report {
+        is_aside: files.prints_frames(),
+        ..Report::told(status, line)
+    }
 }
 
-/// Runs the command, with this device for OUT. The files are closed when it returns, before anything is printed: where
-/// standard output is closed, a file may stand in its place.
-fn run_with<'a, R: Wait + Files<File = File> + Print + AllocGlobal>(
-    rt: &'a R,
-    words: &[String],
-    files: Run<'a>,
-    apart: Apart<'a>,
-    out: FileSink<'a, R, File, Printer<'a, R>>,
-) -> Report {
-    let devices = devices(rt, files, apart, out);
-    let (status, devices) = run_over(rt, rt.alloc(), words, devices);
-    report_of(rt, files, status, devices)
-}
-
-/// Runs the command over the files that its words name; `-` as OUT is standard output.
+/// Runs the command over the files that its words name; `-` is standard input where one is read, and standard output as OUT, and as WIRE of
+/// `encode`. The files are closed when it returns, before anything is printed: where standard output is closed, a file may stand in its place.
 pub fn run_over_files<R: Wait + Files<File = File> + Print + AllocGlobal>(
     rt: &R,
     words: &[String],
@@ -443,15 +441,16 @@ pub fn run_over_files<R: Wait + Files<File = File> + Print + AllocGlobal>(
     let Some(files) = Run::of(words) else {
         return Report::bare(Status::Words);
     };
+    if are_both_standard(files.config, files.input) {
+        let line = format!(in rt.alloc(); "{TWO_INPUTS}");
+        return Report::told(Status::InputFault, line.ok());
+    }
     let (outputs, journals) = (files.others(), files.journals());
     let apart = Apart {
         outputs: &outputs,
         journals: &journals,
     };
-    if files.out.path == "-" {
-        let out = FileSink::printing(rt, io::writer(rt), &outputs);
-        return run_with(rt, words, files, apart, out);
-    }
-    let out = FileSink::new(rt, files.out, &outputs);
-    run_with(rt, words, files, apart, out)
+    let devices = devices(rt, files, apart);
+    let (status, devices) = run_over(rt, rt.alloc(), words, devices);
+    report_of(rt, files, status, devices)
 }

@@ -8,5 +8,5 @@ mod report;
 mod usage;
 
 pub use files::run_over_files;
-pub use report::{Report, finish};
+pub use report::{Report, finish, print_status};
 pub use usage::{VERSION, asked, usage_fault};

@@ -1,6 +1,7 @@
 //! How a run ended, on standard output and standard error.
 
 use cmd_run::Status;
+use std::io;
 use std::process::ExitCode;
 
 /// How a run ended.
@@ -9,12 +10,23 @@ pub struct Report {
     pub status: Status,
     /// What is wrong, where there was memory to say it.
     pub line: Option<String>,
+    /// Whether the line of the status goes to standard error, since standard output has what another program is to read.
+    pub is_aside: bool,
 }
 
 impl Report {
     /// A status that says all by itself.
     pub fn bare(status: Status) -> Report {
-        Report { status, line: None }
+        Report::told(status, None)
+    }
+
+    /// A status, and what is wrong, where there was memory to say it.
+    pub fn told(status: Status, line: Option<String>) -> Report {
+        Report {
+            status,
+            line,
+            is_aside: false,
+        }
     }
 }
 
@@ -27,12 +39,25 @@ fn print_line<R: Eprint>(rt: &R, report: &Report) {
     };
 }
 
-/// Prints the status on standard output, and what is wrong on standard error. Where the status cannot be printed,
-/// that is what is wrong: it is an output fault.
+/// Prints the line of a status, on standard error where it goes aside.
+pub fn print_status<R: Print + Eprint>(
+    rt: &R,
+    is_aside: bool,
+    code: u8,
+    name: &str,
+) -> io::Result<()> {
+    if is_aside {
+        eprintln!(rt; "status {code} {name}")
+    } else {
+        println!(rt; "status {code} {name}")
+    }
+}
+
+/// Prints the status, and what is wrong on standard error. Where the status cannot be printed, that is what is wrong: it is an output fault.
 pub fn finish<R: Print + Eprint>(rt: &R, report: Report) -> ExitCode {
     let code = report.status.code();
     let name = report.status.name();
-    match println!(rt; "status {code} {name}") {
+    match print_status(rt, report.is_aside, code, name) {
         Ok(()) => {
             if code != 0 {
                 print_line(rt, &report);

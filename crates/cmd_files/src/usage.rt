@@ -3,10 +3,10 @@
 use crate::report::Report;
 use cmd_run::Status;
 use say_words::quoted;
-use session_files::{are_both_standard, role_of};
+use session_files::{are_both_standard, named, role_of};
 use std::alloc::{AllocError, Global};
 
-pub const VERSION: &str = "fixpgw 0.6.0";
+pub const VERSION: &str = "fixpgw 0.7.0";
 
 const USAGE: &str =
     "fixpgw: an order gateway for sessions of the FIX Performance Session Layer (FIXP) 1.1
@@ -37,8 +37,9 @@ const USAGE: &str =
   fixpgw --version                      the name and the version
   fixpgw --quiet COMMAND ..             accept and connect say on standard error only what is refused, broken or lost
 
-OUT may be -, which is standard output; so may ACCEPTED, where OUT is not. The last line on standard output is `status N NAME`, but where OUT of
-delivered, dump, extends or plan is -, then it is on standard error. N is the exit status: 0 done, 1 words, 2 config, 3 input-fault, 4 output-fault,
+A file that is read may be -, which is standard input: one of a command, and no CONFIG of accept and connect. OUT may be -, which is standard
+output; so may WIRE of encode, and ACCEPTED, where OUT is not. The last line on standard output is `status N NAME`, but where OUT of delivered, dump,
+extends or plan is -, or WIRE of encode, then it is on standard error. N is the exit status: 0 done, 1 words, 2 config, 3 input-fault, 4 output-fault,
 5 journal-fault, 6 journal-bad, 7 dial-fault, 8 unfinished, 9 rejected, 10 full, 11 turns, 12 message, 13 undrained, 14 memory.";
 
 const ACCEPT: &str = "usage: fixpgw accept ADDRESS N CONFIG INPUT OUTBOX INBOX OUT [ACCEPTED]
@@ -54,7 +55,7 @@ and of each line that it is stable, or why it was not sent. OUT is not emptied: 
   ADDRESS  where it listens, as 127.0.0.1:15617
   N        how many connections there may be, 1 to 65535; each counts, also that of a stranger
   CONFIG   the configuration of the session, as TOML (read)
-  INPUT    what the senders send: lines `SENDER HEX` (read, but not where CONFIG has desks); with ACCEPTED - is standard input
+  INPUT    what the senders send: lines `SENDER HEX` (read, but not where CONFIG has desks); - is standard input
   OUTBOX   the journal of what is sent, made by fixpgw format (read and written)
   INBOX    the journal of what is received, likewise
   OUT      a line for each message received and each connection's end (written); - is standard output
@@ -72,7 +73,7 @@ it is stable, or why it was not sent. OUT is not emptied: it goes on behind what
   ADDRESS  where the acceptor listens, as 127.0.0.1:15617
   N        how many connections there may be, 1 to 65535; each counts, however short
   CONFIG   the configuration of the session, as TOML (read)
-  INPUT    what the senders send: lines `SENDER HEX` (read); with ACCEPTED - is standard input
+  INPUT    what the senders send: lines `SENDER HEX` (read); - is standard input
   OUTBOX   the journal of what is sent, made by fixpgw format (read and written)
   INBOX    the journal of what is received, likewise
   OUT      a line for each message received and each connection's end (written); - is standard output
@@ -82,8 +83,8 @@ const ANSWER: &str = "usage: fixpgw answer CONFIG INPUT WIRE OUT
 
 The acceptor's session over the recorded bytes of a client.
 
-  CONFIG   the configuration of the session, as TOML (read)
-  INPUT    the bytes that the client sent (read)
+  CONFIG   the configuration of the session, as TOML (read); - is standard input
+  INPUT    the bytes that the client sent (read); - is standard input, where CONFIG is not
   WIRE     the acceptor's replies (written)
   OUT      a line `deliver N HEX` for each message applied (written); - is standard output";
 
@@ -92,8 +93,8 @@ const MUXANSWER: &str = "usage: fixpgw muxanswer CONFIG INPUT WIRE OUT
 Several acceptors' sessions over the recorded bytes of one client, each of whose frames belongs to the session that the last Context before
 it names. Each session is answered as answer would answer its own frames.
 
-  CONFIG   the sessions, as TOML: a list `session` of 1 to 64 tables, each with the keys of answer (read)
-  INPUT    the bytes that the client sent (read)
+  CONFIG   the sessions, as TOML: a list `session` of 1 to 64 tables, each with the keys of answer (read); - is standard input
+  INPUT    the bytes that the client sent (read); - is standard input, where CONFIG is not
   WIRE     the replies, each behind a Context where another session wrote before (written)
   OUT      `S deliver N HEX` for each message applied by session S, which counts from 1 in CONFIG, and `S violation V` where S broke rule V
            (written); - is standard output";
@@ -102,15 +103,15 @@ const CHECK: &str = "usage: fixpgw check CONFIG OUT
 
 Checks a schema, and prints where everything stands in its messages.
 
-  CONFIG   the schema, as TOML (read)
+  CONFIG   the schema, as TOML (read); - is standard input
   OUT      the layout of its messages (written); - is standard output";
 
 const DECODE: &str = "usage: fixpgw decode CONFIG INPUT OUT
 
 Prints recorded messages as text.
 
-  CONFIG   the schema of the messages, as TOML (read)
-  INPUT    the messages in their frames (read)
+  CONFIG   the schema of the messages, as TOML (read); - is standard input
+  INPUT    the messages in their frames (read); - is standard input, where CONFIG is not
   OUT      the lines of each message (written); - is standard output";
 
 const DELIVERED: &str = "usage: fixpgw delivered SCHEMA LINES OUT
@@ -135,9 +136,9 @@ const ENCODE: &str = "usage: fixpgw encode CONFIG INPUT WIRE
 
 Writes messages from their text. Nothing is written where a line of the text is refused.
 
-  CONFIG   the schema of the messages, as TOML (read)
-  INPUT    the lines of the messages, as decode prints them (read)
-  WIRE     the messages in their frames (written)";
+  CONFIG   the schema of the messages, as TOML (read); - is standard input
+  INPUT    the lines of the messages, as decode prints them (read); - is standard input, where CONFIG is not
+  WIRE     the messages in their frames (written); - is standard output, and then the status goes to standard error";
 
 const EXTENDS: &str = "usage: fixpgw extends NEW OLD OUT
 
@@ -188,7 +189,7 @@ const DATAGRAM: &str = "usage: fixpgw datagram CONFIG OUT
 Numbers messages of a recoverable or an idempotent flow, packs them into datagrams, and delivers these to a receiver as CONFIG lists
 them: each maybe never, maybe several times, in any order. No address is opened.
 
-  CONFIG   the script, as TOML (read)
+  CONFIG   the script, as TOML (read); - is standard input
   OUT      `missing FROM COUNT`, `deliver N` and `late N` as they come, behind each delivery `ask FROM COUNT` where numbers are to be
            sent again, and at the end `next N` (written); - is standard output";
 
@@ -199,7 +200,7 @@ script says: when messages are submitted, how many rounds run, when the connecti
 step it goes on until both ends have finished, and prints what their journals hold. No file is touched but these two, and no address is
 opened.
 
-  CONFIG   the script, as TOML (read)
+  CONFIG   the script, as TOML (read); - is standard input
   OUT      a line for each sender, a line for each end, and `finished` (written); - is standard output";
 
 const SOAK: &str = "usage: fixpgw soak N OUT
@@ -268,7 +269,8 @@ fn connections_of(words: &[String]) -> Option<&str> {
 fn has_two_for_one(words: &[String]) -> bool {
     match words {
         [command, _, _, _, _, _, _, out, accepted] if role_of(command.as_str()).is_some() => {
-            are_both_standard(out.as_str(), accepted.as_str())
+            let (out, accepted) = (out.as_str(), accepted.as_str());
+            are_both_standard(named("OUT", out), named("ACCEPTED", accepted))
         }
         _ => false,
     }
@@ -305,8 +307,5 @@ fn line_of<R: AllocGlobal>(rt: &R, words: &[String]) -> Result<String, AllocErro
 
 /// The report of words that are no listed form.
 pub fn usage_fault<R: AllocGlobal>(rt: &R, words: &[String]) -> Report {
-    Report {
-        status: Status::Words,
-        line: line_of(rt, words).ok(),
-    }
+    Report::told(Status::Words, line_of(rt, words).ok())
 }

@@ -54,7 +54,7 @@ impl<'a> DatagramFiles<'a> {
 
     /// The files that OUT must not be the same as.
     fn others(&self) -> [Named<'a>; 3] {
-        [self.config, self.out, STANDARD_OUTPUT]
+        [self.config.read_from(), self.out, STANDARD_OUTPUT]
     }
 
     /// Adds what is wrong; nothing where the outcome says all.
@@ -114,7 +114,7 @@ fn report_of<R: Files<File = File> + Print + AllocGlobal>(
 ) -> DatagramReport {
     let others = files.others();
     let mut devices = DatagramDevices {
-        config: FileSource::new(rt, rt.alloc(), files.config.path, TEXT_LIMIT + 1),
+        config: FileSource::new(rt, rt.alloc(), files.config.read_path(), TEXT_LIMIT + 1),
         out: out_of(rt, files.out, &others),
     };
     let outcome = run_over(rt.alloc(), &mut devices);

@@ -47,7 +47,12 @@ impl<'a> DumpFiles<'a> {
 
     /// The files that OUT must not be the same as.
     fn others(&self) -> [Named<'a>; 4] {
-        [self.schema, self.input, self.out, STANDARD_OUTPUT]
+        [
+            self.schema.read_from(),
+            self.input.read_from(),
+            self.out,
+            STANDARD_OUTPUT,
+        ]
     }
 
     /// Adds what is wrong; nothing where that is not known.

@@ -49,7 +49,12 @@ impl<'a> ExtendsFiles<'a> {
 
     /// The files that OUT must not be the same as.
     fn others(&self) -> [Named<'a>; 4] {
-        [self.newer, self.older, self.out, STANDARD_OUTPUT]
+        [
+            self.newer.read_from(),
+            self.older.read_from(),
+            self.out,
+            STANDARD_OUTPUT,
+        ]
     }
 
     /// One of the texts, and its device.

@@ -84,7 +84,7 @@ fn kept_out_of<'a, R: Print>(
     out: Named<'a>,
     others: &'a [Named<'a>],
 ) -> AppendedFile<'a, R, Printer<'a, R>> {
-    if out.path == "-" {
+    if out.is_standard() {
         return AppendedFile::printing(rt, io::writer(rt), others);
     }
     AppendedFile::new(rt, out, others)
@@ -179,7 +179,7 @@ fn report_of<
     teller.close();
     let outlook = outlook_of(&status, teller);
     let line = fed_line_of(rt, rt.alloc(), session, &status, &mut said, outlook);
-    Report { status, line }
+    Report::told(status, line)
 }
 
 /// Runs a session over this dialer and these files. The devices are closed when it returns, before anything is printed on standard output.

@@ -118,6 +118,17 @@ fn run_words<R: Threads + Wait + Sync + Clock + Files<File = File> + Print + Epr
     finish(rt, report)
 }
 
+/// What is wrong with the words of a session before anything is opened: its CONFIG is read again while it runs, so that it has to be a file.
+fn refused<R: AllocGlobal>(rt: &R, session: Session<'_>) -> Option<Report> {
+    if !session.config.is_standard() {
+        return None;
+    }
+    let line = format!(in rt.alloc();
+        "CONFIG -: standard input can stand for INPUT alone; ./- names a file"
+    );
+    Some(Report::told(Status::InputFault, line.ok()))
+}
+
 fn main(rt: HostRuntime) -> ExitCode {
     let words = match words_of(&rt) {
         Ok(words) => words,
@@ -131,6 +142,9 @@ fn main(rt: HostRuntime) -> ExitCode {
         let shows_progress = !is_quiet && rt.stderr().is_terminal();
         return run_words(&rt, words, shows_progress);
     };
+    if let Some(report) = refused(&rt, session) {
+        return finish(&rt, report);
+    }
     let (others, journals) = (session.others(), session.journals());
     let files = SessionFiles {
         out_disk: FileDisk::new(&rt, session.outbox, &journals, Opening::Write),
@@ -141,7 +155,7 @@ fn main(rt: HostRuntime) -> ExitCode {
         return finish(&rt, run_over_sockets(&rt, session, files, is_quiet));
     };
     let over = AtomicBool::new(false);
-    let mut input = ComingFile::new(&rt, rt.alloc(), session.input.path, &over);
+    let mut input = ComingFile::new(&rt, rt.alloc(), session.input.read_path(), &over);
     // It would take the number of a standard stream that is closed.
     let held = (hold_stream(&rt), hold_stream(&rt), hold_stream(&rt));
     input.open();

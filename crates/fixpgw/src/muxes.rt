@@ -9,7 +9,7 @@ use say_config::{Wanted, push_config_fault};
 use say_faults::push_malformed;
 use say_session::{push_sink, push_source};
 use schema_toml::TEXT_LIMIT;
-use session_files::push_place;
+use session_files::{TWO_INPUTS, are_both_standard, push_place};
 use sofh_frame::{FirstFrame, ROOM, next};
 use std::alloc::{AllocError, Global};
 use std::fs::File;
@@ -65,8 +65,8 @@ impl<'a> MuxFiles<'a> {
     /// The files that an output must not be the same as.
     fn others(&self) -> [Named<'a>; 5] {
         [
-            self.config,
-            self.input,
+            self.config.read_from(),
+            self.input.read_from(),
             self.wire,
             self.out,
             STANDARD_OUTPUT,
@@ -198,10 +198,17 @@ fn report_of<R: Wait + Files<File = File> + Print + AllocGlobal>(
     rt: &R,
     files: MuxFiles<'_>,
 ) -> MuxReport {
+    if are_both_standard(files.config, files.input) {
+        let line = format!(in rt.alloc(); "{TWO_INPUTS}");
+        return MuxReport {
+            outcome: Outcome::InputFault,
+            line: line.ok(),
+        };
+    }
     let others = files.others();
     let mut devices = MuxDevices {
-        config: FileSource::new(rt, rt.alloc(), files.config.path, TEXT_LIMIT + 1),
-        input: FileSource::new(rt, rt.alloc(), files.input.path, ROOM),
+        config: FileSource::new(rt, rt.alloc(), files.config.read_path(), TEXT_LIMIT + 1),
+        input: FileSource::new(rt, rt.alloc(), files.input.read_path(), ROOM),
         wire: FileSink::new(rt, files.wire, &others),
         out: out_of(rt, files.out, &others),
     };

@@ -1,14 +1,12 @@
 //! What the commands that stand in pipes share: `-` for an input, and how they end.
 
+use cmd_files::print_status;
 use cmd_run::Status;
 use gw_real::{Named, Reason};
 use session_files::push_place;
 use std::alloc::AllocError;
 use std::io::{self, ErrorKind};
 use std::process::ExitCode;
-
-/// The path of standard input.
-const STANDARD_INPUT: &str = "/dev/stdin";
 
 /// How a run ended.
 #[derive(Drop)]
@@ -33,11 +31,7 @@ pub fn named<'a>(role: &'static str, word: &'a String) -> Named<'a> {
 
 /// The path of an input; `-` is standard input.
 pub fn input_path<'a>(input: Named<'a>) -> &'a str {
-    if input.path == "-" {
-        STANDARD_INPUT
-    } else {
-        input.path
-    }
+    input.read_path()
 }
 
 /// Adds why an input could not be read.
@@ -85,12 +79,7 @@ pub fn finish_piped<R: Print + Eprint>(rt: &R, out: Named<'_>, ended: &Ended) ->
         return ExitCode::from(0);
     }
     let (code, name) = (ended.code, ended.name);
-    let printed = if out.path == "-" {
-        eprintln!(rt; "status {code} {name}")
-    } else {
-        println!(rt; "status {code} {name}")
-    };
-    if let Err(error) = printed {
+    if let Err(error) = print_status(rt, out.is_standard(), code, name) {
         let _ = eprintln!(rt; "fixpgw: standard output: {error}");
         return ExitCode::from(Status::OutputFault.code());
     }

@@ -113,7 +113,12 @@ impl<'a> PlanFiles<'a> {
 
     /// The files that OUT must not be the same as.
     fn others(&self) -> [Named<'a>; 4] {
-        [self.schema, self.text, self.out, STANDARD_OUTPUT]
+        [
+            self.schema.read_from(),
+            self.text.read_from(),
+            self.out,
+            STANDARD_OUTPUT,
+        ]
     }
 
     /// Adds what is wrong; nothing where that is not known. TEXT is read again for that, where it is a file.
@@ -142,7 +147,7 @@ impl<'a> PlanFiles<'a> {
                 wrong,
             } => {
                 let plan = load(rt.alloc(), schema).ok();
-                let text = text_of_file(rt, rt.alloc(), self.text.path);
+                let text = text_of_file(rt, rt.alloc(), input_path(self.text));
                 push_place(line, self.text)?;
                 push_unplanned(
                     rt.alloc(),

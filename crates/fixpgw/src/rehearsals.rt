@@ -59,7 +59,7 @@ impl<'a> RehearsalFiles<'a> {
 
     /// The files that OUT must not be the same as.
     fn others(&self) -> [Named<'a>; 3] {
-        [self.config, self.out, STANDARD_OUTPUT]
+        [self.config.read_from(), self.out, STANDARD_OUTPUT]
     }
 
     /// Adds what is wrong; nothing where the outcome says all.
@@ -129,7 +129,7 @@ fn report_of<R: Threads + Wait + Sync + Clock + Files<File = File> + Print + Epr
 ) -> RehearsalReport {
     let others = files.others();
     let mut devices = RehearseDevices {
-        config: FileSource::new(rt, rt.alloc(), files.config.path, TEXT_LIMIT + 1),
+        config: FileSource::new(rt, rt.alloc(), files.config.read_path(), TEXT_LIMIT + 1),
         out: out_of(rt, files.out, &others),
     };
     let mut progress = Progress::new(rt, shows_progress);

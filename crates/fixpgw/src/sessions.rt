@@ -14,6 +14,7 @@ use gw_watch::{Approaches, HasPeer, Pauses, WatchedDialer, WatchedSink, WatchedS
 use say_live::Teller;
 use say_session::{Said, SaysWhy, line_of};
 use schema_toml::TEXT_LIMIT;
+pub use session_files::out_of;
 use session_files::{Outlook, Session};
 use std::alloc::Global;
 use std::fs::File;
@@ -40,18 +41,6 @@ pub struct SessionFiles<'a, D> {
     pub others: &'a [Named<'a>],
 }
 
-/// The device for OUT; `-` is standard output.
-pub fn out_of<'a, R: Print>(
-    rt: &'a R,
-    out: Named<'a>,
-    others: &'a [Named<'a>],
-) -> FileSink<'a, R, File, Printer<'a, R>> {
-    if out.path == "-" {
-        return FileSink::printing(rt, io::writer(rt), others);
-    }
-    FileSink::new(rt, out, others)
-}
-
 /// The devices of a session over this dialer and these files, watched by this teller.
 fn devices<'a, 't, R: Clock + Files<File = File> + Print + AllocGlobal, D, N>(
     rt: &'a R,
@@ -69,7 +58,7 @@ fn devices<'a, 't, R: Clock + Files<File = File> + Print + AllocGlobal, D, N>(
         others,
     } = files;
     let config = FileSource::new(rt, alloc, session.config.path, TEXT_LIMIT + 1);
-    let input = FileSource::new(rt, alloc, session.input.path, 0);
+    let input = FileSource::new(rt, alloc, session.input.read_path(), 0);
     SessionOutside {
         config: WatchedSource::new(rt, config, teller),
         input: WatchedSource::new(rt, input, teller),
@@ -145,7 +134,7 @@ fn report_of<
     teller.close();
     let outlook = outlook_of(&status, teller);
     let line = line_of(rt, rt.alloc(), session, &status, &mut said, outlook);
-    Report { status, line }
+    Report::told(status, line)
 }
 
 /// Runs a session over this dialer and these files. The devices are closed when it returns, before anything is printed on

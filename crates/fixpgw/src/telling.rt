@@ -52,7 +52,12 @@ impl<'a> DeliveredFiles<'a> {
 
     /// The files that OUT must not be the same as.
     fn others(&self) -> [Named<'a>; 4] {
-        [self.schema, self.lines, self.out, STANDARD_OUTPUT]
+        [
+            self.schema.read_from(),
+            self.lines.read_from(),
+            self.out,
+            STANDARD_OUTPUT,
+        ]
     }
 
     /// Adds what is wrong; nothing where that is not known. LINES are read again for that, where they are a file.
@@ -81,7 +86,7 @@ impl<'a> DeliveredFiles<'a> {
                 wrong,
             } => {
                 let plan = load(rt.alloc(), schema).ok();
-                let lines = text_of_file(rt, rt.alloc(), self.lines.path);
+                let lines = text_of_file(rt, rt.alloc(), input_path(self.lines));
                 push_place(line, self.lines)?;
                 push_told_fault(line, plan.as_ref(), lines.as_deref(), *number, wrong)
             }

@@ -29,6 +29,8 @@ pub enum DiskReason<'a> {
     Foreign,
     /// It is a pipe, which has no places.
     Pipe,
+    /// It is `-`, which is no file.
+    Standard,
 }
 
 impl From<io::Error> for DiskReason<'_> {
@@ -364,6 +366,7 @@ impl<'a, R: Files<File = File>> FileDisk<'a, R> {
             return;
         };
         let Opened { file, is_new } = match self.opening {
+            _ if self.name.is_standard() => standing(Err(DiskReason::Standard)),
             Opening::Read => standing(found(self.rt, self.name, self.others, false)),
             Opening::Write => standing(found(self.rt, self.name, self.others, true)),
             Opening::Make(_) | Opening::Begin(_) => {

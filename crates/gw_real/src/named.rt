@@ -13,6 +13,34 @@ pub struct Named<'a> {
     pub path: &'a str,
 }
 
+/// The path that stands for standard input where a file is read, and for standard output where one is written.
+const STANDARD: &str = "-";
+
+/// The path of standard input.
+const STANDARD_INPUT: &str = "/dev/stdin";
+
+impl<'a> Named<'a> {
+    /// Whether it is `-`. A file of that name is `./-`.
+    pub fn is_standard(self) -> bool {
+        self.path == STANDARD
+    }
+
+    /// It, as a file that is read and that an output must not be: `-` is standard input.
+    pub fn read_from(self) -> Named<'a> {
+        let path = if self.is_standard() {
+            STANDARD_INPUT
+        } else {
+            self.path
+        };
+        Named { path, ..self }
+    }
+
+    /// The path of a file that is read: `-` is standard input.
+    pub fn read_path(self) -> &'a str {
+        self.read_from().path
+    }
+}
+
 /// Standard output, as one of the files that an output must not be.
 pub const STANDARD_OUTPUT: Named<'static> = Named {
     role: "standard output",

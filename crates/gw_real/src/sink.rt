@@ -105,7 +105,7 @@ fn emptied<'a, R: Files>(
     name: Named<'a>,
     others: &'a [Named<'a>],
 ) -> Result<R::File, Reason<'a>> {
-    if name.path == "-" {
+    if name.is_standard() {
         return Err(Reason::NotHere);
     }
     let file = OpenOptions::new()

@@ -52,6 +52,9 @@ pub fn push_disk(
             line.push_str("neither empty nor a journal, so it is left as it is")
         }
         DiskReason::Pipe => line.push_str("a pipe, and a journal is read and written at places"),
+        DiskReason::Standard => {
+            line.push_str("standard input and output can stand for no journal; ./- names a file")
+        }
     }
 }
 

@@ -27,7 +27,7 @@ pub fn push_missing<R: Files>(
     name: Named<'_>,
     other: Named<'_>,
 ) -> Result<(), AllocError> {
-    if !is_missing(rt, name.path) {
+    if name.is_standard() || !is_missing(rt, name.path) {
         return Ok(());
     }
     if !has_records(rt, other.path) {

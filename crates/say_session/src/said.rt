@@ -62,7 +62,7 @@ fn plans_again<R: Files<File = File>>(
     session: Session<'_>,
     config: &[u8],
 ) -> Option<Plans> {
-    let text = text_of_file(rt, alloc, session.input.path)?;
+    let text = text_of_file(rt, alloc, session.input.read_path())?;
     let senders = senders_of(alloc, session.role, config)?;
     Some(Plans { senders, text })
 }

@@ -4,11 +4,13 @@
 mod outlook;
 mod place;
 mod session;
+mod standard;
 mod text;
 mod walk;
 
 pub use outlook::Outlook;
 pub use place::{push_name, push_place};
-pub use session::{Session, are_both_standard, named, role_of};
+pub use session::{Session, named, role_of};
+pub use standard::{TWO_INPUTS, are_both_standard, out_of};
 pub use text::{is_file, text_of_file};
 pub use walk::{AtPlace, Walked, entry_at, walk_journal};

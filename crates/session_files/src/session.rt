@@ -1,5 +1,6 @@
 //! What the words of a session name.
 
+use crate::standard::are_both_standard;
 use cmd_config::Role;
 use gw_real::{Named, STANDARD_OUTPUT};
 use text_words::positive;
@@ -25,12 +26,6 @@ pub struct Session<'a> {
     pub accepted: Option<Named<'a>>,
 }
 
-/// The path of standard input.
-const STANDARD_INPUT: &str = "/dev/stdin";
-
-/// The path that stands for standard input or output, where one of these may be meant.
-const STANDARD: &str = "-";
-
 /// The role of a command, if it runs a session over connections.
 pub fn role_of(command: &str) -> Option<Role> {
     match command {
@@ -38,11 +33,6 @@ pub fn role_of(command: &str) -> Option<Role> {
         "connect" => Some(Role::Initiator),
         _ => None,
     }
-}
-
-/// Whether OUT and ACCEPTED would both be standard output.
-pub fn are_both_standard(out: &str, accepted: &str) -> bool {
-    out == STANDARD && accepted == STANDARD
 }
 
 impl<'a> Session<'a> {
@@ -63,13 +53,14 @@ impl<'a> Session<'a> {
                 out,
                 accepted,
             ] => {
-                if are_both_standard(out.as_str(), accepted.as_str()) {
-                    return None;
-                }
+                let accepted = named("ACCEPTED", accepted.as_str());
                 let files = [config, input, outbox, inbox, out];
                 let session = Session::by_plans(command, address, most, files)?;
+                if are_both_standard(session.out, accepted) {
+                    return None;
+                }
                 Some(Session {
-                    accepted: Some(named("ACCEPTED", accepted.as_str())),
+                    accepted: Some(accepted),
                     ..session
                 })
             }
@@ -100,19 +91,11 @@ impl<'a> Session<'a> {
         })
     }
 
-    /// INPUT, as a file that an output must not be: `-` is standard input where INPUT is read as it comes.
-    fn input_file(&self) -> Named<'a> {
-        match self.accepted {
-            Some(_) if self.input.path == STANDARD => named(self.input.role, STANDARD_INPUT),
-            _ => self.input,
-        }
-    }
-
     /// The files that OUT and ACCEPTED must not be the same as, each but itself.
     pub fn others(&self) -> [Named<'a>; 7] {
         [
             self.config,
-            self.input_file(),
+            self.input.read_from(),
             self.out,
             self.accepted.unwrap_or(self.out),
             self.outbox,
