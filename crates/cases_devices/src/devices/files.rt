@@ -34,6 +34,7 @@ fn reason<R>(disk: &FileDisk<'_, R>) -> &'static str {
         Some(DiskReason::TooLong) => "TooLong",
         Some(DiskReason::Foreign) => "Foreign",
         Some(DiskReason::Pipe) => "Pipe",
+        Some(DiskReason::Standard) => "Standard",
         None => "none",
     }
 }
