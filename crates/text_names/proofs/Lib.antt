@@ -1,0 +1,15 @@
+pub mod Bits
+pub mod Blanks
+pub mod Bytes
+pub mod Contexts
+pub mod Cuts
+pub mod Kept
+pub mod Lined
+pub mod Narrowing
+pub mod Numerals
+pub mod Passing
+pub mod Quoting
+pub mod Shown
+pub mod ShownBack
+pub mod Taken
+pub mod Walk

@@ -1,0 +1,6 @@
+use Rattle.std.proofs.Common.{◌≡◌}
+use Rattle.text_names.specs.Bare.{unindented}
+use Rattle.text_names.proofs.bare.unindented.Given as goal
+
+abbrev pub invariant-loop-left : goal.invariant-loop-left
+invariant-loop-left l = unindented l.left ≡ unindented l.initial.left
