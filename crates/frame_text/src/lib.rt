@@ -5,5 +5,5 @@
 mod held;
 mod unread;
 
-pub use held::push_held;
+pub use held::{push_application, push_held};
 pub use unread::Held;

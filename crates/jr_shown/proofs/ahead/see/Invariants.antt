@@ -1,0 +1,17 @@
+use Rattle.std.proofs.Common.{◌≡◌, ◌≤◌, List}
+use Rattle.jr_dated.specs.declared.formats.Format.TheVariants.{Two}
+use Rattle.jr_dated.specs.Dated.{Dated}
+use Rattle.jr_stream.specs.Reading.{HasTaken}
+use Rattle.jr_shown.specs.Progress.{Counts}
+use Rattle.jr_shown.proofs.ahead.see.Given as goal
+
+abbrev pub invariant-loop-seen : goal.invariant-loop-seen
+invariant-loop-seen g l =
+    let left = g.S.Source.left in
+    record {
+      records : List Dated;
+      taken : HasTaken (left l.fn.journal) (left l.journal) records l.reader;
+      format : l.reader.format ≡ Two;
+      counts : Counts records l.seen;
+      counted : g.S.Source.faults l.fn.journal ≤ g.S.Source.faults l.journal;
+    }
