@@ -1,0 +1,4 @@
+pub mod Quiet
+pub mod Calling
+pub mod Paying
+pub mod Holding
