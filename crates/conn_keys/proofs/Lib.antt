@@ -1,0 +1,4 @@
+mod Bytes
+mod Classes
+mod Standing
+mod Turning
