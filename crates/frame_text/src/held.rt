@@ -10,10 +10,9 @@ ghost use Rattle.frame_text.specs.Held.{application_lines, held_lines, session_l
 use crate::unread::{Held, push_faulty, push_no_template, push_unread};
 use fixp_msgs::{FrameKind, MsgFault, kind, read, spelled_is_found};
 use fixp_text::push_session;
-use sbe_decode::{DecodeError, decode};
-use sbe_grammar::read_fits;
+use sbe_decode::DecodeError;
 use sbe_layout::Plan;
-use sbe_text::write_named_lines;
+use sbe_text::{Draft, print_named_wire};
 use std::alloc::{AllocError, Global};
 
 /// Adds the lines of an application message.
@@ -27,7 +26,6 @@ fn push_application(
     requires short { length held.message.now ≤ 2 ^ 20 }
     ensures { OnOk result (lines.new.items ≡ lines.old.items ++ application_lines plan.now (record { order = held.entry.order; message = held.entry.message.now })) }
 {
-    read_fits();
     if held.order != plan.order {
         return push_unread(
             lines,
@@ -35,8 +33,9 @@ fn push_application(
             b"it is in the other byte order than the schema",
         );
     }
-    match decode(alloc, plan, held.message) {
-        Ok(message) => write_named_lines(alloc, plan, &message, lines),
+    let mut draft = Draft::new(alloc);
+    match print_named_wire(alloc, plan, held.message, &mut draft, lines) {
+        Ok(()) => Ok(()),
         Err(DecodeError::Fault(fault)) => push_faulty(lines, held, fault),
         Err(DecodeError::Memory) => Err(AllocError),
     }

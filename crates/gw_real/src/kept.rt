@@ -22,14 +22,26 @@ impl Kept {
 
     /// Adds bytes that were given.
     pub fn add(&mut self, piece: &[u8]) {
-        if self.bytes.len() > self.most.saturating_mul(2) {
-            let past = self.bytes.len() - self.most;
-            let _ = self.bytes.drain(..past);
+        if piece.len() >= self.most {
+            self.bytes.clear();
+        } else if self.bytes.len() > self.most.saturating_mul(2) {
+            self.keep_last();
         }
         if self.bytes.extend_from_slice(piece).is_err() {
             self.bytes.clear();
         }
         self.given = self.given.saturating_add(piece.len() as u64);
+    }
+
+    // Drops all but the last `most` bytes, which are copied as a whole where more than twice as many are there.
+    fn keep_last(&mut self) {
+        let past = self.bytes.len().saturating_sub(self.most);
+        let (front, last) = self.bytes.as_mut_slice().split_at_mut(past);
+        if last.len() <= front.len() {
+            let (place, _) = front.split_at_mut(last.len());
+            place.copy_from_slice(last);
+        }
+        self.bytes.truncate(self.most);
     }
 
     /// The bytes.

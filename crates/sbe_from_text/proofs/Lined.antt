@@ -1,50 +1,46 @@
 -- Numbers on lines, and the items and the data of lines.
-use Rattle.std.proofs.Common.{◌≡◌, ℕ, zero, suc, ◌+◌, ◌-◌, ◌^◌, ◌<◌, ◌≤◌, ◌==◌, Bool, true, false, not, ◌&&◌, if◌then◌else◌, Option, Some, None, Ok, Err, List, [], ◌∷◌, ◌++◌, length, take, drop, get_or, refl, ap, sym, ◌∙◌, subst, arith, append_assoc, pos, ◌≢◌, inl, inr, codes}
-use Rattle.std.specs.Prelude.{nat_le, ◌||◌, ◌⊎◌}
-use Rattle.std.specs.Str.{bytes_eq}
+use Rattle.std.proofs.Common.{◌≡◌, ℕ, zero, suc, ◌-◌, ◌^◌, ◌<◌, ◌≤◌, ◌==◌, Bool, true, false, not, ◌&&◌, if◌then◌else◌, Option, Some, None, Ok, Err, List, [], ◌∷◌, ◌++◌, length, take, drop, get_or, refl, ap, sym, ◌∙◌, arith, append_assoc, pos, ◌≢◌, inl, inr, codes}
+use Rattle.std.specs.Prelude.{nat_le, ◌||◌, ◌⊎◌, IfSome}
+use Rattle.std.specs.Borrow.{Bor}
 use Rattle.std.specs.Str.Parse.{digits_value}
 use Rattle.std.specs.Option.{option_map}
 use Rattle.std.proofs.lemmas.Bool.Decides.{nat_tests, Decides-eqb}
 use Rattle.std.proofs.Math.Seq.{take-length}
 use Rattle.std.proofs.lemmas.List.{take-append-drop}
-use Rattle.std.proofs.lemmas.Slice.Eq.{bytes_eq-Decides}
 use Rattle.sbe_prim.specs.declared.Order.{Order}
 use Rattle.sbe_value.specs.declared.item.Item.{Item}
 use Rattle.sbe_value.specs.declared.item.Item.TheVariants.{Num, Null, Absent}
-use Rattle.sbe_value.specs.declared.datum.Datum.{Datum}
 use Rattle.sbe_layout.specs.declared.items.ItemPlan.{ItemPlan}
-use Rattle.sbe_layout.specs.declared.items.DataPlan.{DataPlan}
 use Rattle.sbe_layout.specs.declared.listings.Listing.{Listing}
-use Rattle.sbe_grammar.specs.Fits.{Form, number, form_of, has_form}
+use Rattle.sbe_grammar.specs.Fits.{number, form_of, has_form}
 use Rattle.sbe_grammar.specs.Canonical.{is_absent, is_admitted, item_bytes}
 use Rattle.sbe_encode.specs.declared.fault.EncodeFault.{EncodeFault}
 use Rattle.sbe_encode.specs.declared.fault.EncodeFault.TheVariants.{Range}
 use Rattle.sbe_value.specs.declared.path.Step.TheVariants.{Key}
-use Rattle.sbe_encode.specs.Faults.{shape_of, item_fault, datum_fault}
+use Rattle.sbe_encode.specs.Faults.{shape_of, item_fault}
 use Rattle.text_words.specs.Lines.{lines_in}
 use Rattle.sbe_text.specs.declared.token.Count.TheVariants as count
 use Rattle.sbe_text.specs.Held.{is_word}
 use Rattle.sbe_text.specs.Read.{Read, next, taken, read_line}
-use Rattle.sbe_text.specs.Tokens.{AreInFront, also, behind, value_on, is_digit, are_digits, held, natural_of, number_of, positive, negative, present_of, value_of, datum_of, count_of}
+use Rattle.sbe_text.specs.Tokens.{AreInFront, also, value_on, is_digit, are_digits, held, natural_of, number_of, positive, negative, present_of, value_of, count_of}
 use Rattle.sbe_text.specs.Written.{element_line}
-use Rattle.sbe_text.specs.Reading.{read_element, read_item, read_datum}
+use Rattle.sbe_text.specs.Reading.{read_element, read_item}
 use Rattle.sbe_text.proofs.Texts.{both_left, both, other_first, digit_no}
 use Rattle.sbe_text.proofs.Printed.{digits_word, element_back}
-use Rattle.sbe_from_text.specs.Written.{written, datum_bytes}
+use Rattle.sbe_from_text.specs.Written.{written}
 use Rattle.sbe_from_text.proofs.Parts.{made, left_behind}
 
 -- ---- the parts of a line
 
--- what stands behind a front, stands behind it
-pub behind_is : (front bytes rest : List ℕ) → Some rest ≡ behind front bytes → bytes ≡ front ++ rest
-behind_is front bytes rest h =
-    let P : Bool → Type 0 = λ t. bytes_eq (take (length front) bytes) front ≡ t → Some rest ≡ (if t then Some (drop (length front) bytes) else None) → bytes ≡ front ++ rest in
-    elim (bytes_eq (take (length front) bytes) front) as P [
-      | true ↦ λ same e.
-          let tail : drop (length front) bytes ≡ rest = cc in
-          sym (take-append-drop (length front) bytes) ∙ ap (λ z. z ++ drop (length front) bytes) ((bytes_eq-Decides (take (length front) bytes) front).0 same) ∙ ap (λ z. front ++ z) tail
-      | false ↦ λ same e. absurd (cc)
-    ] refl h
+-- eight bytes in front are the same, and so are those behind them
+pub path_front : (path text first front others rest : List ℕ) → first ≡ take 8 path → others ≡ drop 8 path → front ≡ take 8 text → rest ≡ drop 8 text → first ≡ front → (behind : Option (Bor (List ℕ))) → IfSome behind (λ b. rest ≡ others ++ b.now) → IfSome behind (λ b. text ≡ path ++ b.now)
+path_front path text first front others rest a b c d same None h = h
+path_front path text first front others rest a b c d same (Some x) h =
+    sym (take-append-drop 8 text)
+    ∙ ap (λ z. z ++ drop 8 text) (sym c ∙ sym same ∙ a)
+    ∙ ap (λ z. take 8 path ++ z) (sym d ∙ h ∙ ap (λ z. z ++ x.now) b)
+    ∙ sym (append_assoc (take 8 path) (drop 8 path) x.now)
+    ∙ ap (λ z. z ++ x.now) (take-append-drop 8 path)
 
 pub line_found : (before name left own rest text behind_number : List ℕ) (k n : ℕ) → is_word before ≡ true → is_word name ≡ true → left ≡ before ++ own → own ≡ name ++ rest → rest ≡ codes " = " ++ text → natural_of (take k text) ≡ Some n → is_word (take k text) ≡ true → drop k text ≡ 10 ∷ behind_number → read_element before name natural_of (lines_in left) ≡ Ok (n, lines_in behind_number)
 line_found before name left own rest text behind_number k n w v a b c told digits end =
@@ -66,6 +62,16 @@ first_and_rest (x ∷ xs) b long is =
     let count : length (x ∷ xs) - 1 ≡ length xs = omega arith in
     let all : take (length (x ∷ xs) - 1) xs ≡ xs = ap (λ n. take n xs) count ∙ take-length xs in
     ap (λ y. y ∷ xs) is ∙ ap (λ ys. b ∷ ys) (sym all)
+
+-- what stands between a path and its value, and the bytes behind it
+pub equals_and_rest : (bytes : List ℕ) → 3 ≤ length bytes → get_or bytes 0 0 ≡ 32 → get_or bytes 1 0 ≡ 61 → get_or bytes 2 0 ≡ 32 → bytes ≡ codes " = " ++ take (length bytes - 3) (drop 3 bytes)
+equals_and_rest [] long x y z = absurd (omega arith)
+equals_and_rest (a ∷ []) long x y z = absurd (omega arith)
+equals_and_rest (a ∷ b ∷ []) long x y z = absurd (omega arith)
+equals_and_rest (a ∷ b ∷ c ∷ xs) long x y z =
+    let count : length (a ∷ b ∷ c ∷ xs) - 3 ≡ length xs = omega arith in
+    let all : take (length (a ∷ b ∷ c ∷ xs) - 3) xs ≡ xs = ap (λ n. take n xs) count ∙ take-length xs in
+    ap (λ n. n ∷ b ∷ c ∷ xs) x ∙ ap (λ n. 32 ∷ n ∷ c ∷ xs) y ∙ ap (λ n. 32 ∷ 61 ∷ n ∷ xs) z ∙ ap (λ ys. 32 ∷ 61 ∷ 32 ∷ ys) (sym all)
 
 -- ---- the number in front of a text
 

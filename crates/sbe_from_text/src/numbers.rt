@@ -1,12 +1,12 @@
 //! Numbers without a sign, on lines whose path is awaited. No end of a line is sought: a path and digits have none.
 
-ghost use Rattle.std.specs.Prelude.{◌≡◌, ◌≤◌, true, Some, Ok, IfSome, length, take};
+ghost use Rattle.std.specs.Prelude.{◌≡◌, ◌↔◌, ◌≤◌, ◌++◌, true, Some, Ok, IfSome, IsTrue, length, take};
 ghost use Rattle.text_words.specs.Lines.{lines_in};
 ghost use Rattle.sbe_text.specs.Held.{is_word};
 ghost use Rattle.sbe_text.specs.Tokens.{natural_of};
 ghost use Rattle.sbe_text.specs.Reading.{read_element};
 
-use sbe_text::{behind, leading_digits};
+use sbe_text::leading_digits;
 
 /// Whether bytes are a word: no line feed and no carriage return is among them.
 pub fn is_word(bytes: &[u8]) -> bool
@@ -36,18 +36,54 @@ fn leading_natural(text: &[u8]) -> Option<(u64, usize)>
     Some((number, count))
 }
 
+// Whether eight bytes are eight others.
+fn same_eight(bytes: &[u8; 8], others: &[u8; 8]) -> bool
+    ensures { IsTrue result ↔ (bytes.now ≡ others.now) }
+{
+    u64::from_le_bytes(*bytes) == u64::from_le_bytes(*others)
+}
+
+// The text behind a word that stands in front. None too where the word has a byte below a blank.
+fn behind_word<'a>(word: &[u8], text: &'a [u8]) -> Option<&'a [u8]>
+    ensures front { IfSome result (λ rest. text.now ≡ word.now ++ rest.now) }
+    ensures word { IfSome result (λ _. is_word word.now ≡ true) }
+{
+    if text.len() < word.len() {
+        return None;
+    }
+    for (at, byte) in word.iter().enumerate() {
+        if text[at] != *byte || *byte < b' ' {
+            return None;
+        }
+    }
+    Some(&text[word.len()..])
+}
+
+// The same of a longer word, of which eight bytes are compared at once.
+fn behind_path<'a>(path: &[u8], text: &'a [u8]) -> Option<&'a [u8]>
+    ensures { IfSome result (λ rest. text.now ≡ path.now ++ rest.now) }
+{
+    let Some((first, others)) = path.split_first_chunk::<8>() else {
+        return behind_word(path, text);
+    };
+    let (front, rest) = text.split_first_chunk::<8>()?;
+    if !same_eight(first, front) {
+        return None;
+    }
+    behind_word(others, rest)
+}
+
 /// The number on the first line of a text, behind the path of an element, and the text behind that line. None where another line
-/// stands there, or such a number that more than 64 bits hold; and where the element's name is no word.
+/// stands there, or such a number that more than 64 bits hold; and where the path has a byte below a blank.
 pub fn natural_line<'a>(before: &[u8], name: &[u8], left: &'a [u8]) -> Option<(u64, &'a [u8])>
     requires { is_word before.now ≡ true }
     ensures { IfSome result (λ x. read_element before.now name.now natural_of (lines_in left.now) ≡ Ok (x.0, lines_in x.1.now)) }
 {
-    if !is_word(name) {
+    let own = behind_path(before, left)?;
+    let rest = behind_word(name, own)?;
+    let [b' ', b'=', b' ', text @ ..] = rest else {
         return None;
-    }
-    let own = behind(before, left)?;
-    let rest = behind(name, own)?;
-    let text = behind(b" = ", rest)?;
+    };
     let (number, count) = leading_natural(text)?;
     let (_, rest) = text.split_at(count);
     let [b'\n', rest @ ..] = rest else {

@@ -15,13 +15,17 @@ use Rattle.sbe_grammar.specs.Reading.{Read, Entry, message_in}
 use Rattle.sbe_decode.specs.declared.error.DecodeError.{DecodeError}
 use Rattle.sbe_decode.specs.Answers.{Gives}
 use Rattle.sbe_decode.specs.Walks.{along}
-use Rattle.sbe_text.specs.Written.{element_line, item_lines, lines_of_data, group_lines, entry_lines, message_lines, lines_of_message}
+use Rattle.sbe_text.specs.Written.{element_line, item_lines, lines_of_data, group_lines, entry_lines, message_lines}
 
--- the bytes spell a message, and its lines are added
-pub record HasAdded (schema : Plan) (bytes old new : List ℕ) : Type 0 where
+-- the bytes spell a message, and its lines are added, with names by listings
+pub record HasNamed (listings : List Listing) (schema : Plan) (bytes old new : List ℕ) : Type 0 where
   pub message : Message
   pub spelled : message_in schema bytes ≡ Ok message
-  pub added : new ≡ old ++ lines_of_message schema message
+  pub added : new ≡ old ++ message_lines listings message (message_of message.template schema.messages)
+
+-- the same without names
+abbrev pub HasAdded : Plan → List ℕ → List ℕ → List ℕ → Type 0
+HasAdded schema bytes old new = HasNamed [] schema bytes old new
 
 -- the lines of what is read of a whole message, with names by listings
 abbrev pub lines_told : List Listing → Plan → Result Message DecodeFault → Result (List ℕ) DecodeFault

@@ -23,4 +23,4 @@ pub use path::{names_begin, open_entry, open_group};
 pub use print::{print_message, write_lines, write_named_lines};
 pub use spare::Spare;
 pub use token::{Count, behind, datum, entry_count, leading_digits, value};
-pub use wire::{Draft, print_wire};
+pub use wire::{Draft, print_named_wire, print_wire};

@@ -168,7 +168,10 @@ pub fn write_path(before: &[u8], name: &Bytes, lines: &mut Vec<u8>) -> Result<()
 {
     lines.extend_from_slice(before)?;
     lines.extend_from_slice(name.as_slice())?;
-    lines.extend_from_slice(b" = ")
+    lines.push(b' ')?;
+    lines.push(b'=')?;
+    lines.push(b' ')?;
+    Ok(())
 }
 
 fn write_data(

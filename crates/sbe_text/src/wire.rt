@@ -11,7 +11,7 @@ ghost use Rattle.sbe_decode.specs.declared.error.DecodeError.TheVariants.{Fault}
 ghost use Rattle.sbe_decode.specs.Answers.{Gives};
 ghost use Rattle.sbe_decode.specs.Walks.{read_parts};
 ghost use Rattle.sbe_text.specs.Written.{datum_text, element_line, message_line, item_lines, lines_of_data, group_lines, entry_lines};
-ghost use Rattle.sbe_text.specs.Wire.{HasAdded, lines_told, lines_of_group, lines_of_block, Prints};
+ghost use Rattle.sbe_text.specs.Wire.{HasAdded, HasNamed, lines_told, lines_of_group, lines_of_block, Prints};
 
 use crate::path::{open_entry, open_group};
 use crate::print::{write_count, write_item, write_name, write_path};
@@ -23,6 +23,12 @@ use sbe_decode::{
 use sbe_layout::{BlockPlan, DataPlan, GroupPlan, ItemPlan, Listing, Plan};
 use sbe_value::Block;
 use std::alloc::{AllocError, Global};
+
+/// How many bytes a draft has room for from its first message on, of what stands before names.
+const NAMES: usize = 64;
+
+/// The same of lines.
+const LINES: usize = 1024;
 
 /// Room for the lines of one message after another.
 #[derive(Drop)]
@@ -49,6 +55,8 @@ impl Draft {
     {
         self.names.clear();
         self.lines.clear();
+        self.names.reserve(NAMES)?;
+        self.lines.reserve(LINES)?;
         write_name(name, &mut self.lines)
     }
 }
@@ -68,7 +76,41 @@ pub fn print_wire(
     ensures fault { (f : DecodeFault) → result ≡ Err (Fault f) → message_in plan.now message.now ≡ Err f }
     ensures kept { OnErr result (lines.new.items ≡ lines.old.items) }
 {
-    print_message(alloc, &[], plan, message, draft)?;
+    add_message(alloc, &[], plan, message, draft, lines)
+}
+
+/// Adds these lines with names: ` NAME` behind the number of an enum, and behind that of a set one for each bit that is set.
+///
+/// # Errors
+/// Those of [`print_wire`].
+pub fn print_named_wire(
+    alloc: Global,
+    plan: &Plan,
+    message: &[u8],
+    draft: &mut Draft,
+    lines: &mut Vec<u8>,
+) -> Result<(), DecodeError>
+    ensures lines { OnOk result (HasNamed plan.now.listings plan.now message.now lines.old.items lines.new.items) }
+    ensures fault { (f : DecodeFault) → result ≡ Err (Fault f) → message_in plan.now message.now ≡ Err f }
+    ensures kept { OnErr result (lines.new.items ≡ lines.old.items) }
+{
+    add_message(alloc, plan.listings.as_slice(), plan, message, draft, lines)
+}
+
+// Adds the lines of a message, with names by listings.
+fn add_message(
+    alloc: Global,
+    listings: &[Listing],
+    plan: &Plan,
+    message: &[u8],
+    draft: &mut Draft,
+    lines: &mut Vec<u8>,
+) -> Result<(), DecodeError>
+    ensures lines { OnOk result (HasNamed listings.now plan.now message.now lines.old.items lines.new.items) }
+    ensures fault { (f : DecodeFault) → result ≡ Err (Fault f) → message_in plan.now message.now ≡ Err f }
+    ensures kept { OnErr result (lines.new.items ≡ lines.old.items) }
+{
+    print_message(alloc, listings, plan, message, draft)?;
     lines.extend_from_slice(draft.lines.as_slice())?;
     Ok(())
 }
