@@ -1,5 +1,5 @@
 -- What is written of messages, one after another.
-use Rattle.std.proofs.Common.{◌≡◌, ◌≢◌, ℕ, ◌+◌, List, [], ◌∷◌, ◌++◌, length, take, Option, None, Err, refl, sym, ◌∙◌, ap, subst, arith, append_assoc, append-nil, length-append}
+use Rattle.std.proofs.Common.{◌≡◌, ◌≢◌, ℕ, ◌+◌, List, [], ◌∷◌, ◌++◌, length, take, Option, None, Ok, Err, refl, sym, ◌∙◌, ap, subst, arith, append_assoc, append-nil, length-append}
 use Rattle.std.proofs.lemmas.List.{take-append-le}
 use Rattle.std.proofs.Math.Seq.{take-append-add}
 use Rattle.std.specs.Io.KnownBytes.{Appends}
@@ -12,13 +12,14 @@ use Rattle.sbe_encode.specs.declared.fault.EncodeFault.{EncodeFault}
 use Rattle.sbe_text.specs.declared.error.Refusal.{Refusal}
 use Rattle.sbe_text.specs.declared.error.Refusal.TheVariants.{Left, Memory}
 use Rattle.text_words.specs.Lines.{lines_in}
-use Rattle.sbe_text.specs.Reading.{read_message}
+use Rattle.text_names.specs.Fronts.{front_of}
 use Rattle.cmd_base.specs.declared.status.Bad.TheVariants as bad
+use Rattle.cmd_base.specs.declared.status.Status.{Status}
 use Rattle.cmd_base.specs.declared.status.Status.TheVariants as status
-use Rattle.cmd_codec.specs.Encoded.{AreRead, frame_of, Written, behind, followed, written, written_from}
-use Rattle.cmd_codec.specs.Encoding.{HasMade, HasRead, Reads, RefusesWith, Spelled, WroteOne, WroteNone, Pushed, HasWritten}
-use Rattle.cmd_codec.specs.Encodes.{GaveFrames, GaveFront}
-use Rattle.cmd_codec.proofs.Rows.{read-more, read-on, others}
+use Rattle.cmd_codec.specs.Encoded.{frame_of, Written, behind, followed, written, written_from}
+use Rattle.cmd_codec.specs.Encoding.{HasMade, HasRead, PushesLast, Reads, RefusesWith, Spelled, WroteOne, WroteNone, Pushed, HasWritten}
+use Rattle.cmd_codec.specs.Encodes.{GaveFrames, GaveFront, Writes}
+use Rattle.cmd_codec.proofs.Rows.{all-on, others, read-more, read-on}
 use Rattle.cmd_codec.proofs.Reading.{some-lines}
 
 behind-behind : (one other : List ℕ) (w : Written) → behind one (behind other w) ≡ behind (one ++ other) w
@@ -56,7 +57,7 @@ written-more plan text left rest number before now after frames mid new h one p 
     let f = spelled (frame_of plan one.message) in
     record {
       messages = h.messages ++ one.message ∷ [];
-      read = read-more plan.messages (lines_in text) h.messages (lines_in left) one.message (lines_in rest) h.read one.read;
+      read = read-more plan (lines_in text) h.messages (lines_in left) one.message (lines_in rest) h.read one.read;
       pushed = h.pushed ++ p.bytes;
       gained = Appends-trans _ _ _ _ _ h.gained p.gained;
       same = λ more.
@@ -71,7 +72,7 @@ written-more plan text left rest number before now after frames mid new h one p 
 rest-of : (plan : Plan) (text left : List ℕ) (number : ℕ) (before now : Option (List ℕ)) (frames : List ℕ) (h : HasWritten plan text left number before now frames) (s : Spelled plan text)
     → (more : List Message) × (written plan s.messages ≡ behind (h.pushed ++ frames) (written_from plan number more))
 rest-of plan text left number before now frames h s =
-    let o = others plan.messages (lines_in text) h.messages s.messages (lines_in left) h.read s.read in
+    let o = others plan (lines_in text) h.messages s.messages (lines_in left) h.read s.read in
     (o.more, ap (written plan) o.joins ∙ h.same o.more)
 
 -- a part of the frames that wait was pushed, or none
@@ -105,16 +106,16 @@ made-read plan text left number frames h = record { messages = (h None).messages
 pub made-spelled : (plan : Plan) (text left : List ℕ) (number : ℕ) (frames : List ℕ) → HasMade plan text left number frames → Spelled plan left → Spelled plan text
 made-spelled plan text left number frames h s =
     let r = made-read plan text left number frames h in
-    record { messages = r.messages ++ s.messages; read = read-on plan.messages (lines_in text) r.messages s.messages (lines_in left) [] r.read s.read }
+    record { messages = r.messages ++ s.messages; read = all-on plan (lines_in text) r.messages s.messages (lines_in left) r.read s.read }
 
 pub made-refused : (A B : Type 0) (plan : Plan) (text left : List ℕ) (number : ℕ) (frames : List ℕ) (e : Refusal) → HasMade plan text left number frames → Reads {A = A} plan left (Err e) → Reads {A = B} plan text (Err e)
 made-refused A B plan text left number frames (Left n) h s =
     let r = made-read plan text left number frames h in
-    record { messages = r.messages ++ s.messages; behind = s.behind; read = read-on plan.messages (lines_in text) r.messages s.messages (lines_in left) s.behind r.read s.read; more = s.more; refused = s.refused }
+    record { messages = r.messages ++ s.messages; behind = s.behind; read = read-on plan (lines_in text) r.messages s.messages (lines_in left) s.behind r.read s.read; more = s.more; refused = s.refused }
 made-refused A B plan text left number frames Memory h s = tt
 
 -- the line of a message is refused behind those that were read
-pub made-none : (plan : Plan) (text left : List ℕ) (number : ℕ) (frames : List ℕ) (lines : ℕ) → HasMade plan text left number frames → left ≢ [] → read_message plan.messages (lines_in left) ≡ Err lines → RefusesWith plan text lines
+pub made-none : (plan : Plan) (text left : List ℕ) (number : ℕ) (frames : List ℕ) (lines : ℕ) → HasMade plan text left number frames → left ≢ [] → front_of plan (lines_in left) ≡ Err lines → RefusesWith plan text lines
 made-none plan text left number frames lines h some told =
     let r = made-read plan text left number frames h in
     record { messages = r.messages; behind = lines_in left; read = r.read; more = some-lines left some; refused = told }
@@ -130,8 +131,8 @@ pub stopped-at : (plan : Plan) (text left : List ℕ) (number : ℕ) (before now
     → HasWritten plan text left number before now frames → Spelled plan text → WroteNone plan left fault frames new → Appends now after new
     → GaveFrames plan text before after (status.Message (bad.Encode number fault))
 stopped-at plan text left number before now after frames new fault h s one appended =
-    let read = read-more plan.messages (lines_in text) h.messages (lines_in left) one.message one.rest h.read one.read in
-    let o = others plan.messages (lines_in text) (h.messages ++ one.message ∷ []) s.messages one.rest read s.read in
+    let read = read-more plan (lines_in text) h.messages (lines_in left) one.message one.rest h.read one.read in
+    let o = others plan (lines_in text) (h.messages ++ one.message ∷ []) s.messages one.rest read s.read in
     let is : written plan s.messages ≡ behind (h.pushed ++ frames) (record { wire = []; status = status.Message (bad.Encode number fault) }) =
     ap (written plan) (o.joins ∙ append_assoc h.messages (one.message ∷ []) o.more) ∙ h.same (one.message ∷ o.more)
     ∙ ap (λ f. behind (h.pushed ++ frames) (followed plan number one.message f (written_from plan (number + 1) o.more))) one.faulty.is in
@@ -151,13 +152,36 @@ stopped-part plan text left number before now after frames new fault h s one fro
 
 -- all messages were read, and their frames pushed
 pub written-all : (plan : Plan) (text left : List ℕ) (number : ℕ) (before now after : Option (List ℕ)) (frames : List ℕ)
-    → HasWritten plan text left number before now frames → left ≡ [] → Appends now after frames → GaveFrames plan text before after status.Done
+    → HasWritten plan text left number before now frames → front_of plan (lines_in left) ≡ Ok None → Appends now after frames → GaveFrames plan text before after status.Done
 written-all plan text left number before now after frames h none appended =
-    let is : written plan h.messages ≡ behind (h.pushed ++ frames) (record { wire = []; status = status.Done }) =
-    ap (written plan) (sym (append-nil h.messages)) ∙ h.same [] in
+    let is : written plan (h.messages ++ []) ≡ behind (h.pushed ++ frames) (record { wire = []; status = status.Done }) = h.same [] in
     record {
-      messages = h.messages;
-      read = subst (λ l. AreRead plan.messages (lines_in text) h.messages (lines_in l)) none h.read;
+      messages = h.messages ++ [];
+      read = all-on plan (lines_in text) h.messages [] (lines_in left) h.read none;
       wire = subst (Appends before after) (sym (ap (λ (w : Written). w.wire) is ∙ append-nil (h.pushed ++ frames))) (Appends-trans _ _ _ _ _ h.gained appended);
       status_is = sym (ap (λ (w : Written). w.status) is);
     }
+
+-- the frames that wait behind the last message were pushed, or a part of them
+pub last_written : (plan : Plan) (text left : List ℕ) (number : ℕ) (before now after : Option (List ℕ)) (frames : List ℕ) (result : Status)
+    → HasWritten plan text left number before now frames → front_of plan (lines_in left) ≡ Ok None → Spelled plan text → PushesLast now after frames result → Writes plan text before after result
+last_written plan text left number before now after frames status.Done h none s pushed = written-all plan text left number before now after frames h none pushed
+last_written plan text left number before now after frames status.OutputFault h none s pushed = front-part plan text left number before now after frames h s pushed
+last_written plan text left number before now after frames status.Words h none s pushed = absurd pushed
+last_written plan text left number before now after frames (status.Config fault) h none s pushed = absurd pushed
+last_written plan text left number before now after frames status.InputFault h none s pushed = absurd pushed
+last_written plan text left number before now after frames status.JournalFault h none s pushed = absurd pushed
+last_written plan text left number before now after frames (status.JournalBad which cause) h none s pushed = absurd pushed
+last_written plan text left number before now after frames status.DialFault h none s pushed = absurd pushed
+last_written plan text left number before now after frames (status.Unfinished phase) h none s pushed = absurd pushed
+last_written plan text left number before now after frames (status.Rejected template code) h none s pushed = absurd pushed
+last_written plan text left number before now after frames (status.Full entries bytes) h none s pushed = absurd pushed
+last_written plan text left number before now after frames status.Turns h none s pushed = absurd pushed
+last_written plan text left number before now after frames (status.Message wrong) h none s pushed = absurd pushed
+last_written plan text left number before now after frames status.Memory h none s pushed = absurd pushed
+
+-- the same where no byte is left
+pub last_pushed : (plan : Plan) (text left : List ℕ) (number : ℕ) (before now after : Option (List ℕ)) (frames : List ℕ) (result : Status)
+    → HasWritten plan text left number before now frames → left ≡ [] → Spelled plan text → PushesLast now after frames result → Writes plan text before after result
+last_pushed plan text left number before now after frames result h none s pushed =
+    last_written plan text left number before now after frames result h (ap (λ (l : List ℕ). front_of plan (lines_in l)) none) s pushed

@@ -5,6 +5,7 @@ use Rattle.gw_outside.specs.Faults.{TakesFront}
 use Rattle.sofh_frame.specs.Framing.{rest, first_of}
 use Rattle.schema_toml.specs.declared.fault.ConfigFault.{ConfigFault}
 use Rattle.sbe_layout.specs.declared.plan.Plan.{Plan}
+use Rattle.cmd_codec.specs.declared.shown.Shown.{Shown}
 use Rattle.cmd_base.specs.declared.status.Status.{Status}
 use Rattle.cmd_base.specs.declared.status.Status.TheVariants.{Done, Message, InputFault, OutputFault, Memory}
 use Rattle.cmd_codec.specs.declared.decoder.Decoder.{Decoder}
@@ -40,16 +41,16 @@ pub record Streams : Type 0 where
   pub input : Option (List ℕ)
   pub out : Option (List ℕ)
 
-abbrev pub KeepsPromise : Plan → Streams → Streams → Status → Type 0
-KeepsPromise plan before after status = (input : List ℕ) → before.input ≡ Some input → Gave (decoded plan input) before.out after.out status
+abbrev pub KeepsPromise : Shown → Plan → Streams → Streams → Status → Type 0
+KeepsPromise shown plan before after status = (input : List ℕ) → before.input ≡ Some input → Gave (decoded shown plan input) before.out after.out status
 
 -- The bytes read and the lines pushed so far are those that the decoder stands for.
-pub record Stands (plan : Plan) (before now : Streams) (d : Decoder) : Type 0 where
+pub record Stands (shown : Shown) (plan : Plan) (before now : Streams) (d : Decoder) : Type 0 where
   pub read : List ℕ
   pub printed : List ℕ
   pub consumed : Consumes before.input now.input read
   pub gained : Appends before.out now.out printed
-  pub same : (left : List ℕ) → decoded plan (read ++ left) ≡ behind printed (goes_on plan d left)
+  pub same : (left : List ℕ) → decoded shown plan (read ++ left) ≡ behind printed (goes_on shown plan d left)
 
 -- a decoder between two pieces of input: it waits for more, and has nothing to push
 pub record IsIdle (d : Decoder) : Type 0 where
@@ -57,10 +58,10 @@ pub record IsIdle (d : Decoder) : Type 0 where
   pub pushed : d.lines.items ≡ []
 
 -- what a round leaves: it goes on, or the promise is kept
-abbrev pub AfterRound : Plan → Streams → Streams → Decoder → Result Bool Status → Type 0
-AfterRound plan before now d (Ok true) = Stands plan before now d
-AfterRound plan before now d (Ok false) = KeepsPromise plan before now Done
-AfterRound plan before now d (Err status) = KeepsPromise plan before now status
+abbrev pub AfterRound : Shown → Plan → Streams → Streams → Decoder → Result Bool Status → Type 0
+AfterRound shown plan before now d (Ok true) = Stands shown plan before now d
+AfterRound shown plan before now d (Ok false) = KeepsPromise shown plan before now Done
+AfterRound shown plan before now d (Err status) = KeepsPromise shown plan before now status
 
 -- how a round answers the status at the end of the input
 abbrev pub as_round : Status → Result Bool Status
@@ -71,6 +72,6 @@ as_round OutputFault = Err OutputFault
 as_round other = Err other
 
 -- what OUT gains in a run whose configuration says this
-abbrev pub GaveText : Result Plan ConfigFault → List ℕ → Option (List ℕ) → Option (List ℕ) → Status → Type 0
-GaveText (Err fault) input before after status = Keeps before after
-GaveText (Ok plan) input before after status = Gave (decoded plan input) before after status
+abbrev pub GaveText : Shown → Result Plan ConfigFault → List ℕ → Option (List ℕ) → Option (List ℕ) → Status → Type 0
+GaveText shown (Err fault) input before after status = Keeps before after
+GaveText shown (Ok plan) input before after status = Gave (decoded shown plan input) before after status

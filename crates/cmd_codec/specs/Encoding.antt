@@ -1,6 +1,7 @@
 -- How far `encode` has come in the middle of its text.
 use Rattle.std.specs.Prelude.{◌≡◌, ◌≢◌, ⊤, ℕ, ◌+◌, ◌<◌, ◌≤◌, Option, Some, None, Result, Ok, Err, List, [], ◌++◌, length}
 use Rattle.std.specs.Io.KnownBytes.{Appends}
+use Rattle.gw_outside.specs.Faults.{TakesFront}
 use Rattle.std.specs.Borrow.{Bor}
 use Rattle.sofh_frame.specs.Framing.{spelled}
 use Rattle.sbe_value.specs.declared.message.Message.{Message}
@@ -12,7 +13,7 @@ use Rattle.sbe_encode.specs.Faults.{encode_fault}
 use Rattle.sbe_text.specs.declared.error.Refusal.{Refusal}
 use Rattle.sbe_text.specs.declared.error.Refusal.TheVariants as refusal
 use Rattle.text_words.specs.Lines.{lines_in}
-use Rattle.sbe_text.specs.Reading.{read_message}
+use Rattle.text_names.specs.Fronts.{front_of}
 use Rattle.cmd_base.specs.declared.status.Bad.TheVariants as bad
 use Rattle.cmd_base.specs.declared.status.Status.{Status}
 use Rattle.cmd_base.specs.declared.status.Status.TheVariants as status
@@ -29,15 +30,15 @@ pub record Spelled (plan : Plan) (text : List ℕ) : Type 0 where
 -- messages were read in a row, and these bytes of the text are left
 pub record HasRead (plan : Plan) (text left : List ℕ) : Type 0 where
   pub messages : List Message
-  pub read : AreRead plan.messages (lines_in text) messages (lines_in left)
+  pub read : AreRead plan (lines_in text) messages (lines_in left)
 
 -- a line is refused behind messages in a row, at which so many lines are left
 pub record RefusesWith (plan : Plan) (text : List ℕ) (left : ℕ) : Type 0 where
   pub messages : List Message
   pub behind : List (List ℕ)
-  pub read : AreRead plan.messages (lines_in text) messages behind
+  pub read : AreRead plan (lines_in text) messages behind
   pub more : behind ≢ []
-  pub refused : read_message plan.messages behind ≡ Err left
+  pub refused : front_of plan behind ≡ Err left
 
 -- what the reading of all messages says
 abbrev pub Reads : {A : Type 0} → Plan → List ℕ → Result A Refusal → Type 0
@@ -62,19 +63,25 @@ AddsFrame plan m old new (Err error.Memory) = ⊤
 -- the message at the front was read, and its frame added
 pub record WroteOne (plan : Plan) (left rest : List ℕ) (old new : List ℕ) : Type 0 where
   pub message : Message
-  pub read : read_message plan.messages (lines_in left) ≡ Ok (message, lines_in rest)
+  pub read : front_of plan (lines_in left) ≡ Ok (Some (message, lines_in rest))
   pub frame : AddedFrame plan message old new
   pub shorter : length (lines_in rest) < length (lines_in left)
 
 pub record WroteNone (plan : Plan) (left : List ℕ) (fault : EncodeFault) (old new : List ℕ) : Type 0 where
   pub message : Message
   pub rest : List (List ℕ)
-  pub read : read_message plan.messages (lines_in left) ≡ Ok (message, rest)
+  pub read : front_of plan (lines_in left) ≡ Ok (Some (message, rest))
   pub faulty : Faulty plan message fault old new
 
-abbrev pub WritesOne : Plan → List ℕ → List ℕ → List ℕ → Result (Bor (List ℕ)) Stop → Type 0
-WritesOne plan left old new (Ok rest) = WroteOne plan left rest.now old new
-WritesOne plan left old new (Err (stop.Line lines)) = read_message plan.messages (lines_in left) ≡ Err lines
+-- no line is left that has something
+pub record WroteAll (plan : Plan) (left : List ℕ) (old new : List ℕ) : Type 0 where
+  pub empty : front_of plan (lines_in left) ≡ Ok None
+  pub kept : new ≡ old
+
+abbrev pub WritesOne : Plan → List ℕ → List ℕ → List ℕ → Result (Option (Bor (List ℕ))) Stop → Type 0
+WritesOne plan left old new (Ok (Some rest)) = WroteOne plan left rest.now old new
+WritesOne plan left old new (Ok None) = WroteAll plan left old new
+WritesOne plan left old new (Err (stop.Line lines)) = front_of plan (lines_in left) ≡ Err lines
 WritesOne plan left old new (Err (stop.Fault fault)) = WroteNone plan left fault old new
 WritesOne plan left old new (Err stop.Memory) = ⊤
 
@@ -84,10 +91,16 @@ pub record Pushed (before after : Option (List ℕ)) (old new : List ℕ) : Type
   pub joins : old ≡ bytes ++ new
   pub gained : Appends before after bytes
 
+-- all bytes that waited were pushed, or a front of them
+abbrev pub PushesLast : Option (List ℕ) → Option (List ℕ) → List ℕ → Status → Type 0
+PushesLast before after frames status.Done = Appends before after frames
+PushesLast before after frames status.OutputFault = TakesFront before after frames
+PushesLast before after frames _ = ⊥
+
 -- the frames of the messages read so far were pushed, or are still to be pushed
 pub record HasWritten (plan : Plan) (text left : List ℕ) (number : ℕ) (before now : Option (List ℕ)) (frames : List ℕ) : Type 0 where
   pub messages : List Message
-  pub read : AreRead plan.messages (lines_in text) messages (lines_in left)
+  pub read : AreRead plan (lines_in text) messages (lines_in left)
   pub pushed : List ℕ
   pub gained : Appends before now pushed
   pub same : (more : List Message) → written plan (messages ++ more) ≡ behind (pushed ++ frames) (written_from plan number more)

@@ -5,10 +5,10 @@ ghost use Rattle.sbe_layout.specs.Legal.{LegalPlan};
 ghost use Rattle.cmd_codec.specs.Decoded.{next_number, next_place};
 ghost use Rattle.cmd_codec.specs.Decoding.{Takes, TakesAll};
 
-use crate::print::{Placed, print_frame};
+use crate::print::{Page, Placed, print_frame};
+use crate::shown::Shown;
 use cmd_base::{Bad, Status};
 use sbe_layout::Plan;
-use sbe_text::Draft;
 use sofh_frame::{FirstFrame, Framer};
 use std::alloc::{AllocError, Global};
 
@@ -20,7 +20,7 @@ pub struct Decoder {
     /// The lines not pushed.
     pub lines: Vec<u8>,
     /// Room for those of one message.
-    pub draft: Draft,
+    pub page: Page,
     /// The number of the next frame, from 1.
     pub number: u64,
     /// The place of the next frame in the input, in bytes from 0.
@@ -38,16 +38,16 @@ impl Decoder {
         Ok(Decoder {
             framer: Framer::new(alloc)?,
             lines: Vec::new(alloc),
-            draft: Draft::new(alloc),
+            page: Page::new(alloc),
             number: 1,
             place: 0,
         })
     }
 
     // Decodes the frame at the front of the bytes held; false where there is less than a frame.
-    fn take_frame(&mut self, alloc: Global, plan: &Plan) -> Result<bool, Status>
+    fn take_frame(&mut self, alloc: Global, shown: Shown, plan: &Plan) -> Result<bool, Status>
         requires { LegalPlan plan.now }
-        ensures { Takes plan.now self.old self.new result }
+        ensures { Takes shown plan.now self.old self.new result }
     {
         match self.framer.peek() {
             FirstFrame::Frame {
@@ -61,7 +61,7 @@ impl Decoder {
                     order,
                     message,
                 };
-                match print_frame(alloc, plan, frame, &mut self.draft, &mut self.lines) {
+                match print_frame(alloc, shown, plan, frame, &mut self.page, &mut self.lines) {
                     Ok(()) => {
                         self.pass(size);
                         Ok(true)
@@ -92,11 +92,11 @@ impl Decoder {
     ///
     /// # Errors
     /// `Message` with what is wrong with a frame, behind the lines of those before it; and `Memory`.
-    pub fn take_frames(&mut self, alloc: Global, plan: &Plan) -> Result<(), Status>
+    pub fn take_frames(&mut self, alloc: Global, shown: Shown, plan: &Plan) -> Result<(), Status>
         requires { LegalPlan plan.now }
-        ensures { TakesAll plan.now self.old self.new result }
+        ensures { TakesAll shown plan.now self.old self.new result }
     {
-        while self.take_frame(alloc, plan)? {}
+        while self.take_frame(alloc, shown, plan)? {}
         Ok(())
     }
 }

@@ -9,6 +9,7 @@ ghost use Rattle.cmd_base.specs.Causes.{NoneFell, IsCaused, faults_of};
 ghost use Rattle.cmd_base.specs.Order.{IsOfStreams, KeepsBehindConfig, KeepsDisks, StopsAtConfig, FailsInOrder, SparesOutputs};
 ghost use Rattle.cmd_codec.specs.Decodes.{GaveText};
 
+use crate::shown::Shown;
 use crate::stream::print_frames;
 use cmd_base::{Outside, Status, read_config};
 use gw_outside::{Disk, Sink, Source};
@@ -16,15 +17,16 @@ use sbe_layout::Plan;
 use std::alloc::Global;
 use std::sync::Wait;
 
-/// `decode`: recorded frames as text.
+/// `decode`: recorded frames as text, whose values are shown so.
 pub fn decode<R: Wait, S: Source, K: Sink, D: Disk>(
     rt: &R,
     alloc: Global,
+    shown: Shown,
     outside: &mut Outside<S, K, D>,
 ) -> Status
     ensures config_verdict { (text : List ℕ) → S.left outside.old.config ≡ Some text → Judges result (plan_of_text text) }
     ensures decode_output { (text input : List ℕ) → S.left outside.old.config ≡ Some text → S.left outside.old.input ≡ Some input →
-        GaveText (plan_of_text text) input (K.taken outside.old.out) (K.taken outside.new.out) result }
+        GaveText shown (plan_of_text text) input (K.taken outside.old.out) (K.taken outside.new.out) result }
     ensures spared { result ≡ Status.InputFault → SparesOutputs S.left outside.old outside.new }
     ensures untouched_by_decode { (outside.new.wire ≡ outside.old.wire) × KeepsDisks outside.old outside.new }
     ensures refused { (fault : ConfigFault) → result ≡ Status.Config fault → KeepsBehindConfig outside.old outside.new }
@@ -36,7 +38,14 @@ pub fn decode<R: Wait, S: Source, K: Sink, D: Disk>(
     ensures ends { IsOfStreams result }
 {
     match read_config::<S, Plan>(alloc, (), &mut outside.config) {
-        Ok(plan) => print_frames(rt, alloc, &plan, &mut outside.input, &mut outside.out),
+        Ok(plan) => print_frames(
+            rt,
+            alloc,
+            shown,
+            &plan,
+            &mut outside.input,
+            &mut outside.out,
+        ),
         Err(status) => status,
     }
 }

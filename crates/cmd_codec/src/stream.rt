@@ -5,12 +5,14 @@ ghost use Rattle.std.specs.Io.KnownBytes.{Appends, Consumes, IsAtEnd, Keeps};
 ghost use Rattle.gw_outside.specs.Faults.{HasCause, HasRisen, TakesFront};
 ghost use Rattle.sbe_layout.specs.Legal.{LegalPlan};
 ghost use Rattle.sbe_layout.specs.declared.plan.Plan.{Plan};
+ghost use Rattle.cmd_codec.specs.declared.shown.Shown.{Shown};
 ghost use Rattle.cmd_codec.specs.Decoded.{status_at};
 ghost use Rattle.cmd_codec.specs.Decodes.{Streams, Stands, IsIdle, AfterRound, KeepsPromise, IsDecodeEnd, as_round};
 ghost use Rattle.cmd_base.specs.Order.{HasGiven};
 ghost use Rattle.sofh_frame.specs.Framing.{rest, first_of};
 
 use crate::decoder::Decoder;
+use crate::shown::Shown;
 use cmd_base::{Bad, Status, begin};
 use gw_outside::{Failed, Sink, Source, push_all};
 use sbe_layout::Plan;
@@ -48,8 +50,8 @@ impl Decoder {
     // Reads a piece of the input behind the bytes that are held; false at its end.
     fn read<S: Source>(&mut self, input: &mut S) -> Result<bool, Failed>
         requires waits { first_of self.old.framer.held ≡ rest }
-        ensures more { result ≡ Ok true → (plan : Plan) (before : Streams) (out : Option (List ℕ)) →
-            Stands plan before (record { input = S.left input.old; out = out }) self.old → Stands plan before (record { input = S.left input.new; out = out }) self.new }
+        ensures more { result ≡ Ok true → (shown : Shown) (plan : Plan) (before : Streams) (out : Option (List ℕ)) →
+            Stands shown plan before (record { input = S.left input.old; out = out }) self.old → Stands shown plan before (record { input = S.left input.new; out = out }) self.new }
         ensures given { result ≡ Ok true → HasGiven (S.left input.old) (S.left input.new) }
         ensures nothing { result ≡ Ok false → Consumes (S.left input.old) (S.left input.new) [] }
         ensures end { result ≡ Ok false → IsAtEnd (S.left input.new) }
@@ -70,19 +72,25 @@ impl Decoder {
     }
 
     // Decodes the frames that are held, as far as they go, and pushes their lines.
-    fn print_held<K: Sink>(&mut self, alloc: Global, plan: &Plan, out: &mut K) -> Result<(), Status>
+    fn print_held<K: Sink>(
+        &mut self,
+        alloc: Global,
+        shown: Shown,
+        plan: &Plan,
+        out: &mut K,
+    ) -> Result<(), Status>
         requires { LegalPlan plan.now }
         ensures idle { OnOk result (IsIdle self.new) }
         ensures stands { OnOk result ((before : Streams) (input : Option (List ℕ)) →
-            Stands plan.now before (record { input = input; out = K.taken out.old }) self.old → Stands plan.now before (record { input = input; out = K.taken out.new }) self.new) }
+            Stands shown plan.now before (record { input = input; out = K.taken out.old }) self.old → Stands shown plan.now before (record { input = input; out = K.taken out.new }) self.new) }
         ensures promise { IfErr result (λ status. (before : Streams) (input : Option (List ℕ)) →
-            Stands plan.now before (record { input = input; out = K.taken out.old }) self.old → KeepsPromise plan.now before (record { input = input; out = K.taken out.new }) status) }
+            Stands shown plan.now before (record { input = input; out = K.taken out.old }) self.old → KeepsPromise shown plan.now before (record { input = input; out = K.taken out.new }) status) }
         ensures counted { K.faults out.old ≤ K.faults out.new }
         ensures ends { IfErr result IsDecodeEnd }
         ensures read_nothing { IsErrOf result Status.InputFault → ⊥ }
         ensures cause { IfErr result (λ status. status ≡ Status.OutputFault → HasRisen (K.faults out.old) (K.faults out.new)) }
     {
-        match self.take_frames(alloc, plan) {
+        match self.take_frames(alloc, shown, plan) {
             Ok(()) => {
                 let Ok(()) = self.push(out) else {
                     return Err(Status::OutputFault);
@@ -103,14 +111,15 @@ impl Decoder {
     fn round<S: Source, K: Sink>(
         &mut self,
         alloc: Global,
+        shown: Shown,
         plan: &Plan,
         input: &mut S,
         out: &mut K,
     ) -> Result<bool, Status>
         requires { LegalPlan plan.now }
         ensures after { (before : Streams) →
-            Stands plan.now before (record { input = S.left input.old; out = K.taken out.old }) self.old →
-            AfterRound plan.now before (record { input = S.left input.new; out = K.taken out.new }) self.new result }
+            Stands shown plan.now before (record { input = S.left input.old; out = K.taken out.old }) self.old →
+            AfterRound shown plan.now before (record { input = S.left input.new; out = K.taken out.new }) self.new result }
         ensures consumed { (bytes : List ℕ) × Consumes (S.left input.old) (S.left input.new) bytes }
         ensures input_counted { S.faults input.old ≤ S.faults input.new }
         ensures out_counted { K.faults out.old ≤ K.faults out.new }
@@ -118,7 +127,7 @@ impl Decoder {
         ensures input_cause { IfErr result (λ status. status ≡ Status.InputFault → HasRisen (S.faults input.old) (S.faults input.new)) }
         ensures out_cause { IfErr result (λ status. status ≡ Status.OutputFault → HasRisen (K.faults out.old) (K.faults out.new)) }
     {
-        self.print_held(alloc, plan, out)?;
+        self.print_held(alloc, shown, plan, out)?;
         match self.read(input) {
             Ok(true) => Ok(true),
             Ok(false) => self.finish(),
@@ -127,17 +136,18 @@ impl Decoder {
     }
 }
 
-/// Prints the messages of the frames in the input, by the plan of a schema, up to the first fault. The output is begun once a
+/// Prints the messages of the frames in the input, by the plan of a schema and as values are to be shown, up to the first fault. The output is begun once a
 /// piece of the input was read: where that fails, it is left as it is.
 pub fn print_frames<R: Wait, S: Source, K: Sink>(
     rt: &R,
     alloc: Global,
+    shown: Shown,
     plan: &Plan,
     input: &mut S,
     out: &mut K,
 ) -> Status
     requires { LegalPlan plan.now }
-    ensures promise { KeepsPromise plan.now
+    ensures promise { KeepsPromise shown plan.now
         (record { input = S.left input.old; out = K.taken out.old })
         (record { input = S.left input.new; out = K.taken out.new }) result }
     ensures spared { result ≡ Status.InputFault → (out.new ≡ out.old) ⊎ HasGiven (S.left input.old) (S.left input.new) }
@@ -160,7 +170,7 @@ pub fn print_frames<R: Wait, S: Source, K: Sink>(
         return Status::Done;
     }
     for _ in rt.forever() {
-        match decoder.round(alloc, plan, input, out) {
+        match decoder.round(alloc, shown, plan, input, out) {
             Ok(true) => {}
             Ok(false) => return Status::Done,
             Err(status) => return status,

@@ -3,7 +3,7 @@
 
 ghost use Rattle.std.specs.Prelude.{◌≡◌, ◌≤◌, [], length, OnOk, OnErr};
 ghost use Rattle.gw_outside.specs.Faults.{HasCause, HasRisen, TakesFront};
-ghost use Rattle.cmd_codec.specs.Encoding.{IsMade, Makes, MakesFront, Pushed, Reads, WritesOne};
+ghost use Rattle.cmd_codec.specs.Encoding.{IsMade, Makes, MakesFront, Pushed, PushesLast, Reads, WritesOne};
 ghost use Rattle.cmd_codec.specs.Encoded.{text_limit};
 ghost use Rattle.cmd_codec.specs.Encodes.{LeavesWire, Writes};
 
@@ -13,8 +13,9 @@ use gw_outside::{Failed, Sink, push_all};
 use sbe_encode::{EncodeError, EncodeFault};
 use sbe_from_text::{Sheet, write_text};
 use sbe_layout::Plan;
-use sbe_text::{Refusal, first_message};
+use sbe_text::Refusal;
 use std::alloc::Global;
+use text_names::{Narrow, front_message};
 
 /// How many bytes of frames wait at least before they are pushed.
 const PIECE: usize = 32_768;
@@ -23,14 +24,33 @@ const PIECE: usize = 32_768;
 fn read_all(alloc: Global, plan: &Plan, text: &[u8]) -> Result<(), Refusal>
     ensures { Reads plan.now text.now result }
 {
+    let mut narrow = Narrow::new(alloc);
     let mut left = text;
     while !left.is_empty() {
-        match first_message(alloc, plan, left) {
-            Ok((_, rest)) => left = rest,
+        match front_message(alloc, plan, left, &mut narrow) {
+            Ok(Some((_, rest))) => left = rest,
+            Ok(None) => return Ok(()),
             Err(refusal) => return Err(refusal),
         }
     }
     Ok(())
+}
+
+/// Room that serves one message after another: for its bytes, and for its strict lines.
+#[derive(Drop)]
+pub struct Rooms {
+    sheet: Sheet,
+    narrow: Narrow,
+}
+
+impl Rooms {
+    /// No room yet.
+    fn new(alloc: Global) -> Rooms {
+        Rooms {
+            sheet: Sheet::new(alloc),
+            narrow: Narrow::new(alloc),
+        }
+    }
 }
 
 /// Why no frame is made of the message at the front of a text.
@@ -44,22 +64,22 @@ pub enum Stop {
     Memory,
 }
 
-// Adds the frame of the message at the front of a text, and gives the text behind it.
+// Adds the frame of the message at the front of a text, and gives the text behind it. None where no message is left.
 fn write_message<'a>(
     alloc: Global,
     plan: &Plan,
     left: &'a [u8],
-    sheet: &mut Sheet,
+    rooms: &mut Rooms,
     frames: &mut Vec<u8>,
-) -> Result<&'a [u8], Stop>
+) -> Result<Option<&'a [u8]>, Stop>
     ensures { WritesOne plan.now left.now frames.old.items frames.new.items result }
 {
-    // what is wrong with a message is told by its tree
-    let Some(rest) = write_text(alloc, plan, left, sheet) else {
-        return write_tree(alloc, plan, left, sheet, frames);
+    // the wider form, and what is wrong with a message, are told by its tree
+    let Some(rest) = write_text(alloc, plan, left, &mut rooms.sheet) else {
+        return write_tree(alloc, plan, left, rooms, frames);
     };
-    match add_bytes(plan.order, sheet.bytes.as_slice(), frames) {
-        Ok(()) => Ok(rest),
+    match add_bytes(plan.order, rooms.sheet.bytes.as_slice(), frames) {
+        Ok(()) => Ok(Some(rest)),
         Err(_) => Err(Stop::Memory),
     }
 }
@@ -69,17 +89,20 @@ fn write_tree<'a>(
     alloc: Global,
     plan: &Plan,
     left: &'a [u8],
-    sheet: &mut Sheet,
+    rooms: &mut Rooms,
     frames: &mut Vec<u8>,
-) -> Result<&'a [u8], Stop>
+) -> Result<Option<&'a [u8]>, Stop>
     ensures { WritesOne plan.now left.now frames.old.items frames.new.items result }
 {
-    match first_message(alloc, plan, left) {
-        Ok((message, rest)) => match add_frame(alloc, plan, &message, &mut sheet.bytes, frames) {
-            Ok(()) => Ok(rest),
-            Err(EncodeError::Fault(fault)) => Err(Stop::Fault(fault)),
-            Err(EncodeError::Memory) => Err(Stop::Memory),
-        },
+    match front_message(alloc, plan, left, &mut rooms.narrow) {
+        Ok(None) => Ok(None),
+        Ok(Some((message, rest))) => {
+            match add_frame(alloc, plan, &message, &mut rooms.sheet.bytes, frames) {
+                Ok(()) => Ok(Some(rest)),
+                Err(EncodeError::Fault(fault)) => Err(Stop::Fault(fault)),
+                Err(EncodeError::Memory) => Err(Stop::Memory),
+            }
+        }
         Err(Refusal::Left(lines)) => Err(Stop::Line(lines)),
         Err(Refusal::Memory) => Err(Stop::Memory),
     }
@@ -106,15 +129,16 @@ fn make_front<'a>(
     requires short { length text.now ≤ text_limit }
     ensures { MakesFront plan.now text.now frames.new.items result }
 {
-    let mut sheet = Sheet::new(alloc);
+    let mut rooms = Rooms::new(alloc);
     let mut number = 1;
     let mut left = text;
     while !left.is_empty() && frames.len() <= text.len() {
-        match write_message(alloc, plan, left, &mut sheet, frames) {
-            Ok(rest) => {
+        match write_message(alloc, plan, left, &mut rooms, frames) {
+            Ok(Some(rest)) => {
                 number += 1;
                 left = rest;
             }
+            Ok(None) => return Ok(Place { left, number }),
             Err(Stop::Line(lines)) => return Err(Refusal::Left(lines)),
             Err(Stop::Fault(_)) => return Ok(Place { left, number }),
             Err(Stop::Memory) => return Err(Refusal::Memory),
@@ -160,6 +184,19 @@ fn push_full<K: Sink>(wire: &mut K, frames: &mut Vec<u8>) -> Result<(), Failed>
     Ok(())
 }
 
+// Pushes the frames that wait behind the last message.
+fn push_last<K: Sink>(wire: &mut K, frames: &[u8]) -> Status
+    ensures pushes { PushesLast (K.taken wire.old) (K.taken wire.new) frames.now result }
+    ensures begun { LeavesWire result → ⊥ }
+    ensures counted { K.faults wire.old ≤ K.faults wire.new }
+    ensures cause { result ≡ Status.OutputFault → HasRisen (K.faults wire.old) (K.faults wire.new) }
+{
+    match push_all(wire, frames) {
+        Ok(()) => Status::Done,
+        Err(_) => Status::OutputFault,
+    }
+}
+
 /// Pushes the frames that wait, and writes those of the messages from a place on, up to the first that may not be written.
 /// The text can be read.
 pub fn write_all<K: Sink>(
@@ -178,18 +215,19 @@ pub fn write_all<K: Sink>(
     ensures cause { result ≡ Status.OutputFault → HasRisen (K.faults wire.old) (K.faults wire.new) }
 {
     let _ = text;
-    let mut sheet = Sheet::new(alloc);
+    let mut rooms = Rooms::new(alloc);
     let mut number = place.number;
     let mut left = place.left;
     while !left.is_empty() {
-        match write_message(alloc, plan, left, &mut sheet, frames) {
-            Ok(rest) => {
+        match write_message(alloc, plan, left, &mut rooms, frames) {
+            Ok(Some(rest)) => {
                 let Ok(()) = push_full(wire, frames) else {
                     return Status::OutputFault;
                 };
                 number += 1;
                 left = rest;
             }
+            Ok(None) => return push_last(wire, frames.as_slice()),
             Err(Stop::Fault(fault)) => {
                 let Ok(()) = push_all(wire, frames.as_slice()) else {
                     return Status::OutputFault;
@@ -203,8 +241,5 @@ pub fn write_all<K: Sink>(
             Err(Stop::Line(_)) | Err(Stop::Memory) => return Status::Memory,
         }
     }
-    let Ok(()) = push_all(wire, frames.as_slice()) else {
-        return Status::OutputFault;
-    };
-    Status::Done
+    push_last(wire, frames.as_slice())
 }

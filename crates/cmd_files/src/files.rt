@@ -3,7 +3,7 @@
 use crate::again::place_of_frame;
 use crate::report::Report;
 use cmd_config::Purpose;
-use cmd_run::{Bad, Command, JournalCause, Outside, Status, Which, command_of, run};
+use cmd_run::{Bad, Command, JournalCause, Outside, Shown, Status, Which, command_of, run};
 use gw_outside::{Disk, Sink, Source};
 use gw_real::{Begun, FileDisk, FileSink, FileSource, Kept, Named, Opening, STANDARD_OUTPUT};
 use say_config::{Wanted, push_config_fault};
@@ -43,7 +43,8 @@ const fn places(command: Command) -> [usize; 6] {
     match command {
         Command::Answer => [1, 2, 3, 4, 0, 0],
         Command::Check => [1, 0, 0, 2, 0, 0],
-        Command::Decode => [1, 2, 0, 3, 0, 0],
+        Command::Decode(Shown::Numbers) => [1, 2, 0, 3, 0, 0],
+        Command::Decode(Shown::Names) => [2, 3, 0, 4, 0, 0],
         Command::Encode => [1, 2, 3, 0, 0, 0],
         Command::Format | Command::Migrate => [0, 0, 0, 0, 1, 2],
         Command::Journal => [0, 0, 0, 3, 1, 2],
@@ -56,7 +57,7 @@ const fn roles(command: Command) -> [&'static str; 2] {
         Command::Migrate => ["OLD", "NEW"],
         Command::Answer
         | Command::Check
-        | Command::Decode
+        | Command::Decode(_)
         | Command::Encode
         | Command::Format
         | Command::Journal => ["OUTBOX", "INBOX"],
@@ -120,7 +121,7 @@ impl<'a> Run<'a> {
         match self.command {
             Command::Answer => Wanted::Session(Purpose::Recorded),
             Command::Check
-            | Command::Decode
+            | Command::Decode(_)
             | Command::Encode
             | Command::Format
             | Command::Journal
@@ -135,7 +136,7 @@ impl<'a> Run<'a> {
             Command::Migrate => [Opening::Read, Opening::Begin(JOURNAL)],
             Command::Answer
             | Command::Check
-            | Command::Decode
+            | Command::Decode(_)
             | Command::Encode
             | Command::Journal => [Opening::Read, Opening::Read],
         }

@@ -21,6 +21,8 @@ const USAGE: &str =
                                         answers the recorded client of several sessions in INPUT, each as answer would
   fixpgw check CONFIG OUT               checks the schema in CONFIG, and prints its layout to OUT
   fixpgw decode CONFIG INPUT OUT        prints the messages in the frames of INPUT as text to OUT
+  fixpgw decode --names CONFIG INPUT OUT
+                                        the same, with the names of values
   fixpgw delivered SCHEMA LINES OUT     prints the messages that the lines of a session's OUT tell of as text to OUT
   fixpgw dump SCHEMA INPUT OUT          prints every frame of INPUT, session messages too, as text to OUT
   fixpgw encode CONFIG INPUT WIRE       writes the messages in the text of INPUT as frames to WIRE
@@ -106,10 +108,11 @@ Checks a schema, and prints where everything stands in its messages.
   CONFIG   the schema, as TOML (read); - is standard input
   OUT      the layout of its messages (written); - is standard output";
 
-const DECODE: &str = "usage: fixpgw decode CONFIG INPUT OUT
+const DECODE: &str = "usage: fixpgw decode [--names] CONFIG INPUT OUT
 
 Prints recorded messages as text.
 
+  --names  values of enums and choices of sets by their names, and data as text in quotes where all its bytes may be shown so
   CONFIG   the schema of the messages, as TOML (read); - is standard input
   INPUT    the messages in their frames (read); - is standard input, where CONFIG is not
   OUT      the lines of each message (written); - is standard output";
@@ -137,7 +140,8 @@ const ENCODE: &str = "usage: fixpgw encode CONFIG INPUT WIRE
 Writes messages from their text. Nothing is written where a line of the text is refused.
 
   CONFIG   the schema of the messages, as TOML (read); - is standard input
-  INPUT    the lines of the messages, as decode prints them (read); - is standard input, where CONFIG is not
+  INPUT    the lines of the messages, as decode prints them, with or without names, or as a person writes them: with comments behind
+           #, blanks where they please, and text in quotes (read); - is standard input, where CONFIG is not
   WIRE     the messages in their frames (written); - is standard output, and then the status goes to standard error";
 
 const EXTENDS: &str = "usage: fixpgw extends NEW OLD OUT

@@ -67,26 +67,26 @@ answer_completes text input settings answer before after old new OutputFault sam
 answer_completes text input settings answer before after old new OutputFault same is judged gave (inr rose) none = absurd (none.out rose)
 
 pub decode_completes : DecodeCompletes
-decode_completes text input plan before after old new Done same judged gave cause none = inr (rw same at gave)
-decode_completes text input plan before after old new (Message bad) same judged gave cause none = inr (rw same at gave)
-decode_completes text input plan before after old new Memory same judged gave cause none = inl refl
-decode_completes text input plan before after old new Words same judged gave cause none = absurd judged
-decode_completes text input plan before after old new JournalFault same judged gave cause none = absurd judged
-decode_completes text input plan before after old new (JournalBad which bad) same judged gave cause none = absurd judged
-decode_completes text input plan before after old new DialFault same judged gave cause none = absurd judged
-decode_completes text input plan before after old new (Unfinished phase) same judged gave cause none = absurd judged
-decode_completes text input plan before after old new (Rejected template code) same judged gave cause none = absurd judged
-decode_completes text input plan before after old new (Full entries bytes) same judged gave cause none = absurd judged
-decode_completes text input plan before after old new Turns same judged gave cause none = absurd judged
-decode_completes text input plan before after old new (Config fault) same judged gave cause none = absurd (no_fault _ plan fault same judged)
-decode_completes text input plan before after old new InputFault same judged gave (inl rose) none = absurd (none.config rose)
-decode_completes text input plan before after old new InputFault same judged gave (inr rose) none = absurd (none.input rose)
-decode_completes text input plan before after old new OutputFault same judged gave (inl rose) none = absurd (none.wire rose)
-decode_completes text input plan before after old new OutputFault same judged gave (inr rose) none = absurd (none.out rose)
+decode_completes text input shown plan before after old new Done same judged gave cause none = inr (rw same at gave)
+decode_completes text input shown plan before after old new (Message bad) same judged gave cause none = inr (rw same at gave)
+decode_completes text input shown plan before after old new Memory same judged gave cause none = inl refl
+decode_completes text input shown plan before after old new Words same judged gave cause none = absurd judged
+decode_completes text input shown plan before after old new JournalFault same judged gave cause none = absurd judged
+decode_completes text input shown plan before after old new (JournalBad which bad) same judged gave cause none = absurd judged
+decode_completes text input shown plan before after old new DialFault same judged gave cause none = absurd judged
+decode_completes text input shown plan before after old new (Unfinished phase) same judged gave cause none = absurd judged
+decode_completes text input shown plan before after old new (Rejected template code) same judged gave cause none = absurd judged
+decode_completes text input shown plan before after old new (Full entries bytes) same judged gave cause none = absurd judged
+decode_completes text input shown plan before after old new Turns same judged gave cause none = absurd judged
+decode_completes text input shown plan before after old new (Config fault) same judged gave cause none = absurd (no_fault _ plan fault same judged)
+decode_completes text input shown plan before after old new InputFault same judged gave (inl rose) none = absurd (none.config rose)
+decode_completes text input shown plan before after old new InputFault same judged gave (inr rose) none = absurd (none.input rose)
+decode_completes text input shown plan before after old new OutputFault same judged gave (inl rose) none = absurd (none.wire rose)
+decode_completes text input shown plan before after old new OutputFault same judged gave (inr rose) none = absurd (none.out rose)
 
 wrote : (plan : Plan) (input : List ℕ) (messages : List values.Message) (before after : Option (List ℕ)) (status : Status) → AreSpelled plan input messages → GaveFrames plan input before after status → WroteFrames plan messages before after status
 wrote plan input messages before after status is g =
-    let same : g.messages ≡ messages = one-row plan.messages (lines_in input) g.messages messages g.read is in
+    let same : g.messages ≡ messages = one-row plan (lines_in input) g.messages messages g.read is in
     record {
       status_is = subst (λ ms. status ≡ (written plan ms).status) same g.status_is;
       wire = subst (λ ms. Appends before after (written plan ms).wire) same g.wire;
@@ -97,7 +97,7 @@ encode_completes text input plan messages before after old new Done same is shor
 encode_completes text input plan messages before after old new (Message (bads.Encode number fault)) same is short judged gave cause none = inr (wrote plan input messages before after (Message (bads.Encode number fault)) is (rw same at gave).1)
 encode_completes text input plan messages before after old new (Message (bads.Line line)) same is short judged gave cause none =
     let g = rw same at gave in
-    absurd (not-refused plan.messages (lines_in input) g.refused.messages messages g.refused.behind g.refused.left g.refused.read g.refused.more g.refused.refused is)
+    absurd (not-refused plan (lines_in input) g.refused.messages messages g.refused.behind g.refused.left g.refused.read g.refused.refused is)
 encode_completes text input plan messages before after old new (Message bads.TooLong) same is short judged gave cause none = let g = rw same at gave in absurd (omega (arith, g.past, short))
 encode_completes text input plan messages before after old new (Message (bads.Frame at)) same is short judged gave cause none = absurd (rw same at gave)
 encode_completes text input plan messages before after old new (Message (bads.Cut at)) same is short judged gave cause none = absurd (rw same at gave)

@@ -1,4 +1,5 @@
 mod Completing
 mod Formatting
+mod Forms
 mod Journals
 mod Moving

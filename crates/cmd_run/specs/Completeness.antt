@@ -18,6 +18,7 @@ use Rattle.cmd_base.specs.Contents.{Content, Disks}
 use Rattle.cmd_journal.specs.Formats.{IsMade, Formats}
 use Rattle.cmd_codec.specs.Layouts.{GaveLayout}
 use Rattle.sbe_value.specs.declared.message.Message.{Message}
+use Rattle.cmd_codec.specs.declared.shown.Shown.{Shown}
 use Rattle.cmd_codec.specs.Decoded.{decoded}
 use Rattle.cmd_codec.specs.Decodes.{GaveDecoded, GaveText}
 use Rattle.cmd_codec.specs.Encoded.{AreSpelled, written}
@@ -61,10 +62,10 @@ AnswerCompletes = (text input : List ℕ) (settings : Settings) (answer : Answer
 
 -- the same of `decode`: over a schema and an input it printed the lines up to the first fault, or memory ran out
 abbrev pub DecodeCompletes : Type 0
-DecodeCompletes = (text input : List ℕ) (plan : Plan) (before after : Option (List ℕ)) (old new : Counts) (status : Status)
+DecodeCompletes = (text input : List ℕ) (shown : Shown) (plan : Plan) (before after : Option (List ℕ)) (old new : Counts) (status : Status)
     → plan_of_text text ≡ Ok plan
-    → JudgesBy commands.Decode text status → GaveText (plan_of_text text) input before after status → IsCaused old new status → NoneRose old new
-    → (status ≡ Memory) ⊎ GaveDecoded (decoded plan input) before after status
+    → JudgesBy (commands.Decode shown) text status → GaveText shown (plan_of_text text) input before after status → IsCaused old new status → NoneRose old new
+    → (status ≡ Memory) ⊎ GaveDecoded (decoded shown plan input) before after status
 
 -- the frames of these messages were written, with the status that is told
 pub record WroteFrames (plan : Plan) (messages : List Message) (before after : Option (List ℕ)) (status : Status) : Type 0 where

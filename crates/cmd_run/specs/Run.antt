@@ -11,7 +11,7 @@ use Rattle.cmd_run.specs.declared.words.Command.TheVariants as commands
 abbrev pub JudgesBy : Command → List ℕ → Status → Type 0
 JudgesBy commands.Answer text status = Judges status (settings_of_text text)
 JudgesBy commands.Check text status = Judges status (plan_of_text text)
-JudgesBy commands.Decode text status = Judges status (plan_of_text text)
+JudgesBy (commands.Decode shown) text status = Judges status (plan_of_text text)
 JudgesBy commands.Encode text status = Judges status (plan_of_text text)
 JudgesBy commands.Format text status = Unit {0}
 JudgesBy commands.Journal text status = Unit {0}
@@ -21,7 +21,7 @@ JudgesBy commands.Migrate text status = Unit {0}
 abbrev pub IsRefused : Command → List ℕ → Type 0
 IsRefused commands.Answer text = IsErr (settings_of_text text)
 IsRefused commands.Check text = IsErr (plan_of_text text)
-IsRefused commands.Decode text = IsErr (plan_of_text text)
+IsRefused (commands.Decode shown) text = IsErr (plan_of_text text)
 IsRefused commands.Encode text = IsErr (plan_of_text text)
 IsRefused commands.Format text = ⊥
 IsRefused commands.Journal text = ⊥

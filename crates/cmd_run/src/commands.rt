@@ -15,6 +15,7 @@ ghost use Rattle.cmd_base.specs.Order.{IsOfJournals, KeepsBehindConfig, KeepsBeh
 ghost use Rattle.cmd_answer.specs.Promise.{GaveBy};
 ghost use Rattle.cmd_codec.specs.Layouts.{GaveLayout};
 ghost use Rattle.cmd_codec.specs.Decodes.{GaveText};
+ghost use Rattle.cmd_codec.specs.declared.shown.Shown.{Shown};
 ghost use Rattle.cmd_codec.specs.Encodes.{GaveWire, LeavesWire};
 ghost use Rattle.cmd_journal.specs.Formats.{Formats, KeepsBehindHeader, KeepsJournal};
 ghost use Rattle.cmd_journal.specs.Prints.{Prints, journal_devices};
@@ -39,7 +40,8 @@ use std::sync::Wait;
 /// refused, with its first fault, exactly where it has one, and then no device but CONFIG is touched. Where the devices
 /// tell their content, `answer` gives WIRE and OUT what the definition of the answer says of CONFIG and INPUT, and `check`
 /// gives OUT the lines of the layout: all of it at statuses 0 and 12, and a front of it where a device failed or memory
-/// ran out. `decode` gives OUT the lines of the messages whose frames INPUT has, up to the first fault, and `encode` gives
+/// ran out. `decode` gives OUT the lines of the messages whose frames INPUT has, up to the first fault, with `--names` as
+/// `named_text` makes them, and `encode` gives
 /// WIRE the frames of the messages that the text of INPUT spells, up to the first that may not be written, and nothing where
 /// a line of the text is refused. `format` makes both disks journals without records, the outbox first, and refuses a disk
 /// that begins as a journal of either format does. `journal` gives OUT the lines of the records that both disks hold, refuses a disk that
@@ -60,9 +62,9 @@ pub fn run<R: Wait, S: Source, K: Sink, D: Disk>(
     ensures untouched_by_answer { command_of (bytes_of words.now) ≡ Some commands.Answer → KeepsDisks outside result.1 }
     ensures check_output { command_of (bytes_of words.now) ≡ Some commands.Check → (text : List ℕ) → S.left outside.config ≡ Some text → GaveLayout (plan_of_text text) (K.taken outside.out) (K.taken result.1.out) result.0 }
     ensures untouched_by_check { command_of (bytes_of words.now) ≡ Some commands.Check → (result.1.input ≡ outside.input) × (result.1.wire ≡ outside.wire) × KeepsDisks outside result.1 }
-    ensures decode_output { command_of (bytes_of words.now) ≡ Some commands.Decode → (text input : List ℕ) → S.left outside.config ≡ Some text → S.left outside.input ≡ Some input →
-        GaveText (plan_of_text text) input (K.taken outside.out) (K.taken result.1.out) result.0 }
-    ensures untouched_by_decode { command_of (bytes_of words.now) ≡ Some commands.Decode → (result.1.wire ≡ outside.wire) × KeepsDisks outside result.1 }
+    ensures decode_output { (shown : Shown) → command_of (bytes_of words.now) ≡ Some (commands.Decode shown) → (text input : List ℕ) → S.left outside.config ≡ Some text → S.left outside.input ≡ Some input →
+        GaveText shown (plan_of_text text) input (K.taken outside.out) (K.taken result.1.out) result.0 }
+    ensures untouched_by_decode { (shown : Shown) → command_of (bytes_of words.now) ≡ Some (commands.Decode shown) → (result.1.wire ≡ outside.wire) × KeepsDisks outside result.1 }
     ensures encode_output { command_of (bytes_of words.now) ≡ Some commands.Encode → (text input : List ℕ) → S.left outside.config ≡ Some text → S.left outside.input ≡ Some input →
         GaveWire (plan_of_text text) input (K.taken outside.wire) (K.taken result.1.wire) result.0 }
     ensures untouched_by_encode { command_of (bytes_of words.now) ≡ Some commands.Encode → (result.1.out ≡ outside.out) × KeepsDisks outside result.1 }
@@ -109,8 +111,8 @@ pub fn run<R: Wait, S: Source, K: Sink, D: Disk>(
             let status = check(alloc, &mut outside);
             (status, outside)
         }
-        Some(Command::Decode) => {
-            let status = decode(rt, alloc, &mut outside);
+        Some(Command::Decode(shown)) => {
+            let status = decode(rt, alloc, shown, &mut outside);
             (status, outside)
         }
         Some(Command::Encode) => {

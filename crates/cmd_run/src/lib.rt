@@ -8,6 +8,7 @@ mod words;
 
 pub use cmd_answer::one_answer;
 pub use cmd_base::{Bad, JournalCause, Outside, Status, Which};
+pub use cmd_codec::Shown;
 pub use commands::run;
 pub use jr_judge::one_verdict_of_box;
 pub use laws::{

@@ -1,8 +1,9 @@
 //! The words of the command line.
 
-ghost use Rattle.std.specs.Prelude.{◌≡◌, if◌then◌else◌, Some, None, codes};
-ghost use Rattle.std.specs.Str.{bytes_eq};
-ghost use Rattle.cmd_run.specs.Words.{bytes_of, command_of};
+ghost use Rattle.std.specs.Prelude.{◌≡◌};
+ghost use Rattle.cmd_run.specs.Words.{before_four, before_three, before_two, bytes_of, command_of};
+
+use cmd_codec::Shown;
 
 /// A command.
 #[derive(Clone, Copy)]
@@ -11,8 +12,8 @@ pub enum Command {
     Answer,
     /// `check CONFIG OUT`
     Check,
-    /// `decode CONFIG INPUT OUT`
-    Decode,
+    /// `decode CONFIG INPUT OUT`, or with `--names` behind the first word
+    Decode(Shown),
     /// `encode CONFIG INPUT WIRE`
     Encode,
     /// `format OUTBOX INBOX`
@@ -25,7 +26,7 @@ pub enum Command {
 
 /// The command that this word names in front of two files.
 fn before_two(word: &str) -> Option<Command>
-    ensures { result ≡ (if bytes_eq word.now (codes "check") then Some Command.Check else if bytes_eq word.now (codes "format") then Some Command.Format else if bytes_eq word.now (codes "migrate") then Some Command.Migrate else None) }
+    ensures { result ≡ before_two word.now }
 {
     match word {
         "check" => Some(Command::Check),
@@ -37,22 +38,23 @@ fn before_two(word: &str) -> Option<Command>
 
 /// The command that this word names in front of three files.
 fn before_three(word: &str) -> Option<Command>
-    ensures { result ≡ (if bytes_eq word.now (codes "decode") then Some Command.Decode else if bytes_eq word.now (codes "encode") then Some Command.Encode else if bytes_eq word.now (codes "journal") then Some Command.Journal else None) }
+    ensures { result ≡ before_three word.now }
 {
     match word {
-        "decode" => Some(Command::Decode),
+        "decode" => Some(Command::Decode(Shown::Numbers)),
         "encode" => Some(Command::Encode),
         "journal" => Some(Command::Journal),
         _ => None,
     }
 }
 
-/// The command that this word names in front of four files.
-fn before_four(word: &str) -> Option<Command>
-    ensures { result ≡ (if bytes_eq word.now (codes "answer") then Some Command.Answer else None) }
+/// The command that these words name in front of three files, or the first of them in front of four.
+fn before_four(word: &str, second: &str) -> Option<Command>
+    ensures { result ≡ before_four word.now second.now }
 {
     match word {
         "answer" => Some(Command::Answer),
+        "decode" if second == "--names" => Some(Command::Decode(Shown::Names)),
         _ => None,
     }
 }
@@ -64,7 +66,7 @@ pub fn command_of(words: &[String]) -> Option<Command>
     match words {
         [command, _, _] => before_two(command.as_str()),
         [command, _, _, _] => before_three(command.as_str()),
-        [command, _, _, _, _] => before_four(command.as_str()),
+        [command, second, _, _, _] => before_four(command.as_str(), second.as_str()),
         _ => None,
     }
 }

@@ -2,6 +2,7 @@
 
 use crate::admitted::{push_form, push_listed, push_message_names, push_messages};
 use crate::filled::{Filled, plain, with_one, with_three, with_two};
+use crate::strict::Strict;
 use crate::walk::{Awaited, Found, found_at, push_awaited};
 use say_words::push_quoted;
 use sbe_encode::EncodeFault;
@@ -237,6 +238,8 @@ pub(crate) struct Placed<'a> {
     pub(crate) lines_before: u64,
     /// The text from it on.
     pub(crate) text: &'a [u8],
+    /// The lines that those of the text came from, where they are not its own.
+    pub(crate) came_from: Option<&'a Strict>,
 }
 
 /// Adds the line of a message in which this element stands, in brackets.
@@ -244,6 +247,10 @@ fn push_line_of(line: &mut String, placed: &Placed<'_>, name: &[u8]) -> Result<(
     let at = placed
         .lines_before
         .saturating_add(line_with(placed.text, name));
+    let at = match placed.came_from {
+        Some(strict) => strict.number_of(at),
+        None => at,
+    };
     write!(line, " (line {at})")
 }
 
@@ -299,10 +306,13 @@ pub fn push_encode_fault(
     fault: &EncodeFault,
 ) -> Result<(), AllocError> {
     write!(line, "message {number}: ")?;
+    let strict = Strict::of(alloc, plan, text)?;
+    let text = strict.text.as_slice();
     let left = from_message(alloc, plan, text, number).unwrap_or(&[]);
     let placed = Placed {
         lines_before: count_lines(text).saturating_sub(count_lines(left)),
         text: left,
+        came_from: Some(&strict),
     };
     push_message_fault(alloc, line, plan, &placed, fault)
 }
@@ -358,19 +368,20 @@ fn push_awaited_message(
     }
 }
 
-/// Adds what has to stand at a line of a text, where the text has that line or ends before it.
+/// Adds what has to stand at a line of a text, which is shown as it was written, or where the text ends before it.
 fn push_awaited_fault(
     line: &mut String,
     plan: &Plan,
-    found: Option<&[u8]>,
+    shown: Option<&[u8]>,
+    found: &[u8],
     path: &[u8],
     awaited: Awaited<'_>,
 ) -> Result<(), AllocError> {
     let name = std::str::from_utf8(path).unwrap_or("?");
-    let Some(found) = found else {
+    let Some(shown) = shown else {
         return write!(line, "the text ends here, and {name} is awaited");
     };
-    push_quoted_line(line, found)?;
+    push_quoted_line(line, shown)?;
     if has_path(found, path) {
         write!(line, ": this is no value of {name}")?;
         return push_awaited_form(line, plan, awaited);
@@ -391,7 +402,16 @@ pub fn push_text_fault(
     number: u64,
 ) -> Result<(), AllocError> {
     write!(line, "line {number}: ")?;
-    push_text_fault_at(alloc, line, plan, text, number)
+    let strict = Strict::of(alloc, plan, text)?;
+    let place = strict.place_of(number);
+    push_awaited_at(
+        alloc,
+        line,
+        plan,
+        strict.text.as_slice(),
+        place,
+        line_at(text, number),
+    )
 }
 
 /// Adds what has to stand at the line of this number in a text.
@@ -402,9 +422,22 @@ pub(crate) fn push_text_fault_at(
     text: &[u8],
     number: u64,
 ) -> Result<(), AllocError> {
+    push_awaited_at(alloc, line, plan, text, number, line_at(text, number))
+}
+
+/// The same, where the line is shown so.
+fn push_awaited_at(
+    alloc: Global,
+    line: &mut String,
+    plan: &Plan,
+    text: &[u8],
+    number: u64,
+    shown: Option<&[u8]>,
+) -> Result<(), AllocError> {
     let mut path = Vec::new(alloc);
     let awaited = push_awaited(alloc, &mut path, plan, text, number)?;
-    push_awaited_fault(line, plan, line_at(text, number), path.as_slice(), awaited)
+    let found = line_at(text, number).unwrap_or(&[]);
+    push_awaited_fault(line, plan, shown, found, path.as_slice(), awaited)
 }
 
 /// Whether a line begins with a path and an equals sign.

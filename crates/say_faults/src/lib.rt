@@ -8,6 +8,7 @@ mod frame;
 mod plan;
 mod reject;
 mod session;
+mod strict;
 mod told;
 mod unplanned;
 mod walk;

@@ -19,6 +19,7 @@ fn message_with(text: &[u8], number: u64) -> Placed<'_> {
     let mut placed = Placed {
         lines_before: 0,
         text,
+        came_from: None,
     };
     for at in 1..number {
         let Some((line, rest)) = first_line(left) else {
@@ -29,6 +30,7 @@ fn message_with(text: &[u8], number: u64) -> Placed<'_> {
             placed = Placed {
                 lines_before: at,
                 text: left,
+                came_from: None,
             };
         }
     }

@@ -10,7 +10,7 @@ returns-then-not-more-clause-promise g c =
     let before : Streams = record { input = g.S.Source.left c.args.input.now; out = g.K.Sink.taken c.args.out.now } in
     let after : Streams = record { input = g.S.Source.left c.read.new.input; out = g.K.Sink.taken c.begin.new.sink } in
     let e : c.read.result ≡ Ok false = cc (c.in-Ok-read.is, c.if-not-more.true) in
-    empty c.args.plan.now before after c.in-Ok.decoder c.in-Ok.ensures (c.read.ensures.nothing e) (c.read.ensures.end e) c.begin.ensures.nothing
+    empty c.args.shown c.args.plan.now before after c.in-Ok.decoder c.in-Ok.ensures (c.read.ensures.nothing e) (c.read.ensures.end e) c.begin.ensures.nothing
 
 pub loop-init : goal.loop-init
 loop-init g c =
@@ -18,7 +18,7 @@ loop-init g c =
     let now : Streams = record { input = g.S.Source.left c.args.input.now; out = g.K.Sink.taken c.begin.new.sink } in
     let e : c.read.result ≡ Ok true = cc (c.in-Ok-read.is, c.if-not-more.false) in
     record {
-      stands = c.read.ensures.more e c.args.plan.now before (g.K.Sink.taken c.begin.new.sink) (stands-new c.args.plan.now before now c.in-Ok.decoder c.in-Ok.ensures refl c.begin.ensures.nothing (Consumes-nil (g.S.Source.left c.args.input.now)));
+      stands = c.read.ensures.more e c.args.shown c.args.plan.now before (g.K.Sink.taken c.begin.new.sink) (stands-new c.args.shown c.args.plan.now before now c.in-Ok.decoder c.in-Ok.ensures refl c.begin.ensures.nothing (Consumes-nil (g.S.Source.left c.args.input.now)));
       given = c.read.ensures.given e;
       input_counted = c.read.ensures.cause.never_falls;
       out_counted = c.begin.ensures.cause.never_falls;

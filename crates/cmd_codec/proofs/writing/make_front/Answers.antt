@@ -12,7 +12,7 @@ overflow_add-number c = omega (arith, (c.loop-frames.invariant None).counted, li
 
 pub loop-frames-preserved : goal.loop-frames-preserved
 loop-frames-preserved c =
-    made-more c.args.plan.now c.args.text.now c.loop-frames.left.now c.in-Ok.rest.now c.loop-frames.number c.loop-frames.frames.items c.write_message.new.frames.items c.loop-frames.invariant c.in-Ok.ensures
+    made-more c.args.plan.now c.args.text.now c.loop-frames.left.now c.in-Ok-Some.rest.now c.loop-frames.number c.loop-frames.frames.items c.write_message.new.frames.items c.loop-frames.invariant (rw c.in-Ok-Some.field-0-is at c.in-Ok-Some.ensures)
 
 pub returns-in-Err-Line : goal.returns-in-Err-Line
 returns-in-Err-Line c =

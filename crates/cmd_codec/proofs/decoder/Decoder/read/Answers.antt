@@ -12,8 +12,8 @@ returns-then-count-eq0-clause-end g c = λ e.
     bytes.1 refl (rw c.pull.auto.into (room_left c.args.self.now.framer.held (length c.room.result.now) c.requires.waits c.room.ensures.size))
 
 pub returns-clause-more : goal.returns-clause-more
-returns-clause-more g c = λ e plan before out stands.
-    piece plan before _ (g.S.Source.left c.pull.new.self) out c.args.self.now _ c.in-Ok.count c.pull.new.into stands c.filled.ensures.held (c.pull.auto.into ∙ ap length c.room.ensures.value) refl refl refl c.in-Ok.ensures.bytes.0
+returns-clause-more g c = λ e shown plan before out stands.
+    piece shown plan before _ (g.S.Source.left c.pull.new.self) out c.args.self.now _ c.in-Ok.count c.pull.new.into stands c.filled.ensures.held (c.pull.auto.into ∙ ap length c.room.ensures.value) refl refl refl c.in-Ok.ensures.bytes.0
 
 pub returns-clause-given : goal.returns-clause-given
 returns-clause-given g c = λ e. gave _ _ c.in-Ok.count c.pull.new.into (omega (arith, c.if-count-eq0.false)) c.in-Ok.ensures.count c.in-Ok.ensures.bytes.0

@@ -15,10 +15,10 @@ returns-in-Ok-false-clause-after g c = λ before stands.
     let after : Streams = record { input = g.S.Source.left c.read.new.input; out = g.K.Sink.taken c.print_held.new.out } in
     let e : c.read.result ≡ Ok false = cc (c.in-Ok-false.is, c.in-Ok-false.field-0-test) in
     let stood = c.in_ok-print_held.ensures.stands before (g.S.Source.left c.args.input.now) stands in
-    finished-by c.args.plan.now before now after c.print_held.new.self c.read.new.self stood c.in_ok-print_held.ensures.idle (c.read.ensures.nothing e) (c.read.ensures.end e) refl
+    finished-by c.args.shown c.args.plan.now before now after c.print_held.new.self c.read.new.self stood c.in_ok-print_held.ensures.idle (c.read.ensures.nothing e) (c.read.ensures.end e) refl
     c.read.ensures.place (c.read.ensures.held e) c.finish.result c.finish.ensures
 
 pub returns-in-Err-clause-after : goal.returns-in-Err-clause-after
 returns-in-Err-clause-after g c = λ before stands.
-    kept-front c.args.plan.now before (record { input = g.S.Source.left c.args.input.now; out = g.K.Sink.taken c.print_held.new.out }) c.print_held.new.self
+    kept-front c.args.shown c.args.plan.now before (record { input = g.S.Source.left c.args.input.now; out = g.K.Sink.taken c.print_held.new.out }) c.print_held.new.self
     (c.in_ok-print_held.ensures.stands before (g.S.Source.left c.args.input.now) stands)

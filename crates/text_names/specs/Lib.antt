@@ -1,0 +1,13 @@
+pub mod Bare
+pub mod Quotes
+pub mod Paths
+pub mod Values
+pub mod Lines
+pub mod Fronts
+pub mod Named
+pub mod Plain
+pub mod Laws
+pub mod Sample
+pub mod Unquoting
+pub mod Quoting
+pub mod Steps

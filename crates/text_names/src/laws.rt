@@ -1,0 +1,29 @@
+//! That strict text stays, and that what is shown with names reads back: laws of the definitions.
+
+ghost use Rattle.std.specs.Prelude.{◌≡◌, ℕ, List, [], Ok, Some};
+ghost use Rattle.sbe_layout.specs.declared.plan.Plan.{Plan};
+ghost use Rattle.sbe_value.specs.declared.message.Message.{Message};
+ghost use Rattle.sbe_text.specs.Reading.{message_of_text, read_message};
+ghost use Rattle.text_words.specs.Lines.{lines_in};
+ghost use Rattle.text_names.specs.Fronts.{front_of};
+ghost use Rattle.text_names.specs.Laws.{ReadsBack, StaysStrict, unnamed};
+ghost use Rattle.text_names.specs.Lines.{narrowed_message};
+ghost use Rattle.text_names.specs.Named.{named_text};
+ghost use Rattle.text_names.specs.Plain.{HasPlainNames};
+
+/// Strict lines that spell a message become these lines, and so spell the same message.
+pub fn strict_stays()
+    ensures law { (schema : Plan) (text : List ℕ) (m : Message) (rest : List (List ℕ)) → HasPlainNames schema → read_message schema.messages (lines_in text) ≡ Ok (m, rest)
+        → StaysStrict schema (lines_in text) m rest (narrowed_message schema (lines_in text)) }
+{}
+
+/// What is shown with names of a strict text that spells a message becomes strict lines that spell the same message.
+pub fn shown_reads_back()
+    ensures law { (schema : Plan) (text : List ℕ) (m : Message) → HasPlainNames schema → message_of_text schema text ≡ Ok m → ReadsBack schema m (unnamed schema text) }
+{}
+
+/// What is shown with names of a strict text that spells a message is read as this message.
+pub fn shown_stands_at_front()
+    ensures law { (schema : Plan) (text : List ℕ) (m : Message) → HasPlainNames schema → message_of_text schema text ≡ Ok m
+        → front_of schema (lines_in (named_text schema (lines_in text))) ≡ Ok (Some (m, [])) }
+{}
