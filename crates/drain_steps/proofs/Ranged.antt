@@ -40,7 +40,7 @@ use Rattle.drain_steps.specs.Ranges.{InRange}
 pub range_same : (f g : Facts) → g.connection.serving ≡ f.connection.serving → f.recorded.sent ≤ g.recorded.sent → InRange f → InRange g
 range_same f g e more h = by_range f.connection.serving g.connection.serving e h
   where
-    by_range : (o p : Option Range) → p ≡ o → IfSome o (λ r. (1 ≤ r.count) × (r.from + r.count ≤ f.recorded.sent + 1)) → IfSome p (λ r. (1 ≤ r.count) × (r.from + r.count ≤ g.recorded.sent + 1))
+    by_range : (o p : Option Range) → p ≡ o → IfSome o (λ r. (1 ≤ r.count) × (r.from + r.count ≤ f.recorded.sent + 1) × (1 ≤ r.from)) → IfSome p (λ r. (1 ≤ r.count) × (r.from + r.count ≤ g.recorded.sent + 1) × (1 ≤ r.from))
     by_range o None e h = tt
     by_range None (Some r) e h = absurd (cc e)
     by_range (Some q) (Some r) e h =
@@ -49,10 +49,11 @@ range_same f g e more h = by_range f.connection.serving g.connection.serving e h
         let count = ap (λ (k : Range). k.count) same in
         let some = h.0 in
         let most = h.1 in
-        (omega (arith, some, count), omega (arith, most, from, count, more))
+        let start = h.2 in
+        (omega (arith, some, count), omega (arith, most, from, count, more), omega (arith, start, from))
 
 pub no_range : (g : Facts) → g.connection.serving ≡ None → InRange g
-no_range g e = subst (λ (o : Option Range). IfSome o (λ r. (1 ≤ r.count) × (r.from + r.count ≤ g.recorded.sent + 1))) (sym e) tt
+no_range g e = subst (λ (o : Option Range). IfSome o (λ r. (1 ≤ r.count) × (r.from + r.count ≤ g.recorded.sent + 1) × (1 ≤ r.from))) (sym e) tt
 
 abbrev Free : Facts → Type 0
 Free f = is_shaken f.connection.phase ≡ false → f.connection.serving ≡ None
@@ -143,26 +144,27 @@ message_rows x f p = all_within (Ranges f) (is_established f.connection.phase) _
 ))
 
 -- a request that is granted
-judged_in : (mine recoverable : Bool) (from count sent : ℕ) (range : Range) → judged mine recoverable from count sent ≡ Ok range → (1 ≤ range.count) × (range.from + range.count ≤ sent + 1)
-judged_in mine recoverable from count sent range = by_tests mine recoverable (from == 0) (count == 0) (nat_lt (sent + 1) (from + count)) (nat_lt request_limit count) refl refl
+judged_in : (mine recoverable : Bool) (from count sent : ℕ) (range : Range) → judged mine recoverable from count sent ≡ Ok range → (1 ≤ range.count) × (range.from + range.count ≤ sent + 1) × (1 ≤ range.from)
+judged_in mine recoverable from count sent range = by_tests mine recoverable (from == 0) (count == 0) (nat_lt (sent + 1) (from + count)) (nat_lt request_limit count) refl refl refl
   where
-    by_tests : (m rec zero none outside many : Bool) → (count == 0) ≡ none → nat_lt (sent + 1) (from + count) ≡ outside
+    by_tests : (m rec zero none outside many : Bool) → (from == 0) ≡ zero → (count == 0) ≡ none → nat_lt (sent + 1) (from + count) ≡ outside
         → (if not m then Err InvalidSession else if not rec || zero || none || outside then Err OutOfRange else if many then Err RequestLimitExceeded else Ok (record { from = from; count = count })) ≡ Ok range
-        → (1 ≤ range.count) × (range.from + range.count ≤ sent + 1)
-    by_tests false rec zero none outside many p q e = absurd cc
-    by_tests true false zero none outside many p q e = absurd cc
-    by_tests true true true none outside many p q e = absurd cc
-    by_tests true true false true outside many p q e = absurd cc
-    by_tests true true false false true many p q e = absurd cc
-    by_tests true true false false false true p q e = absurd cc
-    by_tests true true false false false false p q e =
+        → (1 ≤ range.count) × (range.from + range.count ≤ sent + 1) × (1 ≤ range.from)
+    by_tests false rec zero none outside many z p q e = absurd cc
+    by_tests true false zero none outside many z p q e = absurd cc
+    by_tests true true true none outside many z p q e = absurd cc
+    by_tests true true false true outside many z p q e = absurd cc
+    by_tests true true false false true many z p q e = absurd cc
+    by_tests true true false false false true z p q e = absurd cc
+    by_tests true true false false false false z p q e =
         let granted : Range = record { from = from; count = count } in
         let same : granted ≡ range = cc e in
+        let start = eqb-false from 0 z in
         let some = eqb-false count 0 p in
         let within = ltb-false (sent + 1) (from + count) q in
-        subst (λ (r : Range). (1 ≤ r.count) × (r.from + r.count ≤ sent + 1)) same (omega (arith, some), omega (arith, within))
+        subst (λ (r : Range). (1 ≤ r.count) × (r.from + r.count ≤ sent + 1) × (1 ≤ r.from)) same (omega (arith, some), omega (arith, within), omega (arith, start))
 
-requested : (x : Around) (f : Facts) (id : List ℕ) (timestamp : ℕ) (r : Result Range RetransmitCode) → ((range : Range) → r ≡ Ok range → (1 ≤ range.count) × (range.from + range.count ≤ f.recorded.sent + 1))
+requested : (x : Around) (f : Facts) (id : List ℕ) (timestamp : ℕ) (r : Result Range RetransmitCode) → ((range : Range) → r ≡ Ok range → (1 ≤ range.count) × (range.from + range.count ≤ f.recorded.sent + 1) × (1 ≤ range.from))
     → Ranges f (request_answered x f id timestamp r)
 requested x f id timestamp (Ok range) is = onto x f (serves f (Some range)) _ refl (λ _ _. is range refl)
 requested x f id timestamp (Err code) is = resting f _ refl

@@ -125,12 +125,12 @@ pub done_range : (s : State) (now : ℕ) → InRange s.facts → InRange (step s
 done_range s now h = kept_range s.facts (step s (turn_done now)).facts (done_kept s now) h
 
 -- what of a range is left
-rest_range : (r : Range) (n sent : ℕ) → n ≤ r.count → (1 ≤ r.count) × (r.from + r.count ≤ sent + 1) → IfSome (rest_of r n) (λ q. (1 ≤ q.count) × (q.from + q.count ≤ sent + 1))
+rest_range : (r : Range) (n sent : ℕ) → n ≤ r.count → (1 ≤ r.count) × (r.from + r.count ≤ sent + 1) × (1 ≤ r.from) → IfSome (rest_of r n) (λ q. (1 ≤ q.count) × (q.from + q.count ≤ sent + 1) × (1 ≤ q.from))
 rest_range r n sent within h = by_test (r.count == n) refl
   where
-    by_test : (b : Bool) → (r.count == n) ≡ b → IfSome {T = Range} (if b then None else Some (record { from = r.from + n; count = r.count - n })) (λ q. (1 ≤ q.count) × (q.from + q.count ≤ sent + 1))
+    by_test : (b : Bool) → (r.count == n) ≡ b → IfSome {T = Range} (if b then None else Some (record { from = r.from + n; count = r.count - n })) (λ q. (1 ≤ q.count) × (q.from + q.count ≤ sent + 1) × (1 ≤ q.from))
     by_test true e = tt
-    by_test false e = let other = eqb-false r.count n e in let some = h.0 in let most = h.1 in (omega (arith, other, within), omega (arith, within, most))
+    by_test false e = let other = eqb-false r.count n e in let some = h.0 in let most = h.1 in let start = h.2 in (omega (arith, other, within), omega (arith, within, most), omega (arith, start))
 
 call_range : (h : List Entry) (s : State) (call : Call) → IsOther h call → MayStand h s call → InRange s.facts → InRange (step s call).facts
 call_range h s (begin now) other may r = absurd other
@@ -150,7 +150,7 @@ call_range h s (again payloads now) other may r = by_range s.facts.connection.se
         let same : may.comes.range ≡ q = cc (sym may.comes.serves ∙ e) in
         let count = ap (λ (k : Range). k.count) same in
         let within = may.comes.within in
-        rest_range q (length payloads) s.facts.recorded.sent (omega (arith, within, count)) (subst (λ (k : Option Range). IfSome k (λ p. (1 ≤ p.count) × (p.from + p.count ≤ s.facts.recorded.sent + 1))) e r)
+        rest_range q (length payloads) s.facts.recorded.sent (omega (arith, within, count)) (subst (λ (k : Option Range). IfSome k (λ p. (1 ≤ p.count) × (p.from + p.count ≤ s.facts.recorded.sent + 1) × (1 ≤ p.from))) e r)
 call_range h s (taken count) other may r = r
 call_range h s reserve other may r = r
 call_range h s held_done other may r = kept_range s.facts (step s held_done).facts (held_kept s) r

@@ -5,9 +5,9 @@ use Rattle.fixp_replies.specs.declared.facts.Facts.{Facts}
 use Rattle.honest_ends.specs.Worlds.{World, Step, world_after, AllMayStep}
 use Rattle.honest_ends.specs.Knowing.{StartsKnown}
 
--- a range that is served has messages, and ends with what was sent
+-- a range that is served has messages, from number 1 on, and ends with what was sent
 abbrev pub InRange : Facts → Type 0
-InRange f = IfSome f.connection.serving (λ r. (1 ≤ r.count) × (r.from + r.count ≤ f.recorded.sent + 1))
+InRange f = IfSome f.connection.serving (λ r. (1 ≤ r.count) × (r.from + r.count ≤ f.recorded.sent + 1) × (1 ≤ r.from))
 
 -- at both ends
 pub record Ranged (w : World) : Type 0 where

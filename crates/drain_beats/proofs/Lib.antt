@@ -1,0 +1,4 @@
+pub mod Resting
+pub mod Calling
+pub mod Paying
+pub mod Holding

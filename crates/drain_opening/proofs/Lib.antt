@@ -1,0 +1,4 @@
+pub mod Interval
+pub mod Answered
+pub mod Idling
+pub mod Opened

@@ -1,0 +1,4 @@
+pub mod Resting
+pub mod Giving
+pub mod Turned
+pub mod Fallen
