@@ -1,5 +1,6 @@
-mod Fronts
-mod Lines
+pub mod Fronts
+pub mod Lines
+pub mod Others
 mod Splits
 mod Places
 mod Telling

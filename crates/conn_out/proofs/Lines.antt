@@ -1,9 +1,9 @@
 -- The lines of messages behind a text.
-use Rattle.std.proofs.Common.{◌≡◌, inl, inr, ℕ, zero, suc, ◌+◌, ◌/◌, ◌%◌, ◌<◌, ◌^◌, List, [], ◌∷◌, ◌++◌, length, slice_index, refl, ap, sym}
+use Rattle.std.proofs.Common.{◌≡◌, inl, inr, ℕ, zero, suc, ◌+◌, ◌/◌, ◌%◌, ◌<◌, List, [], ◌∷◌, ◌++◌, length, slice_index, refl, ap, sym}
 use Rattle.std.proofs.Common.{◌∙◌, append_assoc, append-nil, codes, decimal, arith}
-use Rattle.std.specs.Prelude.{All, Bool, true, nat_le, ◌&&◌}
+use Rattle.std.specs.Prelude.{All, Bool, true, false, nat_le, nat_lt, ◌==◌, ◌&&◌, if◌then◌else◌}
 use Rattle.std.proofs.lemmas.Bool.{and_parts, leb-true}
-use Rattle.std.proofs.lemmas.Fmt.{decimal_by_steps}
+use Rattle.core.specs.Fmt.{digit_glyph, digits_onto, digits}
 use Rattle.std.proofs.lemmas.List.Elements.{All-nil, All-cons, All-head, All-tail, All-append}
 use Rattle.hex.specs.Hex.{IsBytes, encode_with, encode_lower, lower_digits}
 use Rattle.session_model.specs.Inbox.{Numbered}
@@ -17,19 +17,35 @@ use Rattle.conn_out.proofs.Fronts.{nothing_more}
 
 -- ---- no line feed stands within a line
 
-one_feedless : (b : ℕ) → 10 < b → IsFeedless (b ∷ [])
+pub one_feedless : (b : ℕ) → 10 < b → IsFeedless (b ∷ [])
 one_feedless b l zero k e = omega (arith, l, e)
 one_feedless b l (suc i) k e = omega (arith, k)
 
 feedless_cons : (b : ℕ) (bs : List ℕ) → 10 < b → IsFeedless bs → IsFeedless (b ∷ bs)
 feedless_cons b bs l h = feedless_append (b ∷ []) bs (one_feedless b l) h
 
-decimal_feedless : (n : ℕ) → n < 2 ^ 64 → IsFeedless (decimal n)
-decimal_feedless n small = decimal_by_steps (λ m ds. IsFeedless ds) (λ m l. one_feedless (48 + m) (omega arith))
-    (λ m ds l h. feedless_append ds ((48 + m % 10) ∷ []) h (one_feedless (48 + m % 10) (omega arith))) n small
+-- nor in a number, digit by digit from the last
+either_feedless : (b : Bool) (xs ys : List ℕ) → IsFeedless xs → IsFeedless ys → IsFeedless (if b then xs else ys)
+either_feedless true xs ys h k = h
+either_feedless false xs ys h k = k
+
+glyph_above : (b : Bool) (d : ℕ) → 10 < (if b then 48 + d else 87 + d)
+glyph_above true d = omega arith
+glyph_above false d = omega arith
+
+digits_feedless : (k n : ℕ) (behind : List ℕ) → IsFeedless behind → IsFeedless (digits_onto k 10 false n behind)
+digits_feedless zero n behind h = h
+digits_feedless (suc k) n behind h =
+    let on : IsFeedless (digit_glyph false (n % 10) ∷ behind) = feedless_cons (digit_glyph false (n % 10)) behind (glyph_above (nat_lt (n % 10) 10) (n % 10)) h in
+    either_feedless (n / 10 == 0) (digit_glyph false (n % 10) ∷ behind) (digits_onto k 10 false (n / 10) (digit_glyph false (n % 10) ∷ behind)) on
+    (digits_feedless k (n / 10) (digit_glyph false (n % 10) ∷ behind) on)
+
+pub decimal_feedless : (n : ℕ) → IsFeedless (decimal n)
+unfolding digits
+decimal_feedless n = digits_feedless 64 n [] none_feedless
 
 -- each byte is greater than a line feed, which computes
-abbrev above : List ℕ → Bool
+abbrev pub above : List ℕ → Bool
 above [] = true
 above (b ∷ bs) = nat_le 11 b && above bs
 
@@ -38,7 +54,7 @@ at_above [] h k l = absurd (omega (arith, l))
 at_above (b ∷ bs) h zero l = let least = leb-true 11 b (and_parts (nat_le 11 b) (above bs) h).0 in omega (arith, least)
 at_above (b ∷ bs) h (suc k) l = at_above bs (and_parts (nat_le 11 b) (above bs) h).1 k (omega (arith, l))
 
-feedless_above : (bytes : List ℕ) → above bytes ≡ true → IsFeedless bytes
+pub feedless_above : (bytes : List ℕ) → above bytes ≡ true → IsFeedless bytes
 feedless_above bytes h k l e = let more = at_above bytes h k l in omega (arith, more, e)
 
 digit : (d : ℕ) → d < 16 → 10 < slice_index lower_digits d
@@ -60,7 +76,7 @@ line_feedless : (m : Numbered) → IsMessage m → IsFeedless (line_of m)
 line_feedless m h =
     feedless_append (codes "deliver " ++ decimal m.number ++ codes " ") (encode_lower m.payload)
     (feedless_append (codes "deliver " ++ decimal m.number) (codes " ") (feedless_append (codes "deliver ") (decimal m.number)
-    (feedless_above (codes "deliver ") refl) (decimal_feedless m.number h.size)) (one_feedless 32 (omega arith)))
+    (feedless_above (codes "deliver ") refl) (decimal_feedless m.number)) (one_feedless 32 (omega arith)))
     (hex_feedless m.payload h.each)
 
 abbrev lines_of : List Numbered → List (List ℕ)
@@ -116,7 +132,7 @@ tells_on text more ms ns t u = record {
   told = told_on t.lines u.lines ms ns t.told u.told;
 }
 
-no_line : Tells [] []
+pub no_line : Tells [] []
 no_line = record { lines = []; each = All-nil IsFeedless; bytes = refl; told = tt }
 
 -- the lines of messages, and no more, project them

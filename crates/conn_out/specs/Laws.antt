@@ -2,6 +2,8 @@
 use Rattle.std.specs.Prelude.{⊤, ◌≡◌, ℕ, ◌+◌, ◌≤◌, ◌^◌, ◌<◌, List, [], ◌∷◌, ◌++◌, length, take, All}
 use Rattle.hex.specs.Hex.{IsBytes}
 use Rattle.session_model.specs.Inbox.{Numbered}
+use Rattle.conn_lines.specs.Lines.{not_applied_line, connection_line}
+use Rattle.conn_lines.specs.declared.close.Close.{Close}
 use Rattle.conn_out.specs.Messages.{deliver_lines}
 use Rattle.conn_out.specs.Projections.{Tells, Projects, IsLastTold}
 
@@ -23,6 +25,11 @@ pub record IsMessage (m : Numbered) : Type 0 where
 -- a text that tells of some messages, and the lines of more behind it, tell of all of them
 abbrev pub LinesTellOn : Type 0
 LinesTellOn = (text : List ℕ) (ms more : List Numbered) → Tells text ms → All IsMessage more → Tells (text ++ deliver_lines more) (ms ++ more)
+
+-- and with a line of what the peer did not apply, or of how a connection ended, it tells of the same messages
+pub record OthersTellOn : Type 0 where
+  pub not_applied : (text : List ℕ) (ms : List Numbered) (from count : ℕ) → Tells text ms → Tells (text ++ not_applied_line from count) ms
+  pub ended : (text : List ℕ) (ms : List Numbered) (number : ℕ) (close : Close) → Tells text ms → Tells (text ++ connection_line number close) ms
 
 -- the numbers of messages rise, the first from this one on
 abbrev pub AreRising : ℕ → List Numbered → Type 0

@@ -9,4 +9,4 @@ mod laws;
 
 pub use fault::OutFault;
 pub use going_on::go_on;
-pub use laws::{fronts_project, last_is_told, lines_tell_on};
+pub use laws::{fronts_project, last_is_told, lines_tell_on, others_tell_on};

@@ -57,7 +57,7 @@ module _ {S I K A D N C : Type 0} (sees : FeedSees S I K A D N C) (before after 
       by_box (inr i) = record { outbox = inr i.outbox_kept; inbox = i.inbox_kept; dialer_is = s.live.dialer }
 
 -- a text that is told
-told_text : (o : Option (List ℕ)) → IsTrue (is_some o) → (text : List ℕ) × (o ≡ Some text)
+pub told_text : (o : Option (List ℕ)) → IsTrue (is_some o) → (text : List ℕ) × (o ≡ Some text)
 told_text None is = absurd (true≢false (sym is))
 told_text (Some text) is = (text, refl)
 
@@ -80,7 +80,7 @@ module _ {D : Type 0} (told : D → Option (List ℕ)) (may_leave : D → List �
 module _ {S I K A D N C J : Type 0} (G : Ghosts J) (sees : FeedSees S I K A D N C) (role : Role) (before after : FeedOutside S I K A D N C) (status : Status)
     (tells : (d : D) → IsTrue (is_some (sees.session.told d))) where
   module _ (senders : ℕ) (end : EndConfig) (on : RunsOverBoxes G sees senders end before after status) where
-    left_kept : LeftBoth sees.session.told sees.session.may_leave (disks_of (session_of (record before { in_disk = on.opened }))) (disks_of (session_of after))
+    pub left_kept : LeftBoth sees.session.told sees.session.may_leave (disks_of (session_of (record before { in_disk = on.opened }))) (disks_of (session_of after))
         → after.dialer ≡ before.dialer → FedUnlived sees before after status
     left_kept left dialer = record {
       outbox = inr left.outbox;

@@ -23,6 +23,9 @@ pub mod Sampled
 pub mod Spelled
 pub mod Acknowledged
 pub mod FedLaws
+pub mod News
+pub mod OutLines
+pub mod Outs
 pub mod Boxed
 pub mod Serving
 pub mod Noting
@@ -36,4 +39,5 @@ pub mod TimedChaining
 pub mod Carrying
 pub mod TimedHolding
 pub mod Resting
+pub mod Done
 pub mod TimedSampled

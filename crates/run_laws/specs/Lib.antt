@@ -9,10 +9,12 @@ pub mod Promise
 pub mod Samples
 pub mod Standing
 pub mod FedLaws
+pub mod Outs
 pub mod Served
 pub mod TimedRuns
 pub mod TimedLaws
 pub mod Resting
+pub mod Done
 pub mod TimedSamples
 pub mod Desks
 pub mod DeskSamples

@@ -7,6 +7,7 @@ ghost use Rattle.run_laws.specs.DeskSamples.{DesksSample};
 ghost use Rattle.run_laws.specs.Desks.{DesksHold};
 ghost use Rattle.run_laws.specs.FedLaws.{FedHold};
 ghost use Rattle.run_laws.specs.Holding.{BoxesAreLeft, NoneIsLost, RunsHold};
+ghost use Rattle.run_laws.specs.Outs.{OutTells};
 ghost use Rattle.run_laws.specs.Promise.{RunKeeps};
 ghost use Rattle.run_laws.specs.Samples.{RunsSample};
 ghost use Rattle.run_laws.specs.Senders.{InputsHold, SendersHold};
@@ -78,4 +79,10 @@ pub fn boxes_are_left<S: Source, I: Source, K: Sink, A: Sink, D: Disk, N: Dialer
 /// what its sender had; and ACCEPTED took what came of the lines of INPUT, or a front of that where it, a journal or memory failed.
 pub fn fed_hold<S: Source, I: Source, K: Sink, A: Sink, D: Disk, N: Dialer, C: Clock>()
     ensures law { (keeps : Bool) → FedHold ⟦<SegJournal<D> as Journal>⟧ (feed_sees (sees S.Source K.Sink D.Disk N.Dialer N.Link.Link C.Clock) keeps I.Source A.Sink) }
+{}
+
+/// Behind any fed runs of an end, whatever front of OUT was left between two of them, an OUT that keeps what it takes tells of the first messages that
+/// INBOX applied, each once and in order.
+pub fn out_tells<S: Source, I: Source, K: Sink, A: Sink, D: Disk, N: Dialer, C: Clock>()
+    ensures law { (keeps : Bool) → OutTells ⟦<SegJournal<D> as Journal>⟧ (feed_sees (sees S.Source K.Sink D.Disk N.Dialer N.Link.Link C.Clock) keeps I.Source A.Sink) }
 {}

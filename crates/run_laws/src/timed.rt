@@ -6,6 +6,7 @@ ghost use Rattle.cmd_feed.specs.Outsides.{feed_sees};
 ghost use Rattle.run_laws.specs.Served.{ServedHolds};
 ghost use Rattle.run_laws.specs.TimedLaws.{FinishIsWhole, RunsEndInTime};
 ghost use Rattle.run_laws.specs.Resting.{RestIsWhole};
+ghost use Rattle.run_laws.specs.Done.{DoneIsLived, DoneIsWhole};
 ghost use Rattle.run_laws.specs.TimedSamples.{RunsInTimeSample};
 
 use gw_links::{Clock, Dialer};
@@ -30,6 +31,13 @@ pub fn runs_end_in_time<S: Source, I: Source, K: Sink, A: Sink, D: Disk, N: Dial
 /// Behind them an inbox that has the finish of its peer has all of the peer's outbox.
 pub fn finish_is_whole<S: Source, I: Source, K: Sink, A: Sink, D: Disk, N: Dialer, C: Clock>()
     ensures law { (keeps : Bool) → FinishIsWhole ⟦<SegJournal<D> as Journal>⟧ (feed_sees (sees S.Source K.Sink D.Disk N.Dialer N.Link.Link C.Clock) keeps I.Source A.Sink) }
+{}
+
+/// Where a run of an end came back with status 0, its inbox has all of the other's outbox, to its finish, whatever runs came behind it and however
+/// the other's ended. Such a run lived one life, the last connection of which ended as finished.
+pub fn done_is_whole<S: Source, I: Source, K: Sink, A: Sink, D: Disk, N: Dialer, C: Clock>()
+    ensures law { (keeps : Bool) → DoneIsWhole ⟦<SegJournal<D> as Journal>⟧ (feed_sees (sees S.Source K.Sink D.Disk N.Dialer N.Link.Link C.Clock) keeps I.Source A.Sink) }
+    ensures lived { (keeps : Bool) → DoneIsLived ⟦<SegJournal<D> as Journal>⟧ (feed_sees (sees S.Source K.Sink D.Disk N.Dialer N.Link.Link C.Clock) keeps I.Source A.Sink) }
 {}
 
 /// Where both ends were at rest as their last runs left them, quiet or with both finishes exchanged, each inbox has all of the other end's
