@@ -33,6 +33,8 @@ const USAGE: &str =
   fixpgw plan SCHEMA TEXT OUT           prints the messages in TEXT as lines of INPUT for their senders
   fixpgw datagram CONFIG OUT            packs messages into datagrams, delivers those that CONFIG lists, and prints what comes to OUT
   fixpgw rehearse CONFIG OUT            runs two ends in memory by the script in CONFIG, and prints what both hold to OUT
+  fixpgw show [--json] SCHEMA JOURNAL OUT [FROM [COUNT]]
+                                        prints the records of one journal, with their dates and messages, as text or JSON to OUT
   fixpgw soak N OUT                     runs two ends in memory over N messages, with cuts, and prints what both hold to OUT
   fixpgw COMMAND --help                 what a command takes and does
   fixpgw --help                         this text
@@ -41,7 +43,7 @@ const USAGE: &str =
 
 A file that is read may be -, which is standard input: one of a command, and no CONFIG of accept and connect. OUT may be -, which is standard
 output; so may WIRE of encode, and ACCEPTED, where OUT is not. The last line on standard output is `status N NAME`, but where OUT of delivered, dump,
-extends or plan is -, or WIRE of encode, then it is on standard error. N is the exit status: 0 done, 1 words, 2 config, 3 input-fault, 4 output-fault,
+extends, plan or show is -, or WIRE of encode, then it is on standard error. N is the exit status: 0 done, 1 words, 2 config, 3 input-fault, 4 output-fault,
 5 journal-fault, 6 journal-bad, 7 dial-fault, 8 unfinished, 9 rejected, 10 full, 11 turns, 12 message, 13 undrained, 14 memory.";
 
 const ACCEPT: &str = "usage: fixpgw accept ADDRESS N CONFIG INPUT OUTBOX INBOX OUT [ACCEPTED]
@@ -207,6 +209,19 @@ opened.
   CONFIG   the script, as TOML (read); - is standard input
   OUT      a line for each sender, a line for each end, and `finished` (written); - is standard output";
 
+const SHOW: &str = "usage: fixpgw show [--json] SCHEMA JOURNAL OUT [FROM [COUNT]]
+
+Prints the records of one journal, each with its date and time in UTC and with its message as text, and then where they end. No lock is taken, so that a
+journal may be looked at while a session writes it: what is printed is what stands behind an open gate as it is read.
+
+  --json   each record is a JSON object on a line of its own
+  SCHEMA   the schema of the messages, as TOML (read); - is standard input
+  JOURNAL  the journal, of either box (read); - is standard input, where SCHEMA is not and FROM counts from the first record
+  OUT      the lines of each record (written); - is standard output, and then the status goes to standard error
+  FROM     the first record: its number from 1, -N for the N-th from the end, or HH:MM or HH:MM:SS for the first of that time of day or later
+           on the last day that has a record; 1 where it is not given
+  COUNT    how many records at most; all where it is not given";
+
 const SOAK: &str = "usage: fixpgw soak N OUT
 
 Runs two ends of a session in memory, as rehearse does, by a script that is made from N alone: four senders, among whom N orders are
@@ -234,6 +249,7 @@ fn usage_of(command: &str) -> Option<&'static str> {
         "plan" => Some(PLAN),
         "datagram" => Some(DATAGRAM),
         "rehearse" => Some(REHEARSE),
+        "show" => Some(SHOW),
         "soak" => Some(SOAK),
         _ => None,
     }

@@ -12,6 +12,7 @@ mod planning;
 mod progress;
 mod rehearsals;
 mod sessions;
+mod showing;
 mod soaks;
 mod telling;
 
@@ -28,6 +29,7 @@ use planning::{PlanFiles, plan_over_files};
 use rehearsals::{RehearsalFiles, rehearse_over_files};
 use session_files::Session;
 use sessions::{SessionFiles, hold_stream, run_over_sockets};
+use showing::{ShowFiles, show_over_files};
 use soaks::{SoakFile, soak_over_file};
 use std::fs::File;
 use std::io::{self, IsTerminal};
@@ -109,6 +111,9 @@ fn run_words<R: Threads + Wait + Sync + Clock + Files<File = File> + Print + Epr
     }
     if let Some(files) = DumpFiles::of(words) {
         return dump_over_files(rt, files);
+    }
+    if let Some(files) = ShowFiles::of(words) {
+        return show_over_files(rt, files);
     }
     let report = if command_of(words).is_some() {
         run_over_files(rt, words)

@@ -15,8 +15,11 @@ use sbe_layout::Plan;
 use sbe_text::{Draft, print_named_wire};
 use std::alloc::{AllocError, Global};
 
-/// Adds the lines of an application message.
-fn push_application(
+/// Adds the lines of an application message: by the schema, or the bytes of its frame with their fault.
+///
+/// # Errors
+/// Want of memory.
+pub fn push_application(
     alloc: Global,
     plan: &Plan,
     held: Held<'_>,

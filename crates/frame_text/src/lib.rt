@@ -5,5 +5,5 @@
 mod held;
 mod unread;
 
-pub use held::push_held;
-pub use unread::Held;
+pub use held::{push_application, push_held};
+pub use unread::{Held, push_fault};

@@ -113,7 +113,10 @@ fn push_truncated(lines: &mut Vec<u8>, at: u64) -> Result<(), AllocError>
 }
 
 /// Adds why the bytes of a message spell none.
-fn push_fault(lines: &mut Vec<u8>, fault: DecodeFault) -> Result<(), AllocError>
+///
+/// # Errors
+/// Want of memory.
+pub fn push_fault(lines: &mut Vec<u8>, fault: DecodeFault) -> Result<(), AllocError>
     ensures { OnOk result (lines.new.items ≡ lines.old.items ++ fault_words fault) }
 {
     match fault {

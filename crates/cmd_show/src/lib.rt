@@ -1,0 +1,10 @@
+//! The command `show`: the records of one journal, with their moments as dates and their payloads as text. Relies on `jr_shown` for the lines and for
+//! which records are chosen, on `jr_stream` for the records, and on `cmd_by_schema` for the plan of the schema.
+#![tactic(auto)]
+
+mod command;
+mod outcome;
+mod stream;
+
+pub use command::{ShowDevices, run_show};
+pub use outcome::{Origin, Outcome};

@@ -1,0 +1,178 @@
+//! The records of JOURNAL, shown one after another: their lines are pushed in pieces.
+
+ghost use Rattle.std.specs.Prelude.{◌≡◌, ◌≤◌, ℕ, List, [], IfSome, OnOk, OnErr};
+ghost use Rattle.std.specs.Io.KnownBytes.{Appends};
+ghost use Rattle.gw_outside.specs.Faults.{HasCause, HasRisen, TakesFront};
+ghost use Rattle.sbe_layout.specs.Legal.{LegalPlan};
+ghost use Rattle.jr_dated.specs.Dated.{IsDated, stamped};
+ghost use Rattle.jr_shown.specs.Shown.{IsStart};
+ghost use Rattle.jr_shown.specs.declared.choice.Choice as choices;
+ghost use Rattle.jr_shown.specs.declared.choice.Start as starts;
+ghost use Rattle.cmd_show.specs.Promise.{SparesOut};
+ghost use Rattle.cmd_show.specs.Progress.{Adds, AfterRound, Finishes, IsEnd, IsLate, KeepsTo, Pushes, Stands, Streams, asked_by, outcome_of, unread_by};
+
+use crate::outcome::{Origin, Outcome};
+use cmd_base::begin;
+use gw_outside::{Failed, Sink, Source, push_all};
+use jr_dated::Format;
+use jr_record::{OpenFault, Record};
+use jr_shown::{Choice, Shower, Start};
+use jr_stream::{End, Found, RecordReader};
+use sbe_layout::Plan;
+use std::alloc::Global;
+use std::sync::Wait;
+
+/// How many bytes of lines wait at least before they are pushed, but for the last.
+const PIECE: usize = 65_536;
+
+/// How a run ends whose journal could not be read on in this reading.
+pub(crate) fn unread(origin: Origin, fault: OpenFault) -> Outcome
+    ensures { result ≡ unread_by origin fault }
+{
+    match fault {
+        OpenFault::Memory => Outcome::Memory,
+        OpenFault::Fault => Outcome::InputFault { origin },
+        OpenFault::NotFormatted => Outcome::NotFormatted { origin },
+        OpenFault::Damaged { at } => Outcome::Damaged { at },
+    }
+}
+
+/// How a run ends at the end of the records.
+fn outcome_of(end: End) -> Outcome
+    ensures { result ≡ outcome_of end }
+{
+    match end {
+        End::Closed { .. } => Outcome::Done,
+        End::Damaged { at } => Outcome::Damaged { at },
+    }
+}
+
+/// Pushes the lines that wait.
+fn push_lines<K: Sink>(lines: &mut Vec<u8>, out: &mut K) -> Result<(), Failed>
+    ensures ok { OnOk result (Appends (K.taken out.old) (K.taken out.new) lines.old.items) }
+    ensures err { OnErr result (TakesFront (K.taken out.old) (K.taken out.new) lines.old.items) }
+    ensures emptied { OnOk result (lines.new.items ≡ []) }
+    ensures cause { HasCause (K.faults out.old) (K.faults out.new) result }
+{
+    push_all(out, lines.as_slice())?;
+    lines.clear();
+    Ok(())
+}
+
+/// Pushes the lines that wait, where they are enough for a piece.
+fn push_piece<K: Sink>(shower: &mut Shower, out: &mut K) -> Result<(), Failed>
+    ensures ok { OnOk result (Pushes (K.taken out.old) (K.taken out.new) shower.old shower.new) }
+    ensures err { OnErr result (TakesFront (K.taken out.old) (K.taken out.new) shower.old.lines.items) }
+    ensures cause { HasCause (K.faults out.old) (K.faults out.new) result }
+{
+    if shower.lines.len() < PIECE {
+        return Ok(());
+    }
+    push_lines(&mut shower.lines, out)?;
+    Ok(())
+}
+
+/// Shows the next record.
+fn take_record<K: Sink>(
+    alloc: Global,
+    plan: &Plan,
+    shower: &mut Shower,
+    what: &Record,
+    moment: u64,
+    out: &mut K,
+) -> Option<Outcome>
+    requires legal { LegalPlan plan.now }
+    requires dated { IsDated (stamped moment what.now) }
+    ensures adds { Adds plan.now (stamped moment what.now) (K.taken out.old) (K.taken out.new) shower.old shower.new result }
+    ensures counted { K.faults out.old ≤ K.faults out.new }
+    ensures cause { IfSome result (λ outcome. outcome ≡ Outcome.OutputFault → HasRisen (K.faults out.old) (K.faults out.new)) }
+{
+    let Ok(()) = shower.take(alloc, plan, what, moment) else {
+        return Some(Outcome::Memory);
+    };
+    match push_piece(shower, out) {
+        Ok(()) => None,
+        Err(_) => Some(Outcome::OutputFault),
+    }
+}
+
+/// Shows the end, behind the lines that wait.
+fn finish<K: Sink>(alloc: Global, shower: &mut Shower, end: End, out: &mut K) -> Outcome
+    ensures finishes { Finishes shower.old.style end shower.old.lines.items (K.taken out.old) (K.taken out.new) result }
+    ensures counted { K.faults out.old ≤ K.faults out.new }
+    ensures cause { result ≡ Outcome.OutputFault → HasRisen (K.faults out.old) (K.faults out.new) }
+{
+    let Ok(()) = shower.end(alloc, end) else {
+        return Outcome::Memory;
+    };
+    match push_lines(&mut shower.lines, out) {
+        Ok(()) => outcome_of(end),
+        Err(_) => Outcome::OutputFault,
+    }
+}
+
+/// Shows the next record, or the end; or how the run ends.
+#[tactic(auto, using(crate::proofs::Judging::adds_end, crate::proofs::Judging::adds_input, crate::proofs::Judging::finishes_end, crate::proofs::Judging::finishes_input, crate::proofs::Judging::unread_end, crate::proofs::Judging::unread_cause, crate::proofs::Judging::unread_output))]
+fn round<S: Source, K: Sink>(
+    alloc: Global,
+    plan: &Plan,
+    reader: &mut RecordReader,
+    shower: &mut Shower,
+    journal: &mut S,
+    out: &mut K,
+) -> Option<Outcome>
+    requires { LegalPlan plan.now }
+    ensures after { (choice : choices.Choice) (ahead image : List ℕ) (start : starts.Start) (before : Streams)
+        → Stands (asked_by plan.now choice ahead image) start before (record { journal = S.left journal.old; out = K.taken out.old }) reader.old shower.old
+        → AfterRound (asked_by plan.now choice ahead image) start before (record { journal = S.left journal.new; out = K.taken out.new }) reader.new shower.new result }
+    ensures end { IfSome result IsEnd }
+    ensures journal_counted { S.faults journal.old ≤ S.faults journal.new }
+    ensures out_counted { K.faults out.old ≤ K.faults out.new }
+    ensures journal_cause { IfSome result (λ outcome. outcome ≡ Outcome.InputFault Origin.Journal → HasRisen (S.faults journal.old) (S.faults journal.new)) }
+    ensures out_cause { IfSome result (λ outcome. outcome ≡ Outcome.OutputFault → HasRisen (K.faults out.old) (K.faults out.new)) }
+{
+    match reader.next(alloc, journal) {
+        Ok(Found::Record(what, moment)) => take_record(alloc, plan, shower, &what, moment, out),
+        Ok(Found::End(end)) => Some(finish(alloc, shower, end, out)),
+        Err(fault) => Some(unread(Origin::Journal, fault)),
+    }
+}
+
+/// Shows the records of a journal from the start on, and its end. The output is begun once the header was read.
+#[tactic(auto, using(crate::proofs::Judging::unread_late, crate::proofs::Judging::unread_cause, crate::proofs::Judging::unread_output))]
+pub(crate) fn show_records<R: Wait, S: Source, K: Sink>(
+    rt: &R,
+    alloc: Global,
+    plan: &Plan,
+    choice: Choice,
+    start: Start,
+    journal: &mut S,
+    out: &mut K,
+) -> Outcome
+    requires { LegalPlan plan.now }
+    ensures promise { (ahead image : List ℕ) → IsStart choice.begin ahead start → KeepsTo (asked_by plan.now choice ahead image)
+        (record { journal = S.left journal.old; out = K.taken out.old })
+        (record { journal = S.left journal.new; out = K.taken out.new }) result }
+    ensures spared { SparesOut result → out.new ≡ out.old }
+    ensures late { IsLate result }
+    ensures journal_counted { S.faults journal.old ≤ S.faults journal.new }
+    ensures out_counted { K.faults out.old ≤ K.faults out.new }
+    ensures journal_cause { result ≡ Outcome.InputFault Origin.Journal → HasRisen (S.faults journal.old) (S.faults journal.new) }
+    ensures out_cause { result ≡ Outcome.OutputFault → HasRisen (K.faults out.old) (K.faults out.new) }
+{
+    let mut reader = match RecordReader::behind_header(alloc, Format::Two, journal) {
+        Ok(reader) => reader,
+        Err(fault) => return unread(Origin::Journal, fault),
+    };
+    let Ok(()) = begin(out) else {
+        return Outcome::OutputFault;
+    };
+    let mut shower = Shower::new(alloc, choice.style, start, choice.most);
+    for _ in rt.forever() {
+        match round(alloc, plan, &mut reader, &mut shower, journal, out) {
+            None => {}
+            Some(outcome) => return outcome,
+        }
+    }
+    unreachable!()
+}

@@ -1,0 +1,9 @@
+//! The records of a journal as JSON, one object a line, with their moments as dates and their messages by a schema. Relies on `sbe_json` for the
+//! messages and on the kit's `json`.
+#![tactic(auto)]
+
+mod payloads;
+mod records;
+
+pub use payloads::order_in;
+pub use records::{push_end_object, push_object};
