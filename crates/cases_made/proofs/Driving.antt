@@ -24,7 +24,7 @@ use Rattle.gate_senders.specs.Gate.{IsPassAt, MadeAt, HasBackAt, senders_of, ope
 use Rattle.gate_turn.proofs.Histories.{begins_self}
 use Rattle.gate_senders.specs.declared.gate.Gate.{Gate}
 use Rattle.gate_senders.specs.declared.kept.Kept.{Kept}
-use Rattle.gate_plans.proofs.Seating.{all_behind, all_back}
+use Rattle.gate_staff.proofs.Seating.{all_behind, all_back}
 use Rattle.conn_turns.specs.Lines.{Line, TakenFrame, AreTaken, size_of, line_after, lines_after}
 use Rattle.conn_turns.specs.Exact.{line_ticked}
 use Rattle.conn_turns.specs.declared.answer.TurnEnd.{TurnEnd}

@@ -15,7 +15,7 @@ use crate::desks::boxes::{Log, add_reports, applied, copied, empty};
 use crate::desks::doors::{At, Meeting};
 use crate::desks::runs::{Asked, By, left};
 use cases_words::{bytes, halves, number};
-use gate_plans::{Door, OpenDoor};
+use gate_staff::{Door, OpenDoor};
 use jr_kept::{Inbox, Outbox};
 use order_gate::Terms;
 use sbe_value::{Bytes, Payloads};

@@ -13,8 +13,8 @@ use Rattle.gate_turn.proofs.Histories.{begins_self}
 use Rattle.gate_senders.specs.Gate.{opening_of, MadeAt}
 use Rattle.gate_senders.specs.declared.gate.Gate.{Gate}
 use Rattle.gate_senders.specs.declared.kept.Kept.{Kept}
-use Rattle.gate_plans.specs.Seats.{SeatedFrom}
-use Rattle.gate_plans.specs.declared.sender.Sender.{Sender}
+use Rattle.gate_staff.specs.Seats.{SeatedFrom}
+use Rattle.gate_staff.specs.declared.sender.Sender.{Sender}
 use Rattle.plan_values.specs.declared.plan.Plan.{Plan}
 use Rattle.life_laws.proofs.Passes.{part_at}
 use Rattle.fed_laws.specs.Laws.{IsNew}

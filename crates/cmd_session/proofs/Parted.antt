@@ -19,7 +19,7 @@ use Rattle.gate_turn.proofs.Histories.{begins_self}
 use Rattle.gate_senders.specs.Gate.{opening_of}
 use Rattle.gate_senders.specs.declared.gate.Gate.{Gate}
 use Rattle.gate_senders.specs.declared.kept.Kept.{Kept}
-use Rattle.gate_business.proofs.Resuming.{stays_self}
+use Rattle.gate_staff.proofs.Resuming.{stays_self}
 use Rattle.order_desk.proofs.Shares.{desk_plan_goes_on}
 use Rattle.order_book_gate.specs.Standing.{book_plan_goes_on}
 use Rattle.conn_loop.specs.Conn.{Looks}

@@ -16,10 +16,10 @@ use Rattle.jr_boxes.specs.declared.faults.SubmitFault.{SubmitFault}
 use Rattle.jr_boxes.specs.declared.faults.SubmitFault.TheVariants as submit
 use Rattle.gate_turn.specs.Places.{known}
 use Rattle.gate_senders.specs.declared.gate.Gate.{Gate}
-use Rattle.gate_plans.specs.Runs.{IsReady}
-use Rattle.gate_plans.specs.Seats.{Seated}
-use Rattle.gate_plans.specs.declared.sender.Sender.{Sender}
-use Rattle.gate_plans.proofs.Seating.{seated_still}
+use Rattle.gate_staff.specs.Runs.{IsReady}
+use Rattle.gate_staff.specs.Seats.{Seated}
+use Rattle.gate_staff.specs.declared.sender.Sender.{Sender}
+use Rattle.gate_staff.proofs.Seating.{seated_still}
 use Rattle.conn_door.specs.declared.answer.ServeFault.{ServeFault}
 use Rattle.conn_door.specs.declared.answer.ServeFault.TheVariants as faults
 use Rattle.conn_door.specs.declared.answer.LifeEnd.{LifeEnd}

@@ -10,7 +10,7 @@ ghost use Rattle.gate_senders.specs.Gate.{opening_of, senders_of, OpensOn, MadeA
 ghost use Rattle.fixp_machine.specs.Machine.{fresh};
 ghost use Rattle.plan_values.specs.Plans.{payloads_of};
 ghost use Rattle.gate_turn.specs.Listed.{known_at};
-ghost use Rattle.gate_plans.specs.Seats.{Seated};
+ghost use Rattle.gate_staff.specs.Seats.{Seated};
 ghost use Rattle.conn_door.specs.declared.answer.ServeFault.TheVariants as faults;
 ghost use Rattle.conn_door.specs.Senders.{SomeMarked};
 ghost use Rattle.conn_serve.specs.Moments.{beside};
@@ -28,8 +28,8 @@ use crate::outside::{Live, OverBoxes};
 use cmd_base::{JournalCause, Status};
 use conn_serve::{Lent, Opening, ServeFault, serve_lent};
 use fixp_shake::EndConfig;
-use gate_plans::{Sender, count_done, give_last, seat, take_last, unseat};
 use gate_senders::{Gate, Kept};
+use gate_staff::{Sender, count_done, give_last, seat, take_last, unseat};
 use gate_turn::Passes;
 use gw_links::{Clock, Dialer};
 use gw_outside::{Disk, Sink};

@@ -7,8 +7,8 @@ use Rattle.gate_turn.specs.Views.{HasFailed, Part}
 use Rattle.gate_turn.specs.Places.{known}
 use Rattle.gate_senders.specs.Shown.{TakesTurn}
 use Rattle.gate_senders.specs.declared.gate.Gate.{Gate}
-use Rattle.gate_plans.specs.Runs.{IsReady, RanEach, IsAdmitted, IsThrough}
-use Rattle.gate_plans.specs.declared.sender.Sender.{Sender}
+use Rattle.gate_staff.specs.Runs.{IsReady, RanEach, IsAdmitted, IsThrough}
+use Rattle.gate_staff.specs.declared.sender.Sender.{Sender}
 use Rattle.conn_door.specs.declared.answer.ServeFault.{ServeFault}
 use Rattle.conn_door.specs.declared.answer.ServeFault.TheVariants as faults
 use Rattle.conn_door.specs.declared.answer.LifeEnd.{LifeEnd}

@@ -1,15 +1,15 @@
 //! What is left of the senders' plans once the connections are over.
 
 ghost use Rattle.std.specs.Prelude.{◌≡◌, All, List};
-ghost use Rattle.gate_plans.specs.Runs.{IsReady, IsAdmitted};
-ghost use Rattle.gate_plans.specs.declared.sender.Sender.{Sender};
+ghost use Rattle.gate_staff.specs.Runs.{IsReady, IsAdmitted};
+ghost use Rattle.gate_staff.specs.declared.sender.Sender.{Sender};
 ghost use Rattle.conn_door.specs.Answers.{answer_of, IsUnrefused};
 ghost use Rattle.conn_door.specs.Senders.{SubmittedAll, EndedSo};
 
 use crate::answer::{ServeFault, is_unrefused, late_answer};
 use crate::senders::submit_turned;
-use gate_plans::Sender;
 use gate_senders::Gate;
+use gate_staff::Sender;
 use jr_dated::Journal;
 use std::sync::Wait;
 use std::thread::Threads;

@@ -4,7 +4,7 @@ ghost use Rattle.std.specs.Prelude.{◌≡◌, true, false, None};
 ghost use Rattle.conn_door.specs.Doors.{is_open};
 
 use crate::signals::Signals;
-use gate_plans::Door;
+use gate_staff::Door;
 use gw_links::Wake;
 use jr_boxes::SubmitFault;
 use std::sync::Wait;

@@ -1,5 +1,5 @@
 //! What the connections of a life and its senders tell each other, the senders of a life, and what it answers for both. It knows no
-//! connection. Relies on `gate_plans` for the senders, on `fixp_end` for what an end was sent, on `gw_links`
+//! connection. Relies on `gate_staff` for the senders, on `fixp_end` for what an end was sent, on `gw_links`
 //! for what wakes a connection, and on std's locks and threads.
 #![tactic(auto)]
 

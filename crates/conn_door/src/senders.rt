@@ -4,15 +4,15 @@ ghost use Rattle.std.specs.Prelude.{◌≡◌, ◌<◌, true, All, List, length,
 ghost use Rattle.gate_turn.specs.Places.{known};
 ghost use Rattle.gate_turn.specs.Calls.{IsFree};
 ghost use Rattle.gate_senders.specs.Gate.{IsPassAt};
-ghost use Rattle.gate_plans.specs.Runs.{IsReady, RanEach, IsAdmitted, IsLowest};
-ghost use Rattle.gate_plans.specs.declared.sender.Sender.{Sender};
+ghost use Rattle.gate_staff.specs.Runs.{IsReady, RanEach, IsAdmitted, IsLowest};
+ghost use Rattle.gate_staff.specs.declared.sender.Sender.{Sender};
 ghost use Rattle.conn_door.specs.Doors.{is_open};
 ghost use Rattle.conn_door.specs.Senders.{refusal_of, Finishes, IsRefusal, FinishedFirst, SubmittedAll};
 
 use crate::answer::{ServeFault, refused_finish, refused_submit};
 use crate::entrance::Entrance;
-use gate_plans::{Sender, resume_turned, run_senders};
 use gate_senders::{Gate, Kept};
+use gate_staff::{Sender, resume_turned, run_senders};
 use gate_turn::Pass;
 use gw_links::Wake;
 use jr_boxes::SubmitFault;

@@ -5,7 +5,7 @@ ghost use Rattle.std.specs.Prelude.{◌≡◌, ℕ, ◌+◌, ◌-◌, ◌<◌, �
 ghost use Rattle.conn_door.specs.Flows.{is_sent_again};
 
 use fixp_end::{End, Flow, Phase};
-use gate_plans::Door;
+use gate_staff::Door;
 use jr_boxes::SubmitFault;
 use std::marker::Model;
 use std::sync::atomic::AtomicBool;

@@ -10,7 +10,7 @@ use Rattle.std.proofs.lemmas.List.{take_more}
 use Rattle.std.proofs.lemmas.List.Elements.{All-head, All-tail}
 use Rattle.jr_dated.specs.declared.journal.Journal.{Ghosts}
 use Rattle.gate_turn.specs.Places.{known}
-use Rattle.gate_plans.specs.declared.sender.Sender.{Sender}
+use Rattle.gate_staff.specs.declared.sender.Sender.{Sender}
 use Rattle.conn_accepted.specs.Lines.{has_line}
 use Rattle.conn_feed.specs.Words.{counts_text}
 use Rattle.conn_feed.specs.Fed.{IsCounted, dones_of, parts_of, counts_of}

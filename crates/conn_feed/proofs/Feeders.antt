@@ -7,7 +7,7 @@ use Rattle.jr_dated.specs.declared.journal.Journal.{Ghosts}
 use Rattle.gate_turn.specs.Rule.{In}
 use Rattle.gate_senders.specs.declared.gate.Gate.{Gate}
 use Rattle.gate_senders.specs.declared.submission.Submission.{Submission}
-use Rattle.gate_plans.specs.declared.sender.Sender.{Sender}
+use Rattle.gate_staff.specs.declared.sender.Sender.{Sender}
 use Rattle.plan_text.specs.Plans.{Gives}
 use Rattle.plan_feed.specs.Pieces.{Messages, Takes}
 use Rattle.conn_accepted.specs.declared.why.Why.{Why}

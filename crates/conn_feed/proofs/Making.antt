@@ -14,7 +14,7 @@ use Rattle.gate_turn.specs.Rule.{In}
 use Rattle.gate_turn.proofs.Histories.{begins_self, begins_on}
 use Rattle.gate_senders.specs.Shown.{entries_after}
 use Rattle.gate_senders.specs.declared.submission.Submission.{Submission}
-use Rattle.gate_plans.specs.Sent.{GoesOn}
+use Rattle.gate_staff.specs.Sent.{GoesOn}
 use Rattle.conn_accepted.specs.declared.why.Why.{Why}
 use Rattle.conn_feed.specs.Words.{Word, accepted, refused, alike, entries_in}
 use Rattle.conn_feed.specs.Fed.{part_at, Made, StandsIn, Fed}

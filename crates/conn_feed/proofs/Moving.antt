@@ -7,7 +7,7 @@ use Rattle.gate_turn.specs.Rule.{In}
 use Rattle.gate_turn.specs.Places.{known}
 use Rattle.gate_senders.specs.declared.gate.Gate.{Gate}
 use Rattle.gate_senders.specs.declared.submission.Submission.{Submission}
-use Rattle.gate_plans.specs.declared.sender.Sender.{Sender}
+use Rattle.gate_staff.specs.declared.sender.Sender.{Sender}
 use Rattle.plan_feed.specs.Pieces.{Messages}
 use Rattle.conn_feed.specs.Fed.{AtSeats, parts_of, part_at}
 use Rattle.conn_feed.specs.Course.{Submits, Went}

@@ -8,9 +8,9 @@ use Rattle.gate_turn.specs.Views.{Part}
 use Rattle.gate_turn.specs.Places.{known}
 use Rattle.gate_senders.specs.declared.gate.Gate.{Gate}
 use Rattle.gate_senders.specs.Shown.{SubmittedAll, entries_after}
-use Rattle.gate_plans.specs.Runs.{IsReady, CountedEach}
-use Rattle.gate_plans.specs.Seats.{Seated}
-use Rattle.gate_plans.specs.declared.sender.Sender.{Sender}
+use Rattle.gate_staff.specs.Runs.{IsReady, CountedEach}
+use Rattle.gate_staff.specs.Seats.{Seated}
+use Rattle.gate_staff.specs.declared.sender.Sender.{Sender}
 use Rattle.conn_feed.specs.Fed.{AtSeats, IsCounted}
 use Rattle.conn_feed.proofs.Making.{behind_long}
 

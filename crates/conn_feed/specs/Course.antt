@@ -13,7 +13,7 @@ use Rattle.gate_turn.specs.Places.{known}
 use Rattle.gate_senders.specs.declared.gate.Gate.{Gate}
 use Rattle.gate_senders.specs.declared.submission.Submission.{Submission}
 use Rattle.gate_senders.specs.Shown.{TakesTurn, SubmittedAll, IsFullBehind, LosesAll, entries_after}
-use Rattle.gate_plans.specs.declared.sender.Sender.{Sender}
+use Rattle.gate_staff.specs.declared.sender.Sender.{Sender}
 use Rattle.gw_lines.specs.Reading.{Reading, HasGiven}
 use Rattle.plan_text.specs.Plans.{AreGiven}
 use Rattle.plan_feed.specs.Pieces.{Messages}

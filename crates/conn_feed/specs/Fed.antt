@@ -8,9 +8,9 @@ use Rattle.gate_turn.specs.Places.{known}
 use Rattle.gate_senders.specs.declared.gate.Gate.{Gate}
 use Rattle.gate_senders.specs.Kept.{next_entry, IsFullAt}
 use Rattle.gate_senders.specs.Shown.{LosesAll, entries_after}
-use Rattle.gate_plans.specs.Sent.{GoesOn}
-use Rattle.gate_plans.specs.Seats.{Seated}
-use Rattle.gate_plans.specs.declared.sender.Sender.{Sender}
+use Rattle.gate_staff.specs.Sent.{GoesOn}
+use Rattle.gate_staff.specs.Seats.{Seated}
+use Rattle.gate_staff.specs.declared.sender.Sender.{Sender}
 use Rattle.plan_text.specs.Plans.{Gift, AreGiven}
 use Rattle.conn_feed.specs.Words.{Word, accepted, refused, entries_in}
 

@@ -9,8 +9,8 @@ ghost use Rattle.conn_feed.specs.declared.end.FeedEnd.TheVariants as ends;
 
 use crate::end::FeedEnd;
 use crate::feeder::Feeder;
-use gate_plans::Door;
 use gate_senders::Gate;
+use gate_staff::Door;
 use gw_lines::LineReader;
 use gw_outside::{Sink, Source};
 use jr_dated::Journal;

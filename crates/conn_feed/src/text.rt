@@ -7,8 +7,8 @@ ghost use Rattle.conn_feed.specs.Course.{accepted_text, refused_text, rest_text,
 
 use crate::end::why_of;
 use conn_accepted::{Why, push_accepted_line, push_has_line, push_refused_line};
-use gate_plans::Sender;
 use gate_senders::Submission;
+use gate_staff::Sender;
 use jr_boxes::SubmitFault;
 use jr_dated::Journal;
 use plan_feed::Piece;

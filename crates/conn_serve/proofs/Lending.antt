@@ -7,8 +7,8 @@ use Rattle.jr_dated.specs.declared.journal.Journal.{Ghosts}
 use Rattle.gate_turn.specs.Places.{known}
 use Rattle.gate_turn.specs.Calls.{IsFree}
 use Rattle.gate_senders.specs.declared.gate.Gate.{Gate}
-use Rattle.gate_plans.specs.declared.sender.Sender.{Sender}
-use Rattle.gate_business.proofs.Resuming.{stays_self}
+use Rattle.gate_staff.specs.declared.sender.Sender.{Sender}
+use Rattle.gate_staff.proofs.Resuming.{stays_self}
 use Rattle.conn_loop.specs.Ends.{pass_of}
 use Rattle.conn_loop.proofs.Working.{looks_self}
 use Rattle.conn_door.specs.Answers.{answer_of}

@@ -20,11 +20,11 @@ use Rattle.jr_kept.specs.Inbox.{StandsFor, HoldsBox, SameContent, peer_last_of}
 use Rattle.gate_turn.specs.Views.{Account, HasFailed, Part}
 use Rattle.gate_turn.specs.Rule.{In}
 use Rattle.gate_turn.proofs.Failing.{failed_after, failed_before}
-use Rattle.gate_business.specs.Made.{SeesMark, SeesFailed}
-use Rattle.gate_business.specs.Business.{AllStay, Grew, Whole, LoseNothing, Answered, Resumed, ShownByOne, StandsOn, StandsOnResume}
-use Rattle.gate_business.specs.declared.business.ResumeFault.{ResumeFault}
-use Rattle.gate_business.specs.declared.business.ResumeFault.TheVariants as resuming
-use Rattle.gate_business.proofs.Resuming.{Upto, stays_self, all_stay, joined_call, is_peer_finished}
+use Rattle.gate_staff.specs.Made.{SeesMark, SeesFailed}
+use Rattle.gate_staff.specs.Business.{AllStay, Grew, Whole, LoseNothing, Answered, Resumed, ShownByOne, StandsOn, StandsOnResume}
+use Rattle.gate_staff.specs.declared.business.ResumeFault.{ResumeFault}
+use Rattle.gate_staff.specs.declared.business.ResumeFault.TheVariants as resuming
+use Rattle.gate_staff.proofs.Resuming.{Upto, stays_self, all_stay, joined_call, is_peer_finished}
 use Rattle.conn_turns.specs.declared.news.NewsItem.{NewsItem}
 use Rattle.conn_turns.specs.News.{delivered_in}
 use Rattle.conn_turns.specs.Lines.{Line}

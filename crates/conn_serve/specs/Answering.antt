@@ -14,10 +14,10 @@ use Rattle.jr_dated.specs.declared.faults.FetchFault.TheVariants as fetch
 use Rattle.jr_kept.specs.declared.inbox.Inbox.{Inbox}
 use Rattle.jr_kept.specs.Inbox.{HoldsBox, faults_of}
 use Rattle.gate_turn.specs.Views.{Part}
-use Rattle.gate_business.specs.declared.business.ResumeFault.{ResumeFault}
-use Rattle.gate_business.specs.declared.business.ResumeFault.TheVariants as resuming
-use Rattle.gate_business.specs.Made.{SeesFailed, MetFull}
-use Rattle.gate_business.specs.Business.{AllStay, Grew, Whole, LoseNothing}
+use Rattle.gate_staff.specs.declared.business.ResumeFault.{ResumeFault}
+use Rattle.gate_staff.specs.declared.business.ResumeFault.TheVariants as resuming
+use Rattle.gate_staff.specs.Made.{SeesFailed, MetFull}
+use Rattle.gate_staff.specs.Business.{AllStay, Grew, Whole, LoseNothing}
 use Rattle.conn_door.specs.declared.answer.ServeFault.{ServeFault}
 use Rattle.conn_door.specs.declared.answer.ServeFault.TheVariants as faults
 use Rattle.conn_door.specs.declared.answer.LifeEnd.{LifeEnd}

@@ -10,7 +10,7 @@ use Rattle.gate_turn.specs.Places.{known}
 use Rattle.gate_turn.specs.Calls.{IsFree}
 use Rattle.gate_senders.specs.Gate.{IsPassAt, opening_of}
 use Rattle.gate_senders.specs.declared.gate.Gate.{Gate}
-use Rattle.gate_plans.specs.declared.sender.Sender.{Sender}
+use Rattle.gate_staff.specs.declared.sender.Sender.{Sender}
 use Rattle.conn_steps.specs.Settling.{SameKind}
 use Rattle.conn_loop.specs.Conn.{Looks}
 use Rattle.conn_loop.specs.Ends.{line_in, pass_of, pass_in, box_in, clock_in}

@@ -6,15 +6,15 @@ ghost use Rattle.session_model.specs.Plans.{GoesOn};
 ghost use Rattle.jr_kept.specs.Inbox.{StandsFor, SameContent, faults_of, is_broken, limits_of, flow_of};
 ghost use Rattle.gate_turn.specs.Views.{Part};
 ghost use Rattle.gate_senders.specs.Gate.{senders_of};
-ghost use Rattle.gate_business.specs.Business.{lock_of, AllStay};
+ghost use Rattle.gate_staff.specs.Business.{lock_of, AllStay};
 ghost use Rattle.conn_door.specs.declared.answer.ServeFault.{ServeFault};
 ghost use Rattle.conn_turns.specs.News.{items_of, delivered_in};
 ghost use Rattle.conn_serve.specs.Answering.{business_of, refused_in, call_fault, resume_fault, messages_of, business_at, Answers, RefusedFor, StaysBusiness, Unread, ReadOtherwise};
 
 use conn_door::{ServeFault, refused_submit};
 use conn_turns::News;
-use gate_business::{Business, ResumeFault};
 use gate_senders::Gate;
+use gate_staff::{Business, ResumeFault};
 use jr_boxes::Which;
 use jr_dated::{FetchFault, Journal};
 use jr_kept::{Inbox, SubmitFault};

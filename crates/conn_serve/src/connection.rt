@@ -2,7 +2,7 @@
 
 ghost use Rattle.std.specs.Prelude.{⊤, ◌≡◌, ℕ, ◌<◌, ◌≤◌, ◌^◌, false, [], ◌++◌, length, Ok, Some, None, IfOk, IfErr, OnOk};
 ghost use Rattle.gate_senders.specs.Gate.{IsPassAt, senders_of};
-ghost use Rattle.gate_business.specs.Business.{lock_of};
+ghost use Rattle.gate_staff.specs.Business.{lock_of};
 ghost use Rattle.conn_serve.specs.Answering.{business_of, refused_in, messages_of, business_at, AnswersMore};
 ghost use Rattle.conn_turns.specs.News.{items_of, delivered_in};
 ghost use Rattle.gw_outside.specs.Faults.{HasRisen};
@@ -24,8 +24,8 @@ use conn_door::{ServeFault, Signals};
 use conn_lines::Close;
 use conn_loop::LiveEnd;
 use conn_turns::{News, TurnEnd, TurnFault};
-use gate_business::Business;
 use gate_senders::Gate;
+use gate_staff::Business;
 use gw_links::{Clock, Dialer, Link};
 use gw_outside::Sink;
 use jr_boxes::Which;

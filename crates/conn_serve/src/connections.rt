@@ -4,7 +4,7 @@ ghost use Rattle.std.specs.Prelude.{◌≡◌, ◌≤◌, false, is_some, OnErr,
 ghost use Rattle.gw_outside.specs.Faults.{HasRisen};
 ghost use Rattle.fixp_machine.specs.Machine.{phase_of};
 ghost use Rattle.gate_senders.specs.Gate.{senders_of};
-ghost use Rattle.gate_business.specs.Business.{lock_of};
+ghost use Rattle.gate_staff.specs.Business.{lock_of};
 ghost use Rattle.conn_loop.specs.Ends.{pass_in, box_in};
 ghost use Rattle.conn_door.specs.declared.answer.ServeFault.TheVariants as faults;
 ghost use Rattle.conn_serve.specs.Answering.{business_of, business_at, AnswersMore, AnsweredEach};
@@ -23,8 +23,8 @@ use conn_door::{LifeEnd, ServeFault, Signals};
 use conn_lines::Close;
 use fixp_end::End;
 use fixp_replies::Ending;
-use gate_business::{Business, NoBusiness};
 use gate_senders::Gate;
+use gate_staff::{Business, NoBusiness};
 use gw_links::{Clock, Dialer, Next};
 use gw_outside::Sink;
 use jr_dated::Journal;

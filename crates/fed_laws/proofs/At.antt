@@ -16,8 +16,8 @@ use Rattle.gate_turn.specs.declared.pass.Pass.{Pass}
 use Rattle.gate_turn.specs.declared.passes.Passes.{Passes}
 use Rattle.gate_senders.specs.declared.gate.Gate.{Gate}
 use Rattle.gate_senders.specs.declared.kept.Kept.{Kept}
-use Rattle.gate_plans.specs.Seats.{Seated}
-use Rattle.gate_plans.specs.declared.sender.Sender.{Sender}
+use Rattle.gate_staff.specs.Seats.{Seated}
+use Rattle.gate_staff.specs.declared.sender.Sender.{Sender}
 use Rattle.conn_door.specs.declared.answer.ServeFault.{ServeFault}
 use Rattle.conn_door.specs.Answers.{answer_of}
 use Rattle.conn_serve.specs.Causes.{IsBlamed}

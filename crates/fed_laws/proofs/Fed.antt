@@ -11,7 +11,7 @@ use Rattle.gate_turn.specs.Views.{Account, Part}
 use Rattle.gate_turn.specs.Rule.{In}
 use Rattle.gate_turn.specs.Places.{known}
 use Rattle.gate_senders.specs.declared.gate.Gate.{Gate}
-use Rattle.gate_plans.specs.declared.sender.Sender.{Sender}
+use Rattle.gate_staff.specs.declared.sender.Sender.{Sender}
 use Rattle.plan_text.specs.Plans.{Gift, payloads_of_sender}
 use Rattle.conn_accepted.specs.declared.why.Why.{Why}
 use Rattle.conn_door.specs.declared.answer.ServeFault.{ServeFault}
@@ -25,7 +25,7 @@ use Rattle.conn_feed.proofs.Coming.{entries_append}
 use Rattle.conn_feed.proofs.Moving.{at_seat}
 use Rattle.conn_fed.specs.Fed.{IsMarked}
 use Rattle.life_laws.specs.Plans.{plan_in}
-use Rattle.gate_business.specs.Made.{IsAllMade, LosesMessages, IsAmong, SeesOwn}
+use Rattle.gate_staff.specs.Made.{IsAllMade, LosesMessages, IsAmong, SeesOwn}
 use Rattle.life_laws.specs.PlanLives.{MetFull}
 use Rattle.life_laws.proofs.Seen.{own_among}
 use Rattle.life_laws.proofs.Senders.{PartMade, part_still, EachMade, NoneEnded, PartLoses, SendersMade}

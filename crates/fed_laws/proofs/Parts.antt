@@ -5,9 +5,9 @@ use Rattle.jr_kept.specs.Entries.{entries_made}
 use Rattle.gate_turn.specs.Views.{Account, Part}
 use Rattle.gate_turn.proofs.Histories.{begins_on}
 use Rattle.gate_senders.specs.Shown.{LosesAll, entries_after}
-use Rattle.gate_plans.specs.Sent.{entries_behind}
+use Rattle.gate_staff.specs.Sent.{entries_behind}
 use Rattle.conn_feed.specs.Fed.{Made}
-use Rattle.gate_business.specs.Made.{IsAllMade, LosesMessages}
+use Rattle.gate_staff.specs.Made.{IsAllMade, LosesMessages}
 use Rattle.life_laws.proofs.Senders.{PartMade}
 
 -- what a pass knew that was made with a value that said this, and had made nothing

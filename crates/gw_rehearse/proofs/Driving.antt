@@ -21,9 +21,9 @@ use Rattle.gate_turn.proofs.Histories.{begins_self}
 use Rattle.gate_senders.specs.Gate.{IsPassAt, IsSenderAt, MadeAt, opening_of}
 use Rattle.gate_senders.specs.declared.gate.Gate.{Gate}
 use Rattle.gate_senders.specs.declared.kept.Kept.{Kept}
-use Rattle.gate_plans.specs.Runs.{IsReady}
-use Rattle.gate_plans.specs.Seats.{Seated, HasBehind}
-use Rattle.gate_plans.specs.declared.sender.Sender.{Sender}
+use Rattle.gate_staff.specs.Runs.{IsReady}
+use Rattle.gate_staff.specs.Seats.{Seated, HasBehind}
+use Rattle.gate_staff.specs.declared.sender.Sender.{Sender}
 use Rattle.conn_turns.specs.Lines.{Line, TakenFrame, AreTaken, size_of, line_after, lines_after}
 use Rattle.conn_turns.specs.Exact.{line_ticked}
 use Rattle.conn_turns.specs.declared.answer.TurnEnd.{TurnEnd}
@@ -42,8 +42,8 @@ use Rattle.fixp_replies.specs.declared.facts.EndState.{EndState}
 use Rattle.jr_dated.specs.declared.faults.FetchFault.TheVariants as fetch
 use Rattle.jr_boxes.specs.declared.faults.SubmitFault.{SubmitFault}
 use Rattle.jr_boxes.specs.declared.faults.SubmitFault.TheVariants as submit
-use Rattle.gate_business.specs.declared.business.ResumeFault.{ResumeFault}
-use Rattle.gate_business.specs.declared.business.ResumeFault.TheVariants as resuming
+use Rattle.gate_staff.specs.declared.business.ResumeFault.{ResumeFault}
+use Rattle.gate_staff.specs.declared.business.ResumeFault.TheVariants as resuming
 use Rattle.order_staff.specs.declared.posts.Posts.{Posts}
 use Rattle.order_staff.specs.declared.posts.Posts.TheVariants as posts
 use Rattle.order_staff.specs.declared.staff.Staff.{Staff}

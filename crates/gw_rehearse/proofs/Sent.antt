@@ -17,8 +17,8 @@ use Rattle.gate_turn.specs.declared.passes.Passes.{Passes}
 use Rattle.gate_senders.specs.Gate.{ClosedWith, opening_of}
 use Rattle.gate_senders.specs.declared.gate.Gate.{Gate}
 use Rattle.gate_senders.specs.declared.kept.Kept.{Kept}
-use Rattle.gate_plans.specs.Runs.{CountedEach}
-use Rattle.gate_plans.specs.declared.sender.Sender.{Sender}
+use Rattle.gate_staff.specs.Runs.{CountedEach}
+use Rattle.gate_staff.specs.declared.sender.Sender.{Sender}
 use Rattle.order_staff.specs.Staffs.{HasMade, sent_by}
 use Rattle.gw_rehearse.specs.Standing.{AreDone}
 use Rattle.gw_rehearse.specs.Summaries.{counts_to}

@@ -1,16 +1,16 @@
 //! What the senders of an end do: their plans grow as a script goes on, and all that was added is submitted at once.
 
 ghost use Rattle.std.specs.Prelude.{◌≡◌, ◌+◌, ◌<◌, ◌≤◌, All, length, vec_len, IsTrue};
-ghost use Rattle.gate_plans.specs.Runs.{IsReady};
-ghost use Rattle.gate_plans.specs.Seats.{Seated};
+ghost use Rattle.gate_staff.specs.Runs.{IsReady};
+ghost use Rattle.gate_staff.specs.Seats.{Seated};
 ghost use Rattle.cmd_script.specs.Script.{IsCount};
 ghost use Rattle.gw_rehearse.specs.Standing.{AreDone, KeepsPasses, UsesFirst};
 ghost use Rattle.order_staff.specs.Staffs.{sent_by};
 
 use crate::journals::Log;
 use crate::payloads::message_of;
-use gate_plans::{OpenDoor, Plan, Sender, count_done, run_seated};
 use gate_senders::Gate;
+use gate_staff::{OpenDoor, Plan, Sender, count_done, run_seated};
 use jr_kept::CloseFault;
 use std::alloc::{AllocError, Global};
 use std::sync::Wait;

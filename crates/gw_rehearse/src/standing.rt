@@ -3,7 +3,7 @@
 ghost use Rattle.std.specs.Prelude.{◌≡◌};
 
 use conn_loop::{TurnEnd, TurnFault};
-use gate_business::ResumeFault;
+use gate_staff::ResumeFault;
 use jr_dated::FetchFault;
 use jr_kept::SubmitFault;
 

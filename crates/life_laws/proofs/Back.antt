@@ -13,11 +13,11 @@ use Rattle.gate_turn.specs.declared.passes.Passes.{Passes}
 use Rattle.gate_senders.specs.declared.gate.Gate.{Gate}
 use Rattle.gate_senders.specs.declared.kept.Kept.{Kept}
 use Rattle.conn_loop.specs.Conn.{Looks}
-use Rattle.gate_plans.specs.Seats.{Seated, HasTheirs}
-use Rattle.gate_plans.specs.declared.sender.Sender.{Sender}
+use Rattle.gate_staff.specs.Seats.{Seated, HasTheirs}
+use Rattle.gate_staff.specs.declared.sender.Sender.{Sender}
 use Rattle.conn_door.specs.Senders.{SomeMarked}
 use Rattle.life_laws.specs.Plans.{plan_in, LosesOwn, PlansMade}
-use Rattle.gate_business.specs.Made.{MadeOf, IsAllMade, LosesMessages}
+use Rattle.gate_staff.specs.Made.{MadeOf, IsAllMade, LosesMessages}
 use Rattle.life_laws.specs.PlanLives.{SomePass, SeesMark, SeesFailure}
 use Rattle.life_laws.proofs.Senders.{PartMade, EachMade, NoneEnded, PartLoses, SendersMade}
 

@@ -32,8 +32,8 @@ use Rattle.gate_senders.specs.Gate.{opening_of, OpensOn, ClosedWith}
 use Rattle.gate_senders.specs.declared.gate.Gate.{Gate}
 use Rattle.gate_senders.specs.declared.kept.Kept.{Kept}
 use Rattle.gate_senders.proofs.Keeping.{keeps_stands, front_is}
-use Rattle.gate_business.specs.Made as made
-use Rattle.gate_business.specs.Business as business
+use Rattle.gate_staff.specs.Made as made
+use Rattle.gate_staff.specs.Business as business
 use Rattle.conn_door.specs.Answers.{answer_of, yields, yields_to, IsUnrefused}
 use Rattle.conn_door.specs.declared.answer.ServeFault.{ServeFault}
 use Rattle.conn_door.specs.declared.answer.ServeFault.TheVariants as faults

@@ -14,9 +14,9 @@ use Rattle.gate_turn.specs.Views.{Account, Part}
 use Rattle.gate_turn.specs.Rule.{In}
 use Rattle.gate_turn.specs.Calls.{made_part}
 use Rattle.gate_turn.specs.Steps.{Closed}
-use Rattle.gate_business.specs.Made as made
-use Rattle.gate_business.specs.Business as business
-use Rattle.gate_business.proofs.Resuming.{stays_self}
+use Rattle.gate_staff.specs.Made as made
+use Rattle.gate_staff.specs.Business as business
+use Rattle.gate_staff.proofs.Resuming.{stays_self}
 use Rattle.conn_loop.specs.Conn.{Looks}
 use Rattle.conn_door.specs.declared.answer.ServeFault.{ServeFault}
 use Rattle.conn_door.specs.declared.answer.ServeFault.TheVariants as faults

@@ -15,14 +15,14 @@ use Rattle.gate_turn.specs.Views.{Account, Part}
 use Rattle.gate_turn.specs.Rule.{In}
 use Rattle.gate_turn.specs.Steps.{Closed}
 use Rattle.gate_turn.specs.Calls.{made_part}
-use Rattle.gate_plans.specs.Sent.{entries_behind}
-use Rattle.gate_business.specs.Made as made
-use Rattle.gate_business.specs.Business as business
-use Rattle.gate_business.proofs.Making.{prefix_drop, prefix_whole}
+use Rattle.gate_staff.specs.Sent.{entries_behind}
+use Rattle.gate_staff.specs.Made as made
+use Rattle.gate_staff.specs.Business as business
+use Rattle.gate_staff.proofs.Making.{prefix_drop, prefix_whole}
 use Rattle.conn_turns.proofs.Delivering.{applied_payloads}
 use Rattle.conn_serve.specs.Answering.{messages_of}
 use Rattle.life_laws.specs.Plans.{plan_in, AllMade, LosesOwn, PlansMade, KeepsPlans, LosesNext, plans_at}
-use Rattle.gate_business.specs.Made.{MadeOf, LosesMessages}
+use Rattle.gate_staff.specs.Made.{MadeOf, LosesMessages}
 use Rattle.life_laws.proofs.Submitting.{plans_submitted}
 use Rattle.life_laws.specs.AnsweredLives.{KeepsWhole}
 use Rattle.life_laws.specs.Answered.{plans_over, answering_plan, answering, PassesOver, PassesAnswered, KeepsAnswers, AnswersOnBy, ContinuesGoesOn, ContinuesCompletes, AnsweringGoesOn, AnswersAreKept, AnswersKeepOutbox}

@@ -20,9 +20,9 @@ use Rattle.gate_turn.proofs.Failing.{failed_before}
 use Rattle.gate_senders.specs.declared.gate.Gate.{Gate}
 use Rattle.gate_senders.specs.declared.kept.Kept.{Kept}
 use Rattle.conn_loop.specs.Conn.{Looks}
-use Rattle.gate_plans.specs.Runs.{IsThrough, CountedEach, WasRefused}
-use Rattle.gate_plans.specs.Seats.{Seated, HasTheirs}
-use Rattle.gate_plans.specs.declared.sender.Sender.{Sender}
+use Rattle.gate_staff.specs.Runs.{IsThrough, CountedEach, WasRefused}
+use Rattle.gate_staff.specs.Seats.{Seated, HasTheirs}
+use Rattle.gate_staff.specs.declared.sender.Sender.{Sender}
 use Rattle.conn_door.specs.declared.answer.ServeFault.{ServeFault}
 use Rattle.conn_door.specs.declared.answer.ServeFault.TheVariants as faults
 use Rattle.conn_door.specs.declared.answer.LifeEnd.{LifeEnd}

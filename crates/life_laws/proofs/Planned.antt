@@ -15,9 +15,9 @@ use Rattle.gate_turn.specs.Views.{Account, Part}
 use Rattle.gate_turn.specs.Rule.{In}
 use Rattle.gate_turn.specs.Steps.{Closed}
 use Rattle.gate_turn.proofs.Histories.{entries_of-append}
-use Rattle.gate_plans.specs.Sent.{entries_behind}
+use Rattle.gate_staff.specs.Sent.{entries_behind}
 use Rattle.life_laws.specs.Plans.{plan_in, AllMade, LosesOwn, PlansMade, NextMessages, LosesNext}
-use Rattle.gate_business.specs.Made.{MadeOf, IsAllMade, LosesMessages}
+use Rattle.gate_staff.specs.Made.{MadeOf, IsAllMade, LosesMessages}
 use Rattle.life_laws.specs.PlanLaws.{PlansAreKept}
 
 payloads-entries_behind : (sender n : ℕ) (ps : List (List ℕ)) → payloads (entries_behind sender n ps) ≡ ps

@@ -8,8 +8,8 @@ use native.Mathlib.Nat.{ℕ_set}
 use Rattle.session_model.specs.Journal.{Entry, entries_of, counts_from, InOrder}
 use Rattle.session_model.proofs.Lists.{all_weaker, all_second}
 use Rattle.gate_turn.proofs.Histories.{entries_of-append}
-use Rattle.gate_plans.specs.Sent.{StandAt}
-use Rattle.gate_business.specs.Made.{IsAmong}
+use Rattle.gate_staff.specs.Sent.{StandAt}
+use Rattle.gate_staff.specs.Made.{IsAmong}
 
 pub order_prop : (es : List Entry) → IsProp (InOrder es)
 order_prop es = hlevel (ℕ_set, List-set)

@@ -23,15 +23,15 @@ use Rattle.gate_senders.specs.declared.kept.Kept.{Kept}
 use Rattle.gate_senders.proofs.Keeping.{submit_failed}
 use Rattle.plan_values.specs.Plans.{payloads_of}
 use Rattle.plan_values.specs.declared.plan.Plan.{Plan}
-use Rattle.gate_plans.specs.Sent.{entries_behind, HasLost}
-use Rattle.gate_plans.specs.Runs.{plan_of, IsThrough, Counted, CountedEach, Ran, WasRefused}
-use Rattle.gate_plans.specs.Seats.{SeatedFrom}
-use Rattle.gate_plans.specs.declared.sender.Sender.{Sender}
+use Rattle.gate_staff.specs.Sent.{entries_behind, HasLost}
+use Rattle.gate_staff.specs.Runs.{plan_of, IsThrough, Counted, CountedEach, Ran, WasRefused}
+use Rattle.gate_staff.specs.Seats.{SeatedFrom}
+use Rattle.gate_staff.specs.declared.sender.Sender.{Sender}
 use Rattle.conn_door.specs.declared.answer.ServeFault.{ServeFault}
 use Rattle.conn_door.specs.Senders.{LosesMark, IsRefusal, FinishedFirst, SubmittedAll}
 use Rattle.life_laws.specs.Plans.{plan_in}
-use Rattle.gate_business.specs.Made.{MadeOf, IsAllMade, LosesMessages}
-use Rattle.gate_business.specs.Made.{IsAmong}
+use Rattle.gate_staff.specs.Made.{MadeOf, IsAllMade, LosesMessages}
+use Rattle.gate_staff.specs.Made.{IsAmong}
 use Rattle.life_laws.proofs.Seen.{stand_long, stand_among, own_among}
 
 -- what a pass knows that was made with a value that said this, and went on with a plan

@@ -10,7 +10,7 @@ use Rattle.gate_turn.specs.Views.{Account, Part}
 use Rattle.gate_turn.specs.Rule.{In}
 use Rattle.gate_turn.specs.Calls.{made_part}
 use Rattle.gate_turn.specs.Steps.{Closed}
-use Rattle.gate_business.specs.Business.{Grew}
+use Rattle.gate_staff.specs.Business.{Grew}
 use Rattle.conn_serve.specs.Answering.{messages_of}
 use Rattle.life_laws.specs.Plans.{plan_in, KeepsPlans, Senders}
 

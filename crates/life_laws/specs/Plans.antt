@@ -9,7 +9,7 @@ use Rattle.jr_kept.specs.Entries.{entries_made}
 use Rattle.gate_turn.specs.Views.{Account, Part}
 use Rattle.gate_turn.specs.Rule.{In}
 use Rattle.gate_senders.specs.Kept.{next_entries}
-use Rattle.gate_business.specs.Made.{MadeOf, IsAllMade, LosesMessages}
+use Rattle.gate_staff.specs.Made.{MadeOf, IsAllMade, LosesMessages}
 use Rattle.conn_serve.specs.Answering.{messages_of}
 
 -- the plan of each sender, whatever was applied: that of sender s is the s-th of these, and no other has one

@@ -2,7 +2,7 @@
 
 ghost use Rattle.life_laws.specs.AnsweredLives.{AnsweredPasses, AnsweringKeepsOutbox, AnsweringKeepsSenders, AnsweringIsLived};
 
-use gate_business::Business;
+use gate_staff::Business;
 use gw_links::Dialer;
 use jr_dated::Journal;
 use jr_kept::Inbox;

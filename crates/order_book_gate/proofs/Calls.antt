@@ -9,8 +9,8 @@ use Rattle.gate_turn.specs.Views.{Part, new_part, nothing}
 use Rattle.gate_turn.specs.Rule.{In}
 use Rattle.gate_turn.specs.Listed.{known_if}
 use Rattle.gate_turn.proofs.Failing.{failed_before}
-use Rattle.gate_business.proofs.Resuming.{stays_self}
-use Rattle.gate_business.specs.Business.{StaysPass, AllStay, ShownByOne, StandsOn, Answered}
+use Rattle.gate_staff.proofs.Resuming.{stays_self}
+use Rattle.gate_staff.specs.Business.{StaysPass, AllStay, ShownByOne, StandsOn, Answered}
 use Rattle.order_gate.specs.declared.desk.Desk.{Desk}
 use Rattle.order_gate.specs.Reported.{Reported, Finishing}
 use Rattle.order_gate.specs.Desks.{known_of, IsSeated, IsManned}

@@ -11,9 +11,9 @@ use Rattle.gate_turn.specs.Calls.{IsFree}
 use Rattle.gate_turn.specs.declared.pass.Pass.{Pass}
 use Rattle.gate_turn.specs.declared.passes.Passes.{Passes}
 use Rattle.gate_senders.specs.declared.kept.Kept.{Kept}
-use Rattle.gate_plans.specs.Sent.{entries_behind}
-use Rattle.gate_business.specs.Made.{SeesMark}
-use Rattle.gate_business.specs.Business.{HasThese, StaysPass, SendNothing}
+use Rattle.gate_staff.specs.Sent.{entries_behind}
+use Rattle.gate_staff.specs.Made.{SeesMark}
+use Rattle.gate_staff.specs.Business.{HasThese, StaysPass, SendNothing}
 use Rattle.order_book.specs.declared.entries.BookOrder.{BookOrder}
 use Rattle.order_book.specs.Laws.{IsRested}
 use Rattle.order_gate.specs.declared.desk.Desk.{Desk}

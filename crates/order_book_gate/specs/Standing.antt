@@ -8,7 +8,7 @@ use Rattle.session_model.specs.Plans.{GoesOn}
 use Rattle.jr_dated.specs.declared.journal.Journal.{Ghosts}
 use Rattle.gate_turn.specs.Rule.{In}
 use Rattle.gate_turn.specs.Listed.{known_if}
-use Rattle.gate_business.specs.Made.{SeesMark}
+use Rattle.gate_staff.specs.Made.{SeesMark}
 use Rattle.sbe_layout.specs.declared.plan.Plan.{Plan}
 use Rattle.order_desk.specs.Schema.{order_plan}
 use Rattle.order_desk.specs.Orders.{order_in}

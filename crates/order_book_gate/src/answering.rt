@@ -3,12 +3,12 @@ ghost use Rattle.std.specs.Prelude.{◌≡◌, ◌≢◌, ℕ, ◌≤◌, true, 
 ghost use Rattle.jr_boxes.specs.declared.faults.SubmitFault.{SubmitFault};
 ghost use Rattle.jr_boxes.specs.declared.faults.SubmitFault.TheVariants as submit;
 ghost use Rattle.gate_senders.specs.Gate.{senders_of};
-ghost use Rattle.gate_business.specs.Business.{lock_of, AllStay, Answered, ShownByOne, StandsOn};
+ghost use Rattle.gate_staff.specs.Business.{lock_of, AllStay, Answered, ShownByOne, StandsOn};
 
 use crate::book_desk::BookDesk;
 use crate::orders::take_orders;
-use gate_plans::OpenDoor;
 use gate_senders::Gate;
+use gate_staff::OpenDoor;
 use jr_boxes::SubmitFault;
 use jr_dated::Journal;
 use sbe_value::{Bytes, Payloads};

@@ -3,13 +3,13 @@ ghost use Rattle.std.specs.Prelude.{⊤, ◌≡◌, ℕ, true, false, List, leng
 ghost use Rattle.atomic_table.specs.Seated.{TableId};
 ghost use Rattle.gate_turn.specs.Rule.{In};
 ghost use Rattle.gate_turn.specs.Listed.{known_at};
-ghost use Rattle.gate_business.specs.Made.{SeesMark};
-ghost use Rattle.gate_business.specs.Business.{HasThese};
+ghost use Rattle.gate_staff.specs.Made.{SeesMark};
+ghost use Rattle.gate_staff.specs.Business.{HasThese};
 ghost use Rattle.order_desk.specs.Schema.{IsVersion};
 
 use crate::passing::alone;
-use gate_business::Business;
 use gate_senders::{Gate, Kept};
+use gate_staff::Business;
 use gate_turn::Passes;
 use jr_boxes::SubmitFault;
 use jr_dated::Journal;

@@ -6,15 +6,15 @@ use Rattle.jr_boxes.specs.declared.faults.SubmitFault.{SubmitFault}
 use Rattle.jr_boxes.specs.declared.faults.SubmitFault.TheVariants as submit
 use Rattle.gate_turn.specs.Views.{Part}
 use Rattle.gate_turn.specs.Rule.{In}
-use Rattle.gate_plans.specs.Sent.{entries_behind, IsShown, HasLost}
-use Rattle.gate_business.specs.Made.{MadeOf, IsAllMade, LosesMessages, SeesMark, MetFull}
-use Rattle.gate_business.specs.Business.{StaysPass, AllMade, Loses, Grew, Whole, ShownByOne, StandsOn, LoseNothing, Answered}
+use Rattle.gate_staff.specs.Sent.{entries_behind, IsShown, HasLost}
+use Rattle.gate_staff.specs.Made.{MadeOf, IsAllMade, LosesMessages, SeesMark, MetFull}
+use Rattle.gate_staff.specs.Business.{StaysPass, AllMade, Loses, Grew, Whole, ShownByOne, StandsOn, LoseNothing, Answered}
 use Rattle.std.proofs.lemmas.List.{drop_all, drop-drop}
-use Rattle.gate_business.proofs.Making.{made_of, length-entries}
+use Rattle.gate_staff.proofs.Making.{made_of, length-entries}
 use Rattle.order_gate.specs.Reported.{RefusedAt, Reported, LosesFinish, Finishing}
 use Rattle.gate_turn.proofs.Failing.{failed_before}
-use Rattle.gate_business.proofs.Resuming.{stays_self, stays_on}
-use Rattle.gate_business.proofs.Seeing.{sees_still}
+use Rattle.gate_staff.proofs.Resuming.{stays_self, stays_on}
+use Rattle.gate_staff.proofs.Seeing.{sees_still}
 use Rattle.order_gate.proofs.Parts.{drop_over}
 
 -- a desk sent what comes next of its plan

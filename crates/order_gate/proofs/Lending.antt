@@ -12,8 +12,8 @@ use Rattle.gate_turn.specs.Listed.{pass_at, known_if, known_at}
 use Rattle.gate_turn.specs.declared.pass.Pass.{Pass}
 use Rattle.gate_turn.specs.declared.passes.Passes.{Passes}
 use Rattle.gate_senders.specs.declared.kept.Kept.{Kept}
-use Rattle.gate_business.specs.Made.{SeesMark}
-use Rattle.gate_business.specs.Business.{HasThese}
+use Rattle.gate_staff.specs.Made.{SeesMark}
+use Rattle.gate_staff.specs.Business.{HasThese}
 use Rattle.order_desk.specs.Plans.{desk_plan}
 use Rattle.order_gate.specs.declared.hand.Hand.{Hand}
 use Rattle.order_gate.specs.declared.terms.Terms.{Terms}

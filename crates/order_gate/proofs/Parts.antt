@@ -14,10 +14,10 @@ use Rattle.gate_turn.proofs.Failing.{failed_before}
 use Rattle.gate_senders.specs.Kept.{next_entry, IsFullAt}
 use Rattle.gate_senders.specs.Shown.{TakesTurn, SubmittedAll, IsFullBehind, LosesAll, entries_after}
 use Rattle.gate_senders.specs.declared.submission.Submission.{Submission}
-use Rattle.gate_plans.specs.Sent.{entries_behind, GoesOn, IsShown, HasLost}
-use Rattle.gate_business.specs.Made.{IsAmong, SeesOwn}
-use Rattle.gate_business.proofs.Resuming.{take_on}
-use Rattle.gate_business.proofs.Seeing.{sees_still, among_on}
+use Rattle.gate_staff.specs.Sent.{entries_behind, GoesOn, IsShown, HasLost}
+use Rattle.gate_staff.specs.Made.{IsAmong, SeesOwn}
+use Rattle.gate_staff.proofs.Resuming.{take_on}
+use Rattle.gate_staff.proofs.Seeing.{sees_still, among_on}
 use Rattle.order_gate.specs.Reported.{RefusedAt, Reported}
 use Rattle.order_gate.specs.Desks.{answer_of}
 

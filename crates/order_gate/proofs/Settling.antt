@@ -9,15 +9,15 @@ use Rattle.jr_dated.specs.declared.journal.Journal.{Ghosts}
 use Rattle.jr_boxes.specs.declared.faults.SubmitFault.{SubmitFault}
 use Rattle.jr_boxes.specs.declared.faults.SubmitFault.TheVariants as submit
 use Rattle.session_model.specs.Journal.{Entry}
-use Rattle.gate_plans.specs.Sent.{entries_behind}
+use Rattle.gate_staff.specs.Sent.{entries_behind}
 use Rattle.gate_turn.specs.Views.{Part}
 use Rattle.gate_turn.specs.Rule.{In}
 use Rattle.gate_turn.specs.Places.{known}
-use Rattle.gate_business.specs.Made.{SeesMark}
+use Rattle.gate_staff.specs.Made.{SeesMark}
 use Rattle.gate_turn.proofs.Failing.{failed_before}
-use Rattle.gate_business.specs.Business.{AllStay, ShownByOne, StandsOn, SendNothing, Answered}
-use Rattle.gate_business.specs.Hands.{WorkedEach, HasAgain}
-use Rattle.gate_business.proofs.Resuming.{stays_self}
+use Rattle.gate_staff.specs.Business.{AllStay, ShownByOne, StandsOn, SendNothing, Answered}
+use Rattle.gate_staff.specs.Hands.{WorkedEach, HasAgain}
+use Rattle.gate_staff.proofs.Resuming.{stays_self}
 use Rattle.order_desk.specs.Schema.{order_plan}
 use Rattle.order_desk.specs.Plans.{desk_plan}
 use Rattle.order_gate.specs.declared.desk.Desk.{Desk}

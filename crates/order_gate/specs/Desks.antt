@@ -15,8 +15,8 @@ use Rattle.gate_turn.specs.declared.passes.Passes.{Passes}
 use Rattle.gate_senders.specs.Gate.{senders_of}
 use Rattle.gate_senders.specs.declared.gate.Gate.{Gate}
 use Rattle.gate_senders.specs.declared.kept.Kept.{Kept}
-use Rattle.gate_business.specs.Made.{SeesMark}
-use Rattle.gate_business.specs.Business.{lock_of}
+use Rattle.gate_staff.specs.Made.{SeesMark}
+use Rattle.gate_staff.specs.Business.{lock_of}
 use Rattle.order_desk.specs.Plans.{answers, share, desk_plan}
 use Rattle.order_gate.specs.Reported.{Reported}
 use Rattle.order_gate.specs.declared.desk.Desk.{Desk}

@@ -5,8 +5,8 @@ use Rattle.jr_boxes.specs.declared.faults.SubmitFault.TheVariants as submit
 use Rattle.session_model.specs.Journal.{finish}
 use Rattle.gate_turn.specs.Views.{Part, HasFailed}
 use Rattle.gate_senders.specs.Shown.{TakesTurn}
-use Rattle.gate_plans.specs.Sent.{entries_behind, GoesOn, IsShown, HasLost}
-use Rattle.gate_business.specs.Made.{SeesOwn}
+use Rattle.gate_staff.specs.Sent.{entries_behind, GoesOn, IsShown, HasLost}
+use Rattle.gate_staff.specs.Made.{SeesOwn}
 
 -- a number of 64 bits with a sign
 pub record IsPrice (price : ℤ) : Type 0 where

@@ -6,7 +6,7 @@ use Rattle.jr_dated.specs.declared.journal.Journal.{Ghosts}
 use Rattle.gate_turn.specs.Views.{Part}
 use Rattle.gate_turn.specs.Rule.{In}
 use Rattle.gate_turn.specs.Listed.{known_if}
-use Rattle.gate_business.specs.Made.{SeesMark}
+use Rattle.gate_staff.specs.Made.{SeesMark}
 use Rattle.order_desk.specs.Plans.{desk_plan}
 use Rattle.order_desk.proofs.Shares.{desk_plan_goes_on}
 use Rattle.order_gate.specs.declared.hand.Hand.{Hand}

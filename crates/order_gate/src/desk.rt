@@ -4,8 +4,8 @@ ghost use Rattle.std.specs.List.{AllByRecursion};
 ghost use Rattle.fixp_msgs.specs.Payload.{IsApplication};
 ghost use Rattle.order_gate.specs.Reported.{Reported, Finishing};
 
-use gate_plans::Door;
 use gate_senders::{Gate, Kept};
+use gate_staff::Door;
 use gate_turn::Pass;
 use jr_boxes::{CloseFault, SubmitFault};
 use jr_dated::Journal;
@@ -31,7 +31,7 @@ pub struct Desk<J: Journal> {
 }
 
 impl<J: Journal> Desk<J> {
-    ghost use Rattle.gate_business.specs.Business.{lock_of};
+    ghost use Rattle.gate_staff.specs.Business.{lock_of};
     ghost use Rattle.order_gate.specs.Desks.{known_of, IsSeated, IsManned, IsReady};
 
     /// How many of so many reports that come next go in one piece: those that the door lets in. It waits at the door for the first of them alone.

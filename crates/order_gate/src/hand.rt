@@ -4,7 +4,7 @@ ghost use Rattle.jr_boxes.specs.declared.faults.SubmitFault.TheVariants as submi
 ghost use Rattle.gate_turn.specs.Rule.{In};
 ghost use Rattle.gate_turn.specs.Listed.{pass_at};
 ghost use Rattle.gate_senders.specs.Gate.{senders_of};
-ghost use Rattle.gate_business.specs.Business.{lock_of};
+ghost use Rattle.gate_staff.specs.Business.{lock_of};
 ghost use Rattle.order_gate.specs.Desks.{IsQuiet, HasNone, HasMet, IsAnswer, HasNumber, IsSeated, Counted, AreNew, with_pass, without_pass};
 ghost use Rattle.order_desk.specs.Schema.{IsVersion};
 
@@ -12,8 +12,8 @@ use crate::call::Call;
 use crate::desk::Desk;
 use crate::form::Form;
 use crate::terms::Terms;
-use gate_plans::Door;
 use gate_senders::{Gate, Kept};
+use gate_staff::Door;
 use gate_turn::Passes;
 use jr_boxes::SubmitFault;
 use jr_dated::Journal;

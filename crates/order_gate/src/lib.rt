@@ -1,5 +1,5 @@
 //! Desks at a gate: the orders that a session delivers are answered by reports, each desk with its own share of them, and all at once. Relies
-//! on `order_desk` for what a desk answers, on `gate_senders` for how its reports are sent, and on `gate_business` for when it is called.
+//! on `order_desk` for what a desk answers, on `gate_senders` for how its reports are sent, and on `gate_staff` for when it is called.
 #![tactic(auto)]
 
 mod call;

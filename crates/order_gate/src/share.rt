@@ -3,7 +3,7 @@ ghost use Rattle.std.specs.Prelude.{◌≡◌, ◌==◌, ◌+◌, ◌-◌, ◌<�
 ghost use Rattle.crossbeam_queue.specs.Passes.{view, IsPassOf};
 ghost use Rattle.gate_turn.specs.Rule.{In};
 ghost use Rattle.gate_senders.specs.Gate.{senders_of};
-ghost use Rattle.gate_business.specs.Business.{lock_of};
+ghost use Rattle.gate_staff.specs.Business.{lock_of};
 ghost use Rattle.order_desk.specs.Schema.{IsOrderPlan};
 ghost use Rattle.order_desk.specs.Plans.{answers, desk_at};
 ghost use Rattle.order_gate.specs.Line.{log};
@@ -14,8 +14,8 @@ ghost use Rattle.order_gate.specs.Desks.{answer_of, due};
 use crate::call::Call;
 use crate::desk::Desk;
 use crate::line::{End, Ends, Line, Passed, deal, next};
-use gate_plans::Door;
 use gate_senders::Gate;
+use gate_staff::Door;
 use jr_boxes::SubmitFault;
 use jr_dated::Journal;
 use order_desk::answers_are_application;

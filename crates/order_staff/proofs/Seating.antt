@@ -10,8 +10,8 @@ use Rattle.gate_turn.specs.declared.pass.Pass.{Pass}
 use Rattle.gate_turn.specs.declared.passes.Passes.{Passes}
 use Rattle.gate_senders.specs.declared.gate.Gate.{Gate}
 use Rattle.gate_senders.specs.declared.kept.Kept.{Kept}
-use Rattle.gate_plans.specs.Seats.{Seated, HasTheirs}
-use Rattle.gate_plans.specs.declared.sender.Sender.{Sender}
+use Rattle.gate_staff.specs.Seats.{Seated, HasTheirs}
+use Rattle.gate_staff.specs.declared.sender.Sender.{Sender}
 use Rattle.order_staff.specs.declared.staff.Staff.{Staff}
 use Rattle.order_staff.specs.declared.staff.Staff.TheVariants as staffs
 use Rattle.order_staff.specs.Staffs.{count_of, sent_by, sent_in, HasMade}

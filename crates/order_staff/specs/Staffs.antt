@@ -10,9 +10,9 @@ use Rattle.gate_turn.specs.declared.passes.Passes.{Passes}
 use Rattle.gate_senders.specs.Gate.{senders_of, IsPassAt}
 use Rattle.gate_senders.specs.declared.gate.Gate.{Gate}
 use Rattle.gate_senders.specs.declared.kept.Kept.{Kept}
-use Rattle.gate_plans.specs.Seats.{Seated, HasBehind}
-use Rattle.gate_plans.specs.declared.sender.Sender.{Sender}
-use Rattle.gate_business.specs.Business.{lock_of}
+use Rattle.gate_staff.specs.Seats.{Seated, HasBehind}
+use Rattle.gate_staff.specs.declared.sender.Sender.{Sender}
+use Rattle.gate_staff.specs.Business.{lock_of}
 use Rattle.order_desk.specs.Schema.{IsVersion}
 use Rattle.order_gate.specs.Desks.{HasPasses, part_in}
 use Rattle.order_staff.specs.declared.posts.Posts.{Posts}

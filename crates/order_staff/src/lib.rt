@@ -1,5 +1,5 @@
 //! Who sends at an end: senders that have plans, or desks, which answer what the end applies; each has its pass of the gate. Relies on
-//! `gate_plans` for senders, on `order_gate` for desks, and on `gate_business` for when they answer.
+//! `gate_staff` for senders, on `order_gate` for desks, and on `gate_staff` for when they answer.
 #![tactic(auto)]
 
 mod posts;

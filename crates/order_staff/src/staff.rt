@@ -4,20 +4,22 @@ ghost use Rattle.std.specs.Prelude.{◌≡◌, ℕ, ◌+◌, ◌<◌, ◌≤◌,
 ghost use denote.Param.Send.{IsSend};
 ghost use Rattle.order_gate.specs.contracts.desk.Desk as desk;
 ghost use Rattle.order_gate.specs.contracts.form.Form as form;
-ghost use Rattle.gate_plans.specs.contracts.door.OpenDoor as open_door;
+ghost use Rattle.gate_staff.specs.contracts.door.OpenDoor as open_door;
 ghost use Rattle.jr_kept.specs.Inbox.{SameContent, is_broken, limits_of, flow_of};
 ghost use Rattle.gate_turn.specs.Places.{known};
 ghost use Rattle.gate_turn.specs.Rule.{In};
 ghost use Rattle.gate_turn.specs.Listed.{known_at};
 ghost use Rattle.gate_turn.specs.Calls.{IsFree};
 ghost use Rattle.gate_senders.specs.Gate.{senders_of, IsPassAt, MadeAt, AllBackAt};
-ghost use Rattle.gate_business.specs.Business.{lock_of};
+ghost use Rattle.gate_staff.specs.Business.{lock_of};
 ghost use Rattle.order_desk.specs.Schema.{IsVersion};
 
 use crate::posts::Posts;
-use gate_business::{Business, ResumeFault, give_connection, take_connection};
-use gate_plans::{OpenDoor, Sender, give_last, seat, take_last, unseat};
 use gate_senders::{Gate, Kept};
+use gate_staff::{
+    Business, OpenDoor, ResumeFault, Sender, give_connection, give_last, seat, take_connection,
+    take_last, unseat,
+};
 use gate_turn::{Pass, Passes};
 use jr_dated::Journal;
 use jr_kept::{Inbox, SubmitFault};

@@ -1,12 +1,12 @@
 //! Senders at a gate: each submits its plan, all at once, into an outbox on a disk in memory.
-//! Relies on `gate_plans`.
+//! Relies on `gate_staff`.
 
 ghost use Rattle.std.specs.Prelude.{◌≡◌, ◌≤◌, ◌^◌, false, vec_len, IfSome};
 ghost use Rattle.jr_kept.specs.Outbox.{is_broken};
 
 use cases_made::{Log, formatted, open_outbox};
-use gate_plans::{OpenDoor, Plan, run_seated, seat, unseat};
 use gate_senders::Gate;
+use gate_staff::{OpenDoor, Plan, run_seated, seat, unseat};
 use gw_outside::{Bytes, Payloads};
 use jr_dated::Limits;
 use jr_kept::Outbox;

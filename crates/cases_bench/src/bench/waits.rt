@@ -1,17 +1,17 @@
 //! How long the connection waits at a gate that senders keep busy: each of them holds the turn for as long as two syncs of its disk
-//! sleep. A wait is counted in turns of senders, by the entries that are added meanwhile, so no clock is asked. Relies on `gate_plans`.
+//! sleep. A wait is counted in turns of senders, by the entries that are added meanwhile, so no clock is asked. Relies on `gate_staff`.
 
 ghost use Rattle.std.specs.Prelude.{◌≡◌, ◌+◌, ◌≤◌, [], vec_len, vec_capacity};
 ghost use Rattle.gate_turn.specs.Places.{known};
 ghost use Rattle.gate_turn.specs.Calls.{IsFree};
 ghost use Rattle.gate_senders.specs.Gate.{senders_of, IsPassAt, MadeAt, AllBackAt};
-ghost use Rattle.gate_plans.specs.Seats.{Seated};
+ghost use Rattle.gate_staff.specs.Seats.{Seated};
 
 use crate::bench::senders::{limits_for, plans};
 use crate::bench::slow_disk::SlowDisk;
 use cases_made::{formatted, open_outbox};
-use gate_plans::{OpenDoor, Plan, Sender, give_last, run_seated, seat, take_last, unseat};
 use gate_senders::{Gate, Kept};
+use gate_staff::{OpenDoor, Plan, Sender, give_last, run_seated, seat, take_last, unseat};
 use gate_turn::{Pass, Passes};
 use jr_boxes::SubmitFault;
 use jr_dated::Journal;

@@ -1,7 +1,7 @@
 //! A door at which desks wait for one another.
 ghost use Rattle.std.specs.Prelude.{false};
 
-use gate_plans::Door;
+use gate_staff::Door;
 use jr_boxes::SubmitFault;
 use std::sync::Wait;
 use std::sync::atomic::{AtomicU64, Ordering};

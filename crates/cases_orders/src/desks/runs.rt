@@ -12,13 +12,12 @@ ghost use Rattle.order_book.specs.contracts.book.Book as book;
 ghost use Rattle.gate_turn.specs.Rule.{In};
 ghost use Rattle.gate_turn.specs.Listed.{known_at};
 ghost use Rattle.gate_senders.specs.Gate.{senders_of};
-ghost use Rattle.gate_business.specs.Business.{lock_of, HasThese};
+ghost use Rattle.gate_staff.specs.Business.{lock_of, HasThese};
 ghost use Rattle.order_desk.specs.Schema.{IsVersion};
 
 use crate::desks::boxes::Log;
-use gate_business::{Business, give_connection, take_connection};
-use gate_plans::Door;
 use gate_senders::{Gate, Kept};
+use gate_staff::{Business, Door, give_connection, take_connection};
 use gate_turn::Passes;
 use jr_kept::{Inbox, Outbox};
 use order_book::Book;

@@ -3,7 +3,7 @@ ghost use Rattle.std.specs.Prelude.{◌≡◌, ◌≤◌, false, vec_len, IfSome
 ghost use Rattle.jr_kept.specs.Outbox.{is_broken};
 
 use crate::made::{Log, WIDE, formatted, opened};
-use gate_plans::Plan;
+use gate_staff::Plan;
 use gw_fakes::Pick;
 use gw_outside::{Bytes, Payloads};
 use jr_dated::Limits;

@@ -4,7 +4,7 @@ use crate::senders_at_once::boxes::{Case, Setting, in_order, ready, reopened};
 use crate::senders_at_once::doors::{Closing, Meeting, Turning};
 use crate::senders_at_once::runs::{Ran, run, run_finished};
 use cases_words::{halves, number};
-use gate_plans::{Door, OpenDoor};
+use gate_staff::{Door, OpenDoor};
 use gw_fakes::Pick;
 use jr_boxes::{CloseFault, SubmitFault};
 use jr_dated::Limits;

@@ -1,7 +1,7 @@
 //! Doors at which senders wait for one another, or are turned away.
 ghost use Rattle.std.specs.Prelude.{◌≡◌, true, false};
 
-use gate_plans::Door;
+use gate_staff::Door;
 use jr_boxes::SubmitFault;
 use std::sync::Wait;
 use std::sync::atomic::{AtomicU64, Ordering};

@@ -4,12 +4,12 @@ ghost use Rattle.jr_kept.specs.Outbox.{is_broken};
 ghost use Rattle.gate_turn.specs.Places.{known};
 ghost use Rattle.gate_turn.specs.Calls.{IsFree};
 ghost use Rattle.gate_senders.specs.Gate.{IsPassAt};
-ghost use Rattle.gate_plans.specs.Seats.{Seated};
+ghost use Rattle.gate_staff.specs.Seats.{Seated};
 
 use crate::made::Log;
 use crate::senders_at_once::doors::Closing;
-use gate_plans::{Door, Plan, Sender, give_last, run_seated, seat, take_last, unseat};
 use gate_senders::{Gate, Kept};
+use gate_staff::{Door, Plan, Sender, give_last, run_seated, seat, take_last, unseat};
 use gate_turn::Pass;
 use jr_boxes::{CloseFault, SubmitFault};
 use jr_kept::Outbox;

@@ -3,7 +3,7 @@ use Rattle.gate_turn.specs.Views.{new_part}
 use Rattle.gate_turn.specs.Places.{known}
 use Rattle.gate_turn.specs.Listed.{pass_at}
 use Rattle.gate_senders.specs.Gate.{opening_of}
-use Rattle.gate_plans.specs.Seats.{Seated, HasTheirs, HasBehind}
+use Rattle.gate_staff.specs.Seats.{Seated, HasTheirs, HasBehind}
 use Rattle.conn_door.specs.declared.answer.ServeFault.TheVariants as faults
 use Rattle.conn_feed.specs.Course.{point_of}
 use Rattle.life_laws.specs.PlanLives.{clocked}

@@ -6,7 +6,7 @@ use Rattle.gate_turn.specs.Calls.{made_part}
 use Rattle.gate_turn.specs.Listed.{known_at}
 use Rattle.gate_turn.specs.Places.{known}
 use Rattle.gate_senders.specs.Gate.{opening_of, senders_of}
-use Rattle.gate_business.specs.Business.{lock_of, HasThese}
+use Rattle.gate_staff.specs.Business.{lock_of, HasThese}
 use Rattle.conn_serve.specs.Moments.{beside}
 use Rattle.order_gate.specs.Desks as desks
 use Rattle.order_book_gate.specs.Desk as book_desk
@@ -16,7 +16,7 @@ use Rattle.order_gate.specs.contracts.desk.Desk as Desk
 use Rattle.order_gate.specs.contracts.hand.Hand as Hand
 use Rattle.order_gate.specs.contracts.desks.Desks as Desks
 use Rattle.order_book_gate.specs.contracts.book_desk.BookDesk as BookDesk
-use Rattle.gate_plans.specs.contracts.door.OpenDoor as open_door
+use Rattle.gate_staff.specs.contracts.door.OpenDoor as open_door
 use Rattle.life_laws.specs.Plans.{Senders}
 use Rattle.life_laws.specs.PlanLives.{clocked, LivesOnceClosed}
 use Rattle.life_laws.specs.Answered.{answering}

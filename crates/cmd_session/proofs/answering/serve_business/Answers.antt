@@ -5,7 +5,7 @@ use Rattle.gate_turn.specs.Calls.{made_part}
 use Rattle.gate_turn.specs.Listed.{known_at}
 use Rattle.gate_turn.specs.Places.{known}
 use Rattle.gate_senders.specs.Gate.{opening_of}
-use Rattle.gate_business.specs.Business.{lock_of, HasThese}
+use Rattle.gate_staff.specs.Business.{lock_of, HasThese}
 use Rattle.conn_door.specs.declared.answer.ServeFault.TheVariants as faults
 use Rattle.conn_serve.specs.Moments.{beside}
 use Rattle.life_laws.specs.PlanLives.{clocked, LivesOnceClosed}

@@ -1,5 +1,5 @@
 use Rattle.std.proofs.Common.{◌≡◌, ◌+◌, length, drop, refl, sym, ◌∙◌, ap, subst, arith}
-use Rattle.gate_plans.specs.Seats.{Seated}
+use Rattle.gate_staff.specs.Seats.{Seated}
 use Rattle.conn_door.specs.Senders.{SomeMarked}
 use Rattle.cmd_session.proofs.Counting.{front_of}
 use Rattle.cmd_session.proofs.Served.{served_seated, served_long, served_moved, output_caused, dial_caused}

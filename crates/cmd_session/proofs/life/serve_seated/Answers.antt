@@ -6,7 +6,7 @@ use Rattle.gate_turn.specs.Listed.{pass_at}
 use Rattle.gate_senders.specs.Gate.{opening_of, MadeAt}
 use Rattle.plan_values.specs.Plans.{payloads_of}
 use Rattle.plan_values.specs.declared.plan.Plan.{Plan}
-use Rattle.gate_plans.specs.Seats.{Seated, SeatedFrom}
+use Rattle.gate_staff.specs.Seats.{Seated, SeatedFrom}
 use Rattle.life_laws.proofs.Senders.{fresh_seated}
 use Rattle.life_laws.specs.PlanLives.{clocked}
 use Rattle.life_laws.proofs.Passes.{part_at, served_at}

@@ -2,7 +2,7 @@ use Rattle.std.proofs.Common.{◌≡◌, All, take, length, sym, subst, ◌∙�
 use Rattle.std.proofs.Math.Seq.{take-length}
 use Rattle.std.proofs.lemmas.List.{get_or_default}
 use Rattle.std.proofs.lemmas.List.Elements.{All-more}
-use Rattle.gate_plans.specs.Runs.{IsAdmitted}
+use Rattle.gate_staff.specs.Runs.{IsAdmitted}
 use Rattle.conn_door.proofs.senders.any_turned.Goals as goal
 
 pub loop-sender-preserved : goal.loop-sender-preserved

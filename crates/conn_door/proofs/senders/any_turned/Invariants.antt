@@ -1,5 +1,5 @@
 use Rattle.std.proofs.Common.{All, take}
-use Rattle.gate_plans.specs.Runs.{IsAdmitted}
+use Rattle.gate_staff.specs.Runs.{IsAdmitted}
 use Rattle.conn_door.proofs.senders.any_turned.Given as goal
 
 abbrev pub invariant-loop-sender : goal.invariant-loop-sender

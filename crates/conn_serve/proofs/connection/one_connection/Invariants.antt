@@ -1,6 +1,6 @@
 use Rattle.std.proofs.Common.{◌≡◌, ◌≤◌}
 use Rattle.std.specs.Bool.{⊤}
-use Rattle.gate_business.specs.Business.{lock_of}
+use Rattle.gate_staff.specs.Business.{lock_of}
 use Rattle.conn_serve.specs.Answering.{business_of, business_at, AnswersMore}
 use Rattle.gate_senders.specs.Gate.{IsPassAt}
 use Rattle.conn_loop.specs.Ends.{line_in, pass_of, box_in, clock_in, MayTurn, Stays}

@@ -1,6 +1,6 @@
 use Rattle.std.proofs.Common.{◌≡◌}
 use Rattle.std.specs.Prelude.{⊤}
-use Rattle.gate_business.specs.Business.{lock_of}
+use Rattle.gate_staff.specs.Business.{lock_of}
 use Rattle.conn_loop.specs.Ends.{box_in}
 use Rattle.conn_serve.specs.Answering.{business_of, business_at, AnswersMore}
 use Rattle.conn_serve.specs.Connections.{adds_of}

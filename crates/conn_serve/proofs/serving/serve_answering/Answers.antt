@@ -2,8 +2,8 @@ use Rattle.std.proofs.Common.{◌≡◌, inl, ⊎_elim, [], List, refl, Ok, ap, 
 use Rattle.std.specs.Bool.{⊤}
 use Rattle.std.proofs.lemmas.Option.{none-some}
 use Rattle.session_model.specs.Inbox.{InboxRecord}
-use Rattle.gate_business.specs.Business.{AllStay}
-use Rattle.gate_business.proofs.Resuming.{all_stay}
+use Rattle.gate_staff.specs.Business.{AllStay}
+use Rattle.gate_staff.proofs.Resuming.{all_stay}
 use Rattle.conn_loop.specs.Ends.{pass_in, box_in, clock_in}
 use Rattle.conn_loop.proofs.Working.{looks_self}
 use Rattle.conn_door.specs.Answers.{answer_of}

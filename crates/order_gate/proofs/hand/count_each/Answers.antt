@@ -1,5 +1,5 @@
 use Rattle.std.proofs.Common.{rules, ◌<◌, length, slice_index_or, sym, ◌∙◌, subst, arith}
-use Rattle.gate_business.specs.Business.{lock_of}
+use Rattle.gate_staff.specs.Business.{lock_of}
 use Rattle.order_gate.specs.Desks.{IsSeated, Counted}
 use Rattle.order_gate.specs.Standing.{at_place}
 use Rattle.order_gate.proofs.Places.{one_more, left_more}

@@ -1,5 +1,5 @@
 use Rattle.std.proofs.Common.{◌≡◌, ℕ, ◌<◌, ◌≤◌, length, slice_index_or}
-use Rattle.gate_business.specs.Business.{lock_of}
+use Rattle.gate_staff.specs.Business.{lock_of}
 use Rattle.order_gate.specs.declared.hand.Hand.{Hand}
 use Rattle.order_gate.specs.Desks.{Counted}
 use Rattle.order_gate.proofs.hand.count_each.Given as goal

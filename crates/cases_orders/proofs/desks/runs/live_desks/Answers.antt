@@ -6,7 +6,7 @@ use Rattle.gw_fakes.specs.contracts.disk.MemDiskDisk.TheImpl as on_disk
 use Rattle.jr_segments.specs.contracts.journal.SegJournal as journal
 use Rattle.jr_segments.specs.contracts.journal.SegJournalJournal.TheImpl as of_journal
 use Rattle.gate_turn.specs.Rule.{In}
-use Rattle.gate_business.specs.Business.{lock_of}
+use Rattle.gate_staff.specs.Business.{lock_of}
 use Rattle.order_gate.specs.contracts.hand.Hand as Hand
 use Rattle.order_gate.specs.contracts.desks.Desks as Desks
 use Rattle.cases_orders.proofs.Sending.{hand_send, desks_send}

@@ -1,6 +1,6 @@
 use Rattle.std.proofs.Common.{◌≤◌, length, ap, sym, subst, ◌∙◌}
 use Rattle.std.proofs.lemmas.List.{get_or_default}
-use Rattle.gate_plans.specs.Runs.{IsReady}
+use Rattle.gate_staff.specs.Runs.{IsReady}
 use Rattle.conn_feed.specs.Fed.{IsCounted}
 use Rattle.conn_feed.proofs.Seats.{set_seat}
 use Rattle.conn_feed.proofs.Marks.{finished_by}

@@ -1,5 +1,5 @@
 use Rattle.std.proofs.Common.{ℕ, ◌+◌, [], refl, sym, ◌∙◌, subst, arith}
-use Rattle.gate_plans.proofs.Seating.{all_behind, all_back}
+use Rattle.gate_staff.proofs.Seating.{all_behind, all_back}
 use Rattle.gate_senders.specs.Gate.{MadeAt, opening_of}
 use Rattle.gate_senders.proofs.Keeping.{keeps_stands}
 use Rattle.conn_loop.specs.Conn.{line_of}

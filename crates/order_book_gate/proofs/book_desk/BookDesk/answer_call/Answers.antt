@@ -1,6 +1,6 @@
 use Rattle.std.proofs.Common.{rules, ◌≡◌, ◌⊎◌, ◌++◌, true, false, inl, inr, refl, sym, ap, ◌∙◌, subst, Ok, Err}
 use Rattle.gate_senders.specs.Gate.{senders_of}
-use Rattle.gate_business.specs.Business.{lock_of, Answered}
+use Rattle.gate_staff.specs.Business.{lock_of, Answered}
 use Rattle.order_book_gate.specs.Plan.{book_plan}
 use Rattle.order_book_gate.specs.Desk.{part_of, plan_of, Took}
 use Rattle.order_book_gate.proofs.Calls.{able_of, idle, idle_stay, idle_stands, took_stay, finish_stay, ok_own, ok_stands, ok_answered, err_own, err_stands, err_answered, err_shown, finish_answered, finish_refused, finish_stands}

@@ -1,6 +1,6 @@
 use Rattle.std.proofs.Common.{◌∙◌}
 use Rattle.gate_senders.specs.Gate.{senders_of}
-use Rattle.gate_business.specs.Business.{lock_of}
+use Rattle.gate_staff.specs.Business.{lock_of}
 use Rattle.order_book_gate.proofs.Taking.{took_failed, took_sent}
 use Rattle.order_book_gate.proofs.book_desk.BookDesk.answer_each.Goals as goal
 

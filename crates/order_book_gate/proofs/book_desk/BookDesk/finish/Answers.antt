@@ -1,5 +1,5 @@
 use Rattle.std.proofs.Common.{rules, true, ◌∙◌}
-use Rattle.gate_business.specs.Business.{lock_of}
+use Rattle.gate_staff.specs.Business.{lock_of}
 use Rattle.gate_senders.specs.Gate.{senders_of}
 use Rattle.order_book_gate.proofs.Calls.{pass_of}
 use Rattle.order_book_gate.proofs.book_desk.BookDesk.finish.Goals as goal

@@ -1,4 +1,4 @@
-use Rattle.gate_business.specs.Business.{lock_of}
+use Rattle.gate_staff.specs.Business.{lock_of}
 use Rattle.order_book_gate.proofs.Lending.{begun_own, begun_stands, begun_silent}
 use Rattle.order_book_gate.proofs.book_desk.BookDeskBusiness.begin.Goals as goal
 

@@ -1,5 +1,5 @@
 use Rattle.std.proofs.Common.{◌++◌, refl, sym, ap, subst, ◌∙◌}
-use Rattle.gate_business.specs.Business.{lock_of, AllStay, Answered, ShownByOne}
+use Rattle.gate_staff.specs.Business.{lock_of, AllStay, Answered, ShownByOne}
 use Rattle.order_book_gate.specs.Desk.{part_of, plan_of, HasPass, StandsBehind}
 use Rattle.order_book_gate.proofs.book_desk.BookDeskBusiness.settle.Goals as goal
 

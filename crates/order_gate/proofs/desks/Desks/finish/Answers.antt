@@ -1,5 +1,5 @@
 use Rattle.std.proofs.Common.{rules, ◌≡◌, ◌<◌, true, false, length, slice_index_or, Ok, OnOk, sym, ◌∙◌, arith}
-use Rattle.gate_business.specs.Business.{lock_of}
+use Rattle.gate_staff.specs.Business.{lock_of}
 use Rattle.gate_senders.specs.Gate.{senders_of}
 use Rattle.order_gate.specs.declared.hand.Hand.{Hand}
 use Rattle.order_gate.specs.Standing.{at_place}

@@ -1,7 +1,7 @@
 use Rattle.std.proofs.Common.{rules, ◌≡◌, ℕ, ◌<◌, length, slice_index_or, sym, ap, ◌∙◌, subst, arith}
 use Rattle.std.proofs.lemmas.List.{with_items_is}
 use Rattle.std.specs.Vec.{with_items}
-use Rattle.gate_business.specs.Business.{lock_of}
+use Rattle.gate_staff.specs.Business.{lock_of}
 use Rattle.order_gate.specs.declared.hand.Hand.{Hand}
 use Rattle.order_gate.specs.Desks.{Counted}
 use Rattle.order_gate.proofs.Settling.{begun_own, begun_stands, begun_silent}

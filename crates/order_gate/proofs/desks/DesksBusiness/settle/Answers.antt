@@ -1,5 +1,5 @@
 use Rattle.std.proofs.Common.{rules, ◌≡◌, ◌⊎◌, ◌<◌, ◌++◌, All, true, false, sym, ap, ◌∙◌, subst, arith, inl, inr, Err, Ok}
-use Rattle.gate_business.specs.Business.{lock_of, Answered, ShownByOne}
+use Rattle.gate_staff.specs.Business.{lock_of, Answered, ShownByOne}
 use Rattle.gate_senders.specs.Gate.{senders_of}
 use Rattle.order_desk.specs.Plans.{desk_plan}
 use Rattle.order_gate.specs.Desks.{IsAnswer, HasNone, part_in}

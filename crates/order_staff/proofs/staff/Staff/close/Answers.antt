@@ -3,8 +3,8 @@ use denote.Param.Send.{IsSend, param_send}
 use Rattle.std.proofs.Common.{◌≡◌, ℕ, ◌+◌, List, Some, sym, ap, ◌∙◌, subst, refl}
 use Rattle.order_gate.specs.contracts.desk.Desk as Desk
 use Rattle.order_gate.specs.contracts.hand.Hand as Hand
-use Rattle.gate_plans.specs.contracts.door.OpenDoor as open_door
-use Rattle.gate_plans.specs.Seats.{Seated}
+use Rattle.gate_staff.specs.contracts.door.OpenDoor as open_door
+use Rattle.gate_staff.specs.Seats.{Seated}
 use Rattle.order_staff.specs.Staffs.{count_of, sent_by, sent_in, HasMade, HasStaff}
 use Rattle.order_staff.proofs.Crossing.{hand_send}
 use Rattle.order_staff.proofs.Seating.{made_all, has_made}

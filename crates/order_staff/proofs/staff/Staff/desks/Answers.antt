@@ -1,6 +1,6 @@
 use Rattle.std.proofs.Common.{ap, ◌∙◌, arith}
 use Rattle.gate_turn.specs.Views.{Part}
-use Rattle.gate_business.specs.Business.{lock_of}
+use Rattle.gate_staff.specs.Business.{lock_of}
 use Rattle.order_staff.proofs.staff.Staff.desks.Goals as goal
 
 pub returns-in-Ok-clause-staff : goal.returns-in-Ok-clause-staff

@@ -3,7 +3,7 @@ use denote.Param.Send.{IsSend, param_send}
 use Rattle.order_gate.specs.contracts.desk.Desk as Desk
 use Rattle.order_gate.specs.contracts.hand.Hand as Hand
 use Rattle.order_gate.specs.contracts.desks.Desks as Desks
-use Rattle.gate_plans.specs.contracts.door.OpenDoor as open_door
+use Rattle.gate_staff.specs.contracts.door.OpenDoor as open_door
 use Rattle.order_staff.proofs.Crossing.{hand_send, desks_send}
 use Rattle.order_staff.proofs.staff.Staff.resume.Goals as goal
 

@@ -1,5 +1,5 @@
 use Rattle.std.proofs.Common.{◌+◌, arith}
-use Rattle.gate_plans.proofs.Seating.{all_behind, all_back}
+use Rattle.gate_staff.proofs.Seating.{all_behind, all_back}
 use Rattle.order_staff.proofs.staff.Staff.seated.Goals as goal
 
 pub returns-in_default-clause-back : goal.returns-in_default-clause-back

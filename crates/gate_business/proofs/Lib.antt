@@ -1,4 +1,0 @@
-pub mod Making
-pub mod Resuming
-pub mod Parting
-pub mod Seeing

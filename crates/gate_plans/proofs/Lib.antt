@@ -1,4 +1,0 @@
-mod Lowest
-mod Running
-mod Piece
-pub mod Seating

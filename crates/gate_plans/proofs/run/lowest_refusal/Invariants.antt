@@ -1,5 +1,0 @@
-use Rattle.gate_plans.proofs.Lowest.{IsLowestUpTo}
-use Rattle.gate_plans.proofs.run.lowest_refusal.Given as goal
-
-abbrev pub invariant-loop-sender : goal.invariant-loop-sender
-invariant-loop-sender g l = IsLowestUpTo l.senders l.sender-index l.least l.answer

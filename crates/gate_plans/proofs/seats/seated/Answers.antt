@@ -1,8 +1,0 @@
-use Rattle.std.proofs.Common.{sym, ap, ◌∙◌, subst}
-use Rattle.std.proofs.lemmas.Option.{none-some, same_Some}
-use Rattle.gate_turn.specs.Calls.{IsFree}
-use Rattle.gate_senders.specs.Gate.{IsPassAt}
-use Rattle.gate_plans.proofs.seats.seated.Goals as goal
-
-pub unreachable-requires : goal.unreachable-requires
-unreachable-requires g c = let b = c.requires.back in none-some b.pass (sym c.in_default.is ∙ (c.take.ensures.exact ∙ b.there))

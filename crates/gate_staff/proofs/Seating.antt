@@ -1,0 +1,164 @@
+-- Passes that go from the list to senders, and back.
+use Rattle.std.proofs.Common.{◌≡◌, ◌≢◌, ⊎_elim, ℕ, ◌+◌, ◌<◌, ◌≤◌, List, [], ◌∷◌, ◌++◌, length, map, reverse, slice_index_or, All, Option, Some, None, refl, sym, ap, ◌∙◌, subst, arith, le_refl, length-append, append_assoc}
+use Rattle.std.proofs.lemmas.Option.{none-some, same_Some}
+use Rattle.std.proofs.lemmas.List.{get_or_append_left, get_or_push, map-append, reverse-append}
+use Rattle.std.proofs.lemmas.List.Elements.{All-push}
+use mathlib.Core.Logic.{dite}
+use Rattle.std.proofs.lemmas.Bool.{cases_lt}
+use native.Mathlib.Decide.{ℕ_discrete}
+use Rattle.jr_dated.specs.declared.journal.Journal.{Ghosts}
+use Rattle.gate_turn.specs.Views.{Part}
+use Rattle.gate_turn.specs.Rule.{In}
+use Rattle.gate_turn.specs.Places.{known}
+use Rattle.gate_turn.specs.Listed.{pass_at, known_if, known_at}
+use Rattle.gate_turn.specs.Calls.{IsFree}
+use Rattle.gate_turn.specs.declared.pass.Pass.{Pass}
+use Rattle.gate_turn.specs.declared.passes.Passes.{Passes}
+use Rattle.gate_senders.specs.Gate.{IsPassAt, HasBackAt, MadeAt, AllBackAt}
+use Rattle.gate_senders.specs.declared.gate.Gate.{Gate}
+use Rattle.gate_senders.specs.declared.kept.Kept.{Kept}
+use Rattle.plan_values.specs.declared.plan.Plan.{Plan}
+use Rattle.gate_staff.specs.Runs.{IsReady, RanEach, CountedEach}
+use Rattle.gate_staff.specs.declared.sender.Sender.{Sender}
+use Rattle.gate_staff.specs.Seats.{IsBehind, Seated, HasBehind}
+
+module _ {J : Type 0} {G : Ghosts J} (gate : Gate J G) (made : ℕ) where
+  -- all are in the list
+  pub all_behind : (passes : Passes (Kept J G)) → 1 ≤ made → MadeAt gate passes made → HasBehind gate passes 0 made
+  all_behind passes some m = record {
+    each = λ n b. (m.each n (record { from_one = omega (arith, b.past); up_to = b.up_to })).0;
+    none = λ n out. m.others n (λ h. out (record { past = omega (arith, h.from_one); up_to = h.up_to }));
+    first = λ _. ap (λ (p : Part). p.made) (m.each 1 (record { from_one = omega arith; up_to = some })).1;
+  }
+
+  -- the list has the one behind the senders'
+  pub last_back : (passes : Passes (Kept J G)) (k : ℕ) → k + 1 ≡ made → HasBehind gate passes k made → HasBackAt gate passes made
+  last_back passes k last h = h.each made (record { past = omega (arith, last); up_to = le_refl made })
+
+  -- one was taken out
+  pub taken_out : (old new : Passes (Kept J G)) (k : ℕ) → pass_at new (k + 1) ≡ None → ((n : ℕ) → n ≢ k + 1 → pass_at new n ≡ pass_at old n)
+      → HasBehind gate old k made → HasBehind gate new (k + 1) made
+  taken_out old new k gone others h = record {
+    each = λ n b.
+        let was = h.each n (record { past = omega (arith, b.past); up_to = b.up_to }) in
+        record { pass = was.pass; there = others n (λ e. omega (arith, e, b.past)) ∙ was.there; own = was.own; free = was.free };
+    none = λ n out. dite (ℕ_discrete n (k + 1))
+        (λ e. ap (pass_at new) e ∙ gone)
+        (λ ne. others n ne ∙ h.none n (λ b. out (record { past = omega (arith, b.past, ne); up_to = b.up_to })));
+    first = λ e. absurd (omega (arith, e));
+  }
+
+  -- one was put back
+  pub put_back : (old new : Passes (Kept J G)) (k : ℕ) (p : Pass (Kept J G)) → k + 1 ≤ made → p.number ≡ k + 1 → IsPassAt gate p → IsFree p → (k ≡ 0 → (known p).made ≡ made)
+      → pass_at new p.number ≡ Some p → ((n : ℕ) → n ≢ p.number → pass_at new n ≡ pass_at old n) → HasBehind gate old (k + 1) made → HasBehind gate new k made
+  put_back old new k p inside number own free first there others h = record {
+    each = λ n b. dite (ℕ_discrete n p.number)
+        (λ e. record { pass = p; there = ap (pass_at new) e ∙ there; own = own; free = free })
+        (λ ne.
+        let was = h.each n (record { past = omega (arith, b.past, ne, number); up_to = b.up_to }) in
+        record { pass = was.pass; there = others n ne ∙ was.there; own = was.own; free = was.free });
+    none = λ n out. dite (ℕ_discrete n p.number)
+        (λ e. absurd (out (record { past = omega (arith, e, number); up_to = omega (arith, e, number, inside) })))
+        (λ ne. others n ne ∙ h.none n (λ b. out (record { past = omega (arith, b.past); up_to = b.up_to })));
+    first = λ e.
+        let one : 1 ≡ p.number = omega (arith, e, number) in
+        ap (λ (o : Option (Pass (Kept J G))). (known_if o).made) (ap (pass_at new) one ∙ there) ∙ first e;
+  }
+
+  -- all are back
+  pub all_back : (passes : Passes (Kept J G)) → 1 ≤ made → made ≤ 18 → HasBehind gate passes 0 made → AllBackAt gate passes
+  all_back passes some few h = record {
+    some_made = let e = h.first refl in omega (arith, e, some);
+    few = let e = h.first refl in omega (arith, e, few);
+    each = λ n i. h.each n (record { past = omega (arith, i.from_one); up_to = let e = h.first refl in omega (arith, e, i.up_to) });
+    others = λ n p there. dite (ℕ_discrete n 0)
+        (λ e. absurd (none-some p (sym (h.none n (λ b. omega (arith, b.past, e))) ∙ there)))
+        (λ ne. ⊎_elim
+        (λ far. absurd (none-some p (sym (h.none n (λ b. omega (arith, b.up_to, far))) ∙ there)))
+        (λ near.
+        let b = h.each n (record { past = omega (arith, ne); up_to = omega (arith, near) }) in
+        subst (λ q. IsPassAt gate q × IsFree q) (same_Some b.pass p (sym b.there ∙ there)) (b.own, b.free))
+        (cases_lt made n));
+  }
+
+  -- nobody has a pass
+  pub none_seated : (senders : List (Sender J G)) → senders ≡ [] → Seated gate senders made
+  none_seated senders e =
+      let empty : length senders ≡ 0 = ap length e in
+      record { ready = λ k d lt. absurd (omega (arith, lt, empty)); numbers = λ k d lt. absurd (omega (arith, lt, empty)); first = λ d lt. absurd (omega (arith, lt, empty)) }
+
+  -- one more has
+  pub one_more_seated : (senders : List (Sender J G)) (s : Sender J G) → IsReady gate s → (known s.pass).number ≡ length senders + 1 → (length senders ≡ 0 → (known s.pass).made ≡ made)
+      → Seated gate senders made → Seated gate (senders ++ s ∷ []) made
+  one_more_seated senders s ready number first h =
+      let long = length-append senders (s ∷ []) in
+      record {
+        ready = All-push (IsReady gate) senders s h.ready ready;
+        numbers = λ k d lt. dite (ℕ_discrete k (length senders))
+            (λ e. ap (λ (t : Sender J G). (known t.pass).number) (get_or_push senders s d k (sym e)) ∙ number ∙ ap (λ n. n + 1) (sym e))
+            (λ ne.
+            let within : k < length senders = omega (arith, lt, long, ne) in
+            ap (λ (t : Sender J G). (known t.pass).number) (get_or_append_left senders (s ∷ []) d k within) ∙ h.numbers k d within);
+        first = λ d lt. dite (ℕ_discrete (length senders) 0)
+            (λ e. ap (λ (t : Sender J G). (known t.pass).made) (get_or_push senders s d 0 e) ∙ first e)
+            (λ ne.
+            let within : 0 < length senders = omega (arith, ne) in
+            ap (λ (t : Sender J G). (known t.pass).made) (get_or_append_left senders (s ∷ []) d 0 within) ∙ h.first d within);
+      }
+
+  -- what the last one has
+  pub record IsLastSeated (senders : List (Sender J G)) (s : Sender J G) : Type 0 where
+    pub others : Seated gate senders made
+    pub ready : IsReady gate s
+    pub number : (known s.pass).number ≡ length senders + 1
+    pub first : length senders ≡ 0 → (known s.pass).made ≡ made
+
+  pub last_seated : (senders : List (Sender J G)) (s : Sender J G) → Seated gate (senders ++ s ∷ []) made → IsLastSeated senders s
+  last_seated senders s h =
+      let long = length-append senders (s ∷ []) in
+      let there = get_or_push senders s s (length senders) refl in
+      record {
+        others = record {
+          ready = λ k d lt. subst (IsReady gate) (get_or_append_left senders (s ∷ []) d k lt) (h.ready k d (omega (arith, lt, long)));
+          numbers = λ k d lt. ap (λ (t : Sender J G). (known t.pass).number) (sym (get_or_append_left senders (s ∷ []) d k lt)) ∙ h.numbers k d (omega (arith, lt, long));
+          first = λ d lt. ap (λ (t : Sender J G). (known t.pass).made) (sym (get_or_append_left senders (s ∷ []) d 0 lt)) ∙ h.first d (omega (arith, lt, long));
+        };
+        ready = subst (IsReady gate) there (h.ready (length senders) s (omega (arith, long)));
+        number = ap (λ (t : Sender J G). (known t.pass).number) (sym there) ∙ h.numbers (length senders) s (omega (arith, long));
+        first = λ e. ap (λ (t : Sender J G). (known t.pass).made) (sym (get_or_push senders s s 0 e)) ∙ h.first s (omega (arith, long));
+      }
+
+  -- a run leaves the senders their passes
+  pub seated_still : (before after : List (Sender J G)) → RanEach gate before after → Seated gate before made → Seated gate after made
+  seated_still before after ran h = record {
+    ready = λ k d lt. (ran.each k d (omega (arith, lt, ran.long))).ready;
+    numbers = λ k d lt. let within : k < length before = omega (arith, lt, ran.long) in (ran.each k d within).pass.number ∙ h.numbers k d within;
+    first = λ d lt. let within : 0 < length before = omega (arith, lt, ran.long) in (ran.each 0 d within).pass.made ∙ h.first d within;
+  }
+
+  -- a count of what they have leaves them their passes
+  pub seated_counted : (before after : List (Sender J G)) → CountedEach gate before after → Seated gate before made → Seated gate after made
+  seated_counted before after counted h = record {
+    ready = λ k d lt. (counted.each k d (omega (arith, lt, counted.long))).ready;
+    numbers = λ k d lt. let within : k < length before = omega (arith, lt, counted.long) in (counted.each k d within).pass.number ∙ h.numbers k d within;
+    first = λ d lt. let within : 0 < length before = omega (arith, lt, counted.long) in (counted.each 0 d within).pass.made ∙ h.first d within;
+  }
+
+module _ {J : Type 0} {G : Ghosts J} where
+  -- one more plan was given out
+  pub plans_on : (all old rest : List Plan) (senders : List (Sender J G)) (s : Sender J G) → all ≡ old ++ reverse (map (λ (t : Sender J G). t.plan) senders) → old ≡ rest ++ s.plan ∷ []
+      → all ≡ rest ++ reverse (map (λ (t : Sender J G). t.plan) (senders ++ s ∷ []))
+  plans_on all old rest senders s whole split =
+      let given = map (λ (t : Sender J G). t.plan) senders in
+      whole ∙ ap (λ (ps : List Plan). ps ++ reverse given) split ∙ append_assoc rest (s.plan ∷ []) (reverse given)
+      ∙ sym (ap (λ (ps : List Plan). rest ++ ps) (ap reverse (map-append (λ (t : Sender J G). t.plan) senders (s ∷ [])) ∙ reverse-append given (s.plan ∷ [])))
+
+  -- each sender's pass is out of the list, with one more
+  pub passes_on : (old at : Passes (Kept J G)) (senders : List (Sender J G)) (s : Sender J G) (place : ℕ) → length senders ≡ place → Some s.pass ≡ pass_at at (place + 1)
+      → ((n : ℕ) → place < n → pass_at at n ≡ pass_at old n) → ((i : ℕ) (d : Sender J G) → i < place → pass_at old (i + 1) ≡ Some (slice_index_or senders i d).pass)
+      → (i : ℕ) (d : Sender J G) → i < place + 1 → pass_at old (i + 1) ≡ Some (slice_index_or (senders ++ s ∷ []) i d).pass
+  passes_on old at senders s place long there same before i d lt = dite (ℕ_discrete i place)
+      (λ e. ap (λ k. pass_at old (k + 1)) e ∙ sym (same (place + 1) (omega arith)) ∙ sym there ∙ ap (λ (t : Sender J G). Some t.pass) (sym (get_or_push senders s d i (long ∙ sym e))))
+      (λ ne.
+      let within : i < place = omega (arith, lt, ne) in
+      before i d within ∙ ap (λ (t : Sender J G). Some t.pass) (sym (get_or_append_left senders (s ∷ []) d i (omega (arith, within, long)))))
