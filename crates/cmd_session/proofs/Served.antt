@@ -7,7 +7,6 @@ use Rattle.std.specs.Prelude.{option_to_list}
 use Rattle.std.specs.Io.KnownBytes.{Keeps, Appends}
 use Rattle.fixp_shake.specs.declared.config.EndConfig.{EndConfig}
 use Rattle.fixp_machine.specs.Machine.{State, fresh}
-use Rattle.gw_links.specs.declared.link.Link.{Ghosts as LinkGhosts}
 use Rattle.session_model.specs.Journal.{History}
 use Rattle.jr_dated.specs.declared.journal.Journal.{Ghosts}
 use Rattle.jr_kept.specs.declared.inbox.Inbox.{Inbox}
@@ -29,8 +28,8 @@ use Rattle.conn_serve.specs.Causes.{TellsAll}
 use Rattle.conn_serve.specs.Connections.{Connection, ByClock, all_of}
 use Rattle.conn_serve.specs.Lines.{lines_from}
 use Rattle.conn_serve.specs.Served.{lacks_lines, ServedLife, ServedOver}
-use Rattle.conn_serve.specs.Moments.{Beside, ServingAt, beside, with_seen}
-use Rattle.conn_serve.specs.Opening.{opened_state, ServedThrough}
+use Rattle.conn_serve.specs.Moments.{Beside, beside, with_seen}
+use Rattle.conn_serve.specs.Opening.{opened_state}
 use Rattle.life_laws.specs.Plans.{Senders}
 use Rattle.life_laws.specs.PlanLives.{Clocked, clocked, LivedBoxes}
 use Rattle.life_laws.proofs.Passes.{answer_blames, blamed_at}
@@ -112,14 +111,6 @@ pub dial_caused : {J : Type 0} {G : Ghosts J} {Q : Type 0} (gate : Gate J G) (be
     → SubmittedAll gate before after refused ⊎ ((after ≡ before) × (refused ≡ None) × Q) → IfErr connections P → result ≡ answer_of connections refused → result ≡ Err faults.Dial → P faults.Dial
 dial_caused gate before after connections refused result P w blamed answer e =
     blamed_at P connections faults.Dial blamed (answer_is connections refused faults.Dial (λ x. cc) (not_refused gate before after refused faults.Dial never_dial (λ x. cc) (λ x. cc) w) (sym answer ∙ e))
-
--- what served senders, of lists that are equal
-pub served_moved : {J : Type 0} {G : Ghosts J} {O : Type 0} {H : Ghosts O} {L : Type 0} {links : LinkGhosts L} {least most : ℕ} {gate : Gate O H} {old new : ServingAt J G O H} {m : State} {before after : List (Sender O H)} {result : Result (Unit {0}) ServeFault}
-    → ServedThrough links least most gate old new m result → old.senders ≡ before → new.senders ≡ after
-    → ServedThrough links least most gate (record old { senders = before }) (record new { senders = after }) m result
-served_moved {links = links} {least = least} {most = most} {gate = gate} {old = old} {new = new} {m = m} {before = before} {result = result} s first second =
-    subst (λ (ss : List (Sender _ _)). ServedThrough links least most gate (record old { senders = before }) (record new { senders = ss }) m result) second
-    (subst (λ (ss : List (Sender _ _)). ServedThrough links least most gate (record old { senders = ss }) new m result) first s)
 
 -- OUT that took nothing first took what it took behind that
 takes_earlier : (old mid new : Option (List ℕ)) (lines : List ℕ) → Appends old mid [] → Appends mid new lines → Appends old new lines

@@ -29,7 +29,7 @@ use cmd_base::{JournalCause, Status};
 use conn_serve::{Lent, Opening, ServeFault, serve_lent};
 use fixp_shake::EndConfig;
 use gate_senders::{Gate, Kept};
-use gate_staff::{Sender, count_done, give_last, seat, take_last, unseat};
+use gate_staff::{Plans, Sender, count_done, give_last, seat, take_last, unseat};
 use gate_turn::Passes;
 use gw_links::{Clock, Dialer};
 use gw_outside::{Disk, Sink};
@@ -83,20 +83,20 @@ fn serve_beside<
 >(
     opening: Opening<'_, O>,
     lent: Lent<K, N, O, I, C>,
-    senders: &mut Vec<Sender<O>>,
+    senders: &mut Plans<O>,
     rt: &R,
 ) -> (Result<(), ServeFault>, Lent<K, N, O, I, C>)
-    requires seated { Seated opening.gate.now senders.old.items (vec_len senders.old + 1) }
+    requires seated { Seated opening.gate.now senders.old.senders.items (vec_len senders.old.senders + 1) }
     requires may { MayOpen (lives.hears K.Sink N.Dialer N.Link.Link C.Clock) opening.gate.now opening.config opening.most lent }
-    ensures seated { Seated opening.entry.gate.now senders.new.items (vec_len senders.new + 1) }
-    ensures count { vec_len senders.new ≡ vec_len senders.old }
+    ensures seated { Seated opening.entry.gate.now senders.new.senders.items (vec_len senders.new.senders + 1) }
+    ensures count { vec_len senders.new.senders ≡ vec_len senders.old.senders }
     ensures comes_back { ComesBack (lives.hears K.Sink N.Dialer N.Link.Link C.Clock) opening.entry.gate.now lent result.1 }
-    ensures through { ServedThrough N.Link.Link (C.last lent.clock) (C.last result.1.clock) opening.entry.gate.now (serving_with (lives.hears K.Sink N.Dialer N.Link.Link C.Clock) lent senders.old.items) (serving_with (lives.hears K.Sink N.Dialer N.Link.Link C.Clock) result.1 senders.new.items) (fresh opening.entry.config (opened_state (opening_of opening.entry.gate.now).history lent.inbox) opening.entry.most) result.0 }
-    ensures marked { IsUnrefused result.0 → 0 < vec_len senders.old → SomeMarked senders.new.items }
+    ensures through { ServedThrough N.Link.Link (C.last lent.clock) (C.last result.1.clock) opening.entry.gate.now (serving_with (lives.hears K.Sink N.Dialer N.Link.Link C.Clock) lent senders.old.senders.items) (serving_with (lives.hears K.Sink N.Dialer N.Link.Link C.Clock) result.1 senders.new.senders.items) (fresh opening.entry.config (opened_state (opening_of opening.entry.gate.now).history lent.inbox) opening.entry.most) result.0 }
+    ensures marked { IsUnrefused result.0 → 0 < vec_len senders.old.senders → SomeMarked senders.new.senders.items }
     ensures output { result.0 ≡ Err faults.Output → HasRisen (K.faults lent.out) (K.faults result.1.out) }
     ensures dial { result.0 ≡ Err faults.Dial → HasRisen (N.faults lent.dialer) (N.faults result.1.dialer) }
 {
-    serve_lent(opening, lent, senders.as_mut_slice(), rt)
+    serve_lent(opening, lent, senders, rt)
 }
 
 /// Seats a sender for each plan and counts what the outbox has of each as done, serves the connections beside them, and gives all
@@ -159,6 +159,7 @@ fn serve_seated<
         pass,
         inbox,
     };
+    let mut senders = Plans::new(alloc, senders);
     let (answer, lent) = serve_beside(opening, lent, &mut senders, rt);
     let Lent {
         out,
@@ -168,7 +169,7 @@ fn serve_seated<
         inbox,
     } = lent;
     give_last(gate, passes, count, pass);
-    unseat(gate, senders, passes);
+    unseat(gate, senders.into_senders(), passes);
     Lived {
         answer,
         devices: Live { out, dialer, clock },

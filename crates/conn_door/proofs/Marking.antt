@@ -11,21 +11,14 @@ use Rattle.gate_senders.specs.declared.gate.Gate.{Gate}
 use Rattle.gate_staff.specs.Runs.{IsReady, HasNone, IsAdmitted, IsThrough}
 use Rattle.gate_staff.specs.Seats.{Seated}
 use Rattle.gate_staff.proofs.Seating.{seated_still}
+use Rattle.gate_staff.proofs.Leaving.{find_closed}
 use Rattle.gate_staff.specs.declared.sender.Sender.{Sender}
 use Rattle.conn_door.specs.declared.answer.ServeFault.{ServeFault}
 use Rattle.conn_door.specs.declared.answer.ServeFault.TheVariants as faults
 use Rattle.conn_door.specs.declared.answer.LifeEnd.{LifeEnd}
 use Rattle.conn_door.specs.declared.answer.LifeEnd.TheVariants as ends
-use Rattle.conn_door.specs.Answers.{answer_of, late_answer, yields, yields_to, IsUnrefused}
+use Rattle.conn_door.specs.Answers.{served, answer_of, late_answer, yields, yields_to, IsUnrefused}
 use Rattle.conn_door.specs.Senders.{refusal_of, OnlyClosed, IsRefusal, FinishedFirst, SubmittedAll, SomeMarked, EndedSo}
-
-closed_of : (o : Option SubmitFault) (f : SubmitFault) → refusal_of o ≡ None → o ≡ Some f → f ≡ submit.Closed
-closed_of None f e is = cc
-closed_of (Some submit.Broken) f e is = cc
-closed_of (Some submit.Closed) f e is = cc
-closed_of (Some (submit.Full n m)) f e is = cc
-closed_of (Some submit.Memory) f e is = cc
-closed_of (Some submit.Fault) f e is = cc
 
 -- a refusal of a sender is never one that yields
 firm_submit : (o : Option SubmitFault) (fault : ServeFault) → refusal_of o ≡ Some fault → yields fault ≡ false
@@ -37,20 +30,6 @@ firm_submit (Some submit.Memory) fault e = let s : faults.Memory ≡ fault = cc 
 firm_submit (Some submit.Fault) fault e = let s : faults.Journal ≡ fault = cc in ap yields (sym s)
 
 module _ {O : Type 0} {H : Ghosts O} where
-  -- a sender that met that the outbox is closed, by its place
-  record ClosedAt (ran : List (Sender O H)) : Type 0 where
-    at : ℕ
-    within : at < length ran
-    is : (d : Sender O H) → (slice_index_or ran at d).refused ≡ Some submit.Closed
-
-  find_closed : (ran : List (Sender O H)) → All OnlyClosed ran → (All HasNone ran → ⊥) → ClosedAt ran
-  find_closed [] only some = absurd (some (All-nil HasNone))
-  find_closed (s ∷ ran) only some = by_first (λ none. find_closed ran (All-tail OnlyClosed s ran only) (λ all. some (All-cons HasNone s ran none all))) s.refused refl
-    where
-      by_first : (s.refused ≡ None → ClosedAt ran) → (o : Option SubmitFault) → s.refused ≡ o → ClosedAt (s ∷ ran)
-      by_first later None e = let found = later e in record { at = suc found.at; within = omega (arith, found.within); is = found.is }
-      by_first later (Some f) e = record { at = zero; within = omega arith; is = λ d. e ∙ ap Some (closed_of s.refused f (All-head OnlyClosed s ran only) e) }
-
   marked_at : (after : List (Sender O H)) (i : ℕ) → i < length after → ((d : Sender O H) → (known (slice_index_or after i d).pass).seen.finished ≡ true) → SomeMarked after
   marked_at [] i within seen = absurd (omega (arith, within))
   marked_at (x ∷ xs) i within seen =
@@ -71,7 +50,7 @@ module _ {O : Type 0} {H : Ghosts O} where
       by_kind : ((after ≡ s.ran) × IsRefusal s.ran None × (0 < length s.ran → (All IsThrough s.ran → ⊥))) ⊎ (All IsThrough s.ran × (0 < length s.ran) × FinishedFirst s.ran after None) → SomeMarked after
       by_kind (inl x) =
           let in_ran : All IsAdmitted s.ran = subst (All IsAdmitted) x.0 admitted in
-          let found = find_closed s.ran x.1 (λ none. x.2 ran_many (λ i d lt. (none i d lt, in_ran i d lt))) in
+          let found = find_closed served s.ran x.1 (λ none. x.2 ran_many (λ i d lt. (none i d lt, in_ran i d lt))) in
           subst SomeMarked (sym x.0)
           (marked_at s.ran found.at found.within (λ d. ((s.each.each found.at d (omega (arith, found.within, s.each.long))).refused submit.Closed (found.is d)).shown.closed refl))
       by_kind (inr x) = marked_at after zero (omega (arith, x.1, x.2.long)) (λ d. (x.2.first d).marked refl)

@@ -1,27 +1,23 @@
 -- What a life answers for its connections and the senders beside them (this project's profile).
-use Rattle.std.specs.Prelude.{⊤, Bool, true, false, if◌then◌else◌, Option, Some, None, Result, Ok, Err, IsTrue}
+use Rattle.std.specs.Prelude.{⊤, Bool, true, false, if◌then◌else◌, Option, Some, None, Result, Ok, Err, IsTrue, option_map}
 use Rattle.jr_boxes.specs.declared.faults.SubmitFault.{SubmitFault}
-use Rattle.jr_boxes.specs.declared.faults.SubmitFault.TheVariants as submit
-use Rattle.jr_boxes.specs.declared.faults.CloseFault.{CloseFault}
-use Rattle.jr_boxes.specs.declared.faults.CloseFault.TheVariants as closing
+use Rattle.gate_staff.specs.Faults as reasons
+use Rattle.gate_staff.specs.declared.fault.StaffFault.{StaffFault}
+use Rattle.gate_staff.specs.declared.fault.StaffFault.TheVariants as staff
 use Rattle.conn_door.specs.declared.answer.ServeFault.{ServeFault}
 use Rattle.conn_door.specs.declared.answer.ServeFault.TheVariants as faults
 use Rattle.conn_door.specs.declared.answer.LifeEnd.{LifeEnd}
 use Rattle.conn_door.specs.declared.answer.LifeEnd.TheVariants as ends
 
--- what a refusal of a sender and one of the Finish are to a life; that the outbox is closed is none
-abbrev pub submit_fault : SubmitFault → Option ServeFault
-submit_fault submit.Broken = Some faults.Journal
-submit_fault submit.Closed = None
-submit_fault (submit.Full entries bytes) = Some (faults.Full entries bytes)
-submit_fault submit.Memory = Some faults.Memory
-submit_fault submit.Fault = Some faults.Journal
+-- what a fault of those who send is to a life
+abbrev pub served : StaffFault → ServeFault
+served staff.Journal = faults.Journal
+served (staff.Full entries bytes) = faults.Full entries bytes
+served staff.Memory = faults.Memory
 
-abbrev pub finish_fault : CloseFault → Option ServeFault
-finish_fault closing.Broken = Some faults.Journal
-finish_fault closing.Closed = None
-finish_fault closing.Memory = Some faults.Memory
-finish_fault closing.Fault = Some faults.Journal
+-- what a refusal of a sender is to a life; that the outbox is closed is none
+abbrev pub submit_fault : SubmitFault → Option ServeFault
+submit_fault fault = option_map served (reasons.submit_fault fault)
 
 -- the refusals of a sender, and of the Finish
 abbrev pub IsOfSender : ServeFault → Type 0

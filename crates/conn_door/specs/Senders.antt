@@ -1,80 +1,42 @@
 -- What a life makes of its senders, and of the Finish behind them (this project's profile).
-use Rattle.std.specs.Prelude.{◌≡◌, ◌≢◌, ◌⊎◌, ℕ, ◌<◌, true, All, Contains, List, [], ◌∷◌, length, slice_index_or, Option, Some, None, Result}
-use Rattle.session_model.specs.Journal.{finish}
+use Rattle.std.specs.Prelude.{◌≡◌, All, List, Option, Result}
 use Rattle.jr_dated.specs.declared.journal.Journal.{Ghosts}
 use Rattle.jr_boxes.specs.declared.faults.SubmitFault.{SubmitFault}
-use Rattle.gate_turn.specs.Views.{HasFailed, Part}
-use Rattle.gate_turn.specs.Places.{known}
-use Rattle.gate_senders.specs.Shown.{TakesTurn}
+use Rattle.gate_turn.specs.Views.{Part}
 use Rattle.gate_senders.specs.declared.gate.Gate.{Gate}
-use Rattle.gate_staff.specs.Runs.{IsReady, RanEach, IsAdmitted, IsThrough}
+use Rattle.gate_staff.specs.Runs.{IsAdmitted}
+use Rattle.gate_staff.specs.Submitted as staff
+pub use Rattle.gate_staff.specs.Submitted.{SomeMarked}
 use Rattle.gate_staff.specs.declared.sender.Sender.{Sender}
 use Rattle.conn_door.specs.declared.answer.ServeFault.{ServeFault}
-use Rattle.conn_door.specs.declared.answer.ServeFault.TheVariants as faults
 use Rattle.conn_door.specs.declared.answer.LifeEnd.{LifeEnd}
-use Rattle.conn_door.specs.Answers.{submit_fault, answer_of, IsUnrefused}
+use Rattle.conn_door.specs.Answers.{served, answer_of, IsUnrefused}
 
--- the mark was refused with a failed call, so a stop may leave it behind the history, which had none; a journal is to blame, and nothing
--- is taken any more
-pub record LosesMark (p q : Part) (refused : Option ServeFault) : Type 0 where
-  pub lost : q.lost ≡ finish ∷ []
-  pub broken : q.broken ≡ true
-  pub unmarked : q.seen.finished ≢ true
-  pub unended : q.ended ≡ p.ended
-  pub blamed : refused ≡ Some faults.Journal
+-- what becomes of senders and of the Finish, with refusals as a life answers them
+abbrev pub LosesMark : (p q : Part) → Option ServeFault → Type 0
+LosesMark p q refused = staff.LosesMark served p q refused
 
--- The Finish was added, or refused so: the pass took one turn and made nothing, and it lost nothing but the mark. Where it was not refused, or
--- only since the outbox is closed, the pass has seen the mark; a journal is to blame only where a call of its disk failed, in this turn
--- or since its opening
-pub record Finishes (p q : Part) (refused : Option ServeFault) : Type 0 where
-  pub turn : TakesTurn p q
-  pub mine : q.mine ≡ p.mine
-  pub lost : (q.lost ≡ p.lost) ⊎ LosesMark p q refused
-  pub marked : refused ≡ None → q.seen.finished ≡ true
-  pub journal : refused ≡ Some faults.Journal → HasFailed p.faults q.faults ⊎ HasFailed q.opening.faults q.faults
-  pub few : (fault : ServeFault) → refused ≡ Some fault → (fault ≡ faults.Journal) ⊎ (fault ≡ faults.Memory)
+abbrev pub Finishes : (p q : Part) → Option ServeFault → Type 0
+Finishes p q refused = staff.Finishes served p q refused
 
--- what the refusal that a sender met, if it met one, is to a life
 abbrev pub refusal_of : Option SubmitFault → Option ServeFault
-refusal_of None = None
-refusal_of (Some f) = submit_fault f
+refusal_of met = staff.refusal_of served met
 
 module _ {J : Type 0} {G : Ghosts J} where
-  -- a sender met no refusal, or only that the outbox is closed
   abbrev pub OnlyClosed : Sender J G → Type 0
-  OnlyClosed s = refusal_of s.refused ≡ None
+  OnlyClosed s = staff.OnlyClosed served s
 
-  -- a sender met this refusal
-  pub record MetRefusal (senders : List (Sender J G)) (fault : ServeFault) : Type 0 where
-    pub sender : Sender J G
-    pub there : Contains senders sender
-    pub is : refusal_of sender.refused ≡ Some fault
+  abbrev pub MetRefusal : List (Sender J G) → ServeFault → Type 0
+  MetRefusal senders fault = staff.MetRefusal served senders fault
 
-  -- the refusal of a sender other than that the outbox is closed, where one met such
   abbrev pub IsRefusal : List (Sender J G) → Option ServeFault → Type 0
-  IsRefusal senders None = All OnlyClosed senders
-  IsRefusal senders (Some fault) = MetRefusal senders fault
+  IsRefusal senders refused = staff.IsRefusal served senders refused
 
-  -- the first sender's pass was used for the Finish, and nothing else of the senders changed
-  pub record FinishedFirst (ran after : List (Sender J G)) (refused : Option ServeFault) : Type 0 where
-    pub long : length after ≡ length ran
-    pub first : (d : Sender J G) → Finishes (known (slice_index_or ran 0 d).pass) (known (slice_index_or after 0 d).pass) refused
-    pub turned : (d : Sender J G) → (slice_index_or after 0 d).turned ≡ (slice_index_or ran 0 d).turned
-    pub others : (i : ℕ) (d : Sender J G) → 0 < i → slice_index_or after i d ≡ slice_index_or ran i d
+  abbrev pub FinishedFirst : (ran after : List (Sender J G)) → Option ServeFault → Type 0
+  FinishedFirst ran after refused = staff.FinishedFirst served ran after refused
 
-  -- behind their plans: where all are submitted and there are senders, the Finish was added or refused; else, since one was refused or
-  -- turned away, nothing more was done
-  abbrev pub IsFinished : (ran after : List (Sender J G)) → Option ServeFault → Type 0
-  IsFinished ran after refused =
-      ((after ≡ ran) × IsRefusal ran refused × (0 < length ran → (All IsThrough ran → ⊥)))
-      ⊎ (All IsThrough ran × (0 < length ran) × FinishedFirst ran after refused)
-
-  -- each sender submitted its plan until it was done or refused, or was turned away, and then came the Finish
-  pub record SubmittedAll (gate : Gate J G) (before after : List (Sender J G)) (refused : Option ServeFault) : Type 0 where
-    pub ran : List (Sender J G)
-    pub each : RanEach gate before ran
-    pub finished : IsFinished ran after refused
-    pub ready : All (IsReady gate) after
+  abbrev pub SubmittedAll : (gate : Gate J G) (before after : List (Sender J G)) → Option ServeFault → Type 0
+  SubmittedAll gate before after refused = staff.SubmittedAll served gate before after refused
 
   -- The senders submitted, and it answers what comes first of them and of connections that ended so. Where no refusal is answered, and nothing
   -- failed, none was turned away
@@ -84,9 +46,3 @@ module _ {J : Type 0} {G : Ghosts J} where
     pub submitted : SubmittedAll gate before after refused
     pub answer : result ≡ answer_of connections refused
     pub admitted : IsUnrefused result → All IsAdmitted after
-
-  -- the pass of a sender has seen the mark
-  pub record SomeMarked (senders : List (Sender J G)) : Type 0 where
-    pub sender : Sender J G
-    pub there : Contains senders sender
-    pub marked : (known sender.pass).seen.finished ≡ true

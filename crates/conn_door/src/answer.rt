@@ -1,10 +1,11 @@
 //! How a life of connections ends, and what it answers for them and for the senders beside them.
 
-ghost use Rattle.std.specs.Prelude.{◌≡◌, IsTrue, IsFalse};
-ghost use Rattle.conn_door.specs.Answers.{submit_fault, finish_fault, yields_to, late_answer, answer_of, IsUnrefused};
+ghost use Rattle.std.specs.Prelude.{◌≡◌, IsTrue, IsFalse, option_map};
+ghost use Rattle.conn_door.specs.Answers.{served, submit_fault, yields_to, late_answer, answer_of, IsUnrefused};
 
 use fixp_shake::Phase;
-use jr_boxes::{CloseFault, SubmitFault, Which};
+use gate_staff::StaffFault;
+use jr_boxes::{SubmitFault, Which};
 
 /// How the connections of a life ended that did not fail.
 #[derive(Clone, Copy)]
@@ -39,27 +40,32 @@ pub enum ServeFault {
     Memory,
 }
 
+/// What a fault of those who send is to a life.
+pub(crate) fn served(fault: StaffFault) -> ServeFault
+    ensures { result ≡ served fault }
+{
+    match fault {
+        StaffFault::Journal => ServeFault::Journal,
+        StaffFault::Full { entries, bytes } => ServeFault::Full { entries, bytes },
+        StaffFault::Memory => ServeFault::Memory,
+    }
+}
+
+/// The same where there may be none.
+pub(crate) fn served_if(fault: Option<StaffFault>) -> Option<ServeFault>
+    ensures { result ≡ option_map served fault }
+{
+    match fault {
+        Some(fault) => Some(served(fault)),
+        None => None,
+    }
+}
+
 /// What a refusal of a sender is to a life: a closed outbox is none.
 pub fn refused_submit(fault: SubmitFault) -> Option<ServeFault>
     ensures { result ≡ submit_fault fault }
 {
-    match fault {
-        SubmitFault::Broken | SubmitFault::Fault => Some(ServeFault::Journal),
-        SubmitFault::Closed => None,
-        SubmitFault::Full { entries, bytes } => Some(ServeFault::Full { entries, bytes }),
-        SubmitFault::Memory => Some(ServeFault::Memory),
-    }
-}
-
-/// What a refusal of the Finish is to a life: an outbox that is closed already is none.
-pub(crate) fn refused_finish(fault: CloseFault) -> Option<ServeFault>
-    ensures { result ≡ finish_fault fault }
-{
-    match fault {
-        CloseFault::Broken | CloseFault::Fault => Some(ServeFault::Journal),
-        CloseFault::Closed => None,
-        CloseFault::Memory => Some(ServeFault::Memory),
-    }
+    served_if(gate_staff::refused_submit(fault))
 }
 
 /// Whether a fault of the connections' side yields to this refusal of a sender: where the life was not finished, and nothing failed;

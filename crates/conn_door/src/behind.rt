@@ -9,7 +9,7 @@ ghost use Rattle.conn_door.specs.Senders.{SubmittedAll, EndedSo};
 use crate::answer::{ServeFault, is_unrefused, late_answer};
 use crate::senders::submit_turned;
 use gate_senders::Gate;
-use gate_staff::Sender;
+use gate_staff::Plans;
 use jr_dated::Journal;
 use std::sync::Wait;
 use std::thread::Threads;
@@ -18,15 +18,15 @@ use std::thread::Threads;
 /// senders that were turned away go on first.
 pub fn submit_behind<O: Journal + Send, R: Threads + Wait + Sync>(
     gate: &Gate<O>,
-    senders: &mut [Sender<O>],
+    senders: &mut Plans<O>,
     answer: Result<(), ServeFault>,
     rt: &R,
 ) -> Result<(), ServeFault>
-    requires ready { All (λ s. IsReady gate.now s) senders.old }
-    ensures ready { All (λ s. IsReady gate.now s) senders.new }
-    ensures same { All IsAdmitted senders.old → senders.new ≡ senders.old }
-    ensures kept { (IsUnrefused answer → ⊥) → (senders.new ≡ senders.old) × (result ≡ answer) }
-    ensures behind { (before : List (Sender _ _)) (connections : _) (refused : _) → SubmittedAll gate.now before senders.old refused → answer ≡ answer_of connections refused → EndedSo gate.now before senders.new connections result }
+    requires ready { All (λ s. IsReady gate.now s) senders.old.senders.items }
+    ensures ready { All (λ s. IsReady gate.now s) senders.new.senders.items }
+    ensures same { All IsAdmitted senders.old.senders.items → senders.new.senders.items ≡ senders.old.senders.items }
+    ensures kept { (IsUnrefused answer → ⊥) → (senders.new.senders.items ≡ senders.old.senders.items) × (result ≡ answer) }
+    ensures behind { (before : List (Sender _ _)) (connections : _) (refused : _) → SubmittedAll gate.now before senders.old.senders.items refused → answer ≡ answer_of connections refused → EndedSo gate.now before senders.new.senders.items connections result }
 {
     if !is_unrefused(answer) {
         return answer;

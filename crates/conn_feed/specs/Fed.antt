@@ -9,16 +9,13 @@ use Rattle.gate_senders.specs.declared.gate.Gate.{Gate}
 use Rattle.gate_senders.specs.Kept.{next_entry, IsFullAt}
 use Rattle.gate_senders.specs.Shown.{LosesAll, entries_after}
 use Rattle.gate_staff.specs.Sent.{GoesOn}
+pub use Rattle.gate_staff.specs.Runs.{IsCounted}
 use Rattle.gate_staff.specs.Seats.{Seated}
 use Rattle.gate_staff.specs.declared.sender.Sender.{Sender}
 use Rattle.plan_text.specs.Plans.{Gift, AreGiven}
 use Rattle.conn_feed.specs.Words.{Word, accepted, refused, entries_in}
 
 module _ {J : Type 0} {G : Ghosts J} where
-  -- a sender counts the entries of its pass
-  abbrev pub IsCounted : Sender J G → Type 0
-  IsCounted s = s.done ≡ length (known s.pass).mine
-
   -- the senders have the passes of the numbers from 1 on, in order, and count their entries
   pub record AtSeats (gate : Gate J G) (senders : List (Sender J G)) : Type 0 where
     pub few : length senders ≤ 16

@@ -23,7 +23,7 @@ use crate::life::{Lent, Life, Opening};
 use crate::together::beside;
 use conn_door::{Entrance, LifeEnd, ServeFault, Signals, answer_of, submit_all, submit_behind};
 use gate_senders::Gate;
-use gate_staff::{Business, Sender};
+use gate_staff::{Business, Plans};
 use gw_links::{Clock, Dialer};
 use gw_outside::Sink;
 use jr_dated::Journal;
@@ -41,23 +41,23 @@ fn serve_beside<
 >(
     life: &mut Life<K, N, O, I, C>,
     gate: &Gate<O>,
-    senders: &mut [Sender<O>],
+    senders: &mut Plans<O>,
     signals: &Signals,
     rt: &R,
 ) -> Result<(), ServeFault>
     requires may { MayLive (hears K.Sink N.Dialer N.Link.Link C.Clock) gate.now life.old }
-    requires ready { All (λ s. IsReady gate.now s) senders.old }
+    requires ready { All (λ s. IsReady gate.now s) senders.old.senders.items }
     requires door { signals.now ≡ is_sent_again (machine_in life.old).config.own_flow }
     ensures idle { IsIdle (hears K.Sink N.Dialer N.Link.Link C.Clock) gate.now life.new }
     ensures goes_on { GoesOn (hears K.Sink N.Dialer N.Link.Link C.Clock) life.old life.new }
-    ensures ready { All (λ s. IsReady gate.now s) senders.new }
-    ensures served { ServedThrough N.Link.Link (last_in (hears K.Sink N.Dialer N.Link.Link C.Clock) life.old) (last_in (hears K.Sink N.Dialer N.Link.Link C.Clock) life.new) gate.now (serving_in (hears K.Sink N.Dialer N.Link.Link C.Clock) life.old senders.old) (serving_in (hears K.Sink N.Dialer N.Link.Link C.Clock) life.new senders.new) (machine_in life.old) result }
+    ensures ready { All (λ s. IsReady gate.now s) senders.new.senders.items }
+    ensures served { ServedThrough N.Link.Link (last_in (hears K.Sink N.Dialer N.Link.Link C.Clock) life.old) (last_in (hears K.Sink N.Dialer N.Link.Link C.Clock) life.new) gate.now (serving_in (hears K.Sink N.Dialer N.Link.Link C.Clock) life.old senders.old.senders.items) (serving_in (hears K.Sink N.Dialer N.Link.Link C.Clock) life.new senders.new.senders.items) (machine_in life.old) result }
 {
     let entrance = Entrance::new(signals, life.waker());
     let (refused, connections) = beside(
         rt,
         &mut || -> Option<ServeFault>
-            requires { All (λ s. IsReady gate.now s) senders.now }
+            requires { All (λ s. IsReady gate.now s) senders.now.senders.items }
         { submit_all(gate, senders, &entrance, rt) },
         life,
         &mut |life: &mut Life<K, N, O, I, C>| -> Result<LifeEnd, ServeFault>
@@ -82,19 +82,19 @@ fn serve_beside<
 pub fn serve<K: Sink, N: Dialer, O: Journal + Send, I: Journal, C: Clock, R: Threads + Wait + Sync>(
     life: &mut Life<K, N, O, I, C>,
     gate: &Gate<O>,
-    senders: &mut [Sender<O>],
+    senders: &mut Plans<O>,
     rt: &R,
 ) -> Result<(), ServeFault>
     requires may { MayLive (hears K.Sink N.Dialer N.Link.Link C.Clock) gate.now life.old }
-    requires ready { All (λ s. IsReady gate.now s) senders.old }
+    requires ready { All (λ s. IsReady gate.now s) senders.old.senders.items }
     ensures idle { IsIdle (hears K.Sink N.Dialer N.Link.Link C.Clock) gate.now life.new }
     ensures goes_on { GoesOn (hears K.Sink N.Dialer N.Link.Link C.Clock) life.old life.new }
-    ensures ready { All (λ s. IsReady gate.now s) senders.new }
-    ensures served { ServedBy gate.now (serving_in (hears K.Sink N.Dialer N.Link.Link C.Clock) life.old senders.old) (serving_in (hears K.Sink N.Dialer N.Link.Link C.Clock) life.new senders.new) (machine_in life.old) result }
-    ensures through { ServedThrough N.Link.Link (last_in (hears K.Sink N.Dialer N.Link.Link C.Clock) life.old) (last_in (hears K.Sink N.Dialer N.Link.Link C.Clock) life.new) gate.now (serving_in (hears K.Sink N.Dialer N.Link.Link C.Clock) life.old senders.old) (serving_in (hears K.Sink N.Dialer N.Link.Link C.Clock) life.new senders.new) (machine_in life.old) result }
-    ensures seated { (made : ℕ) → Seated gate.now senders.old made → Seated gate.now senders.new made }
-    ensures admitted { IsUnrefused result → All IsAdmitted senders.new }
-    ensures marked { IsUnrefused result → 0 < length senders.old → SomeMarked senders.new }
+    ensures ready { All (λ s. IsReady gate.now s) senders.new.senders.items }
+    ensures served { ServedBy gate.now (serving_in (hears K.Sink N.Dialer N.Link.Link C.Clock) life.old senders.old.senders.items) (serving_in (hears K.Sink N.Dialer N.Link.Link C.Clock) life.new senders.new.senders.items) (machine_in life.old) result }
+    ensures through { ServedThrough N.Link.Link (last_in (hears K.Sink N.Dialer N.Link.Link C.Clock) life.old) (last_in (hears K.Sink N.Dialer N.Link.Link C.Clock) life.new) gate.now (serving_in (hears K.Sink N.Dialer N.Link.Link C.Clock) life.old senders.old.senders.items) (serving_in (hears K.Sink N.Dialer N.Link.Link C.Clock) life.new senders.new.senders.items) (machine_in life.old) result }
+    ensures seated { (made : ℕ) → Seated gate.now senders.old.senders.items made → Seated gate.now senders.new.senders.items made }
+    ensures admitted { IsUnrefused result → All IsAdmitted senders.new.senders.items }
+    ensures marked { IsUnrefused result → 0 < length senders.old.senders.items → SomeMarked senders.new.senders.items }
 {
     let signals = life.signals();
     let answer = serve_beside(life, gate, senders, &signals, rt);
@@ -156,18 +156,18 @@ pub fn serve_lent<
 >(
     opening: Opening<'_, O>,
     lent: Lent<K, N, O, I, C>,
-    senders: &mut [Sender<O>],
+    senders: &mut Plans<O>,
     rt: &R,
 ) -> (Result<(), ServeFault>, Lent<K, N, O, I, C>)
     requires may { MayOpen (hears K.Sink N.Dialer N.Link.Link C.Clock) opening.gate.now opening.config opening.most lent }
-    requires ready { All (λ s. IsReady opening.gate.now s) senders.old }
+    requires ready { All (λ s. IsReady opening.gate.now s) senders.old.senders.items }
     ensures comes_back { ComesBack (hears K.Sink N.Dialer N.Link.Link C.Clock) opening.entry.gate.now lent result.1 }
     ensures kind { SameKind lent.inbox result.1.inbox }
-    ensures ready { All (λ s. IsReady opening.entry.gate.now s) senders.new }
-    ensures through { ServedThrough N.Link.Link (C.last lent.clock) (C.last result.1.clock) opening.entry.gate.now (serving_with (hears K.Sink N.Dialer N.Link.Link C.Clock) lent senders.old) (serving_with (hears K.Sink N.Dialer N.Link.Link C.Clock) result.1 senders.new) (fresh opening.entry.config (opened_state (opening_of opening.entry.gate.now).history lent.inbox) opening.entry.most) result.0 }
-    ensures seated { (made : ℕ) → Seated opening.entry.gate.now senders.old made → Seated opening.entry.gate.now senders.new made }
-    ensures admitted { IsUnrefused result.0 → All IsAdmitted senders.new }
-    ensures marked { IsUnrefused result.0 → 0 < length senders.old → SomeMarked senders.new }
+    ensures ready { All (λ s. IsReady opening.entry.gate.now s) senders.new.senders.items }
+    ensures through { ServedThrough N.Link.Link (C.last lent.clock) (C.last result.1.clock) opening.entry.gate.now (serving_with (hears K.Sink N.Dialer N.Link.Link C.Clock) lent senders.old.senders.items) (serving_with (hears K.Sink N.Dialer N.Link.Link C.Clock) result.1 senders.new.senders.items) (fresh opening.entry.config (opened_state (opening_of opening.entry.gate.now).history lent.inbox) opening.entry.most) result.0 }
+    ensures seated { (made : ℕ) → Seated opening.entry.gate.now senders.old.senders.items made → Seated opening.entry.gate.now senders.new.senders.items made }
+    ensures admitted { IsUnrefused result.0 → All IsAdmitted senders.new.senders.items }
+    ensures marked { IsUnrefused result.0 → 0 < length senders.old.senders.items → SomeMarked senders.new.senders.items }
 {
     let gate = opening.gate;
     let mut life = match Life::new(opening, lent) {

@@ -1,8 +1,10 @@
 mod Lowest
-mod Running
+pub mod Running
 mod Piece
 pub mod Seating
 pub mod Making
 pub mod Resuming
 pub mod Parting
 pub mod Seeing
+pub mod Stepping
+pub mod Leaving

@@ -1,5 +1,5 @@
 -- A run of one sender, put together from its first message and the rest.
-use Rattle.std.proofs.Common.{◌≡◌, ◌≢◌, inl, inr, ⊎_elim, ℕ, zero, suc, ◌+◌, ◌-◌, ◌<◌, ◌≤◌, Bool, true, false, List, [], ◌∷◌, ◌++◌, length, take, drop, slice_get, slice_index_or, Option, Some, None, refl, sym, ap, ◌∙◌, subst, arith, append-nil, append_assoc, length-append, take-add, drop-drop}
+use Rattle.std.proofs.Common.{◌≡◌, ◌≢◌, ◌⊎◌, inl, inr, ⊎_elim, ℕ, zero, suc, ◌+◌, ◌-◌, ◌<◌, ◌≤◌, Bool, true, false, is_none, ◌||◌, List, [], ◌∷◌, ◌++◌, length, take, drop, slice_get, slice_index_or, Option, Some, None, refl, sym, ap, ◌∙◌, subst, arith, append-nil, append_assoc, length-append, take-add, drop-drop}
 use Rattle.std.proofs.lemmas.Bool.{false≢true}
 use Rattle.std.proofs.lemmas.Option.{none-some, slice_get_within}
 use Rattle.session_model.specs.Journal.{Entry, counts_from}
@@ -17,7 +17,9 @@ use Rattle.gate_turn.specs.Calls.{IsFree}
 use Rattle.gate_senders.specs.Gate.{IsPassAt}
 use Rattle.gate_senders.specs.declared.gate.Gate.{Gate}
 use Rattle.gate_staff.specs.Sent.{entries_behind, StandAt, GoesOn, Sent, IsShown, refusals}
-use Rattle.gate_staff.specs.Runs.{plan_of, IsReady, WasRefused, Ran, RanEach, Resumed, ResumedEach, Counted, Pieced}
+use Rattle.gate_staff.specs.Runs.{plan_of, IsReady, WasRefused, Ran, RanEach, may_go_on, Resumed, Counted, Pieced}
+use Rattle.gate_staff.specs.Hands.{WorkedEach}
+use Rattle.gate_staff.specs.Plans.{SetOut}
 use Rattle.gate_staff.specs.declared.sender.Sender.{Sender}
 
 goes_self : (p : Part) → GoesOn p p
@@ -172,7 +174,7 @@ module _ {J : Type 0} {G : Ghosts J} (gate : Gate J G) where
     plan : plan_of m ≡ plan_of s
     pass : GoesOn (known s.pass) (known m.pass)
     done : s.done ≤ m.done
-    within : m.done ≤ length (plan_of s)
+    within : (m.done ≡ s.done) ⊎ (m.done ≤ length (plan_of s))
     numbers : List ℕ
     each : length numbers ≡ m.done - s.done
     sent : Sent (known s.pass) (known m.pass) (take (m.done - s.done) (drop s.done (plan_of s))) numbers
@@ -197,7 +199,9 @@ module _ {J : Type 0} {G : Ghosts J} (gate : Gate J G) where
         plan = r.plan ∙ a.plan;
         pass = goes_on p q z a.pass r.pass;
         done = omega (arith, a.done, r.done);
-        within = inr (⊎_elim (λ (e : t.done ≡ m.done). omega (arith, e, a.within)) (λ (e : t.done ≤ length (plan_of m)). omega (arith, e, long)) r.within);
+        within = ⊎_elim
+            (λ (e : t.done ≡ m.done). ⊎_elim (λ (f : m.done ≡ s.done). inl (e ∙ f)) (λ (f : m.done ≤ length (plan_of s)). inr (omega (arith, e, f))) a.within)
+            (λ (e : t.done ≤ length (plan_of m)). inr (omega (arith, e, long))) r.within;
         numbers = a.numbers ++ r.numbers;
         each = omega (arith, length-append a.numbers r.numbers, a.each, r.each, more);
         sent = subst (λ (xs : List (List ℕ)). Sent p z xs (a.numbers ++ r.numbers)) parts (sent_after p q z _ _ a.numbers r.numbers a.pass r.pass a.sent r.sent);
@@ -246,7 +250,7 @@ module _ {J : Type 0} {G : Ghosts J} (gate : Gate J G) where
         plan = a.plan;
         pass = goes_turn (known s.pass) (known m.pass) a.turn a.ended;
         done = omega (arith, a.done);
-        within = a.within;
+        within = inr a.within;
         numbers = counts_from (length a.submitted.before + 1) (m.done - s.done);
         each = counts_long (length a.submitted.before + 1) (m.done - s.done);
         sent = piece_sent s m a;
@@ -254,19 +258,16 @@ module _ {J : Type 0} {G : Ghosts J} (gate : Gate J G) where
         lost = a.unlost (λ e. none-some submit.Fault (sym none ∙ e));
       }
 
-  -- a run that ended at the door, and one that went on behind it, are one run
-  ran_after : (s m t : Sender J G) → m.turned ≡ true → Ran gate s m → Ran gate m t → Ran gate s t
-  ran_after s m t away a r = went_on s m t went r
+  -- a run that met no refusal, and one that went on behind it, are one run
+  ran_after : (s m t : Sender J G) → m.refused ≡ None → Ran gate s m → Ran gate m t → Ran gate s t
+  ran_after s m t unrefused a r = went_on s m t went r
     where
-      unrefused : m.refused ≡ None
-      unrefused = (a.turned away).0
-
       went : Went s m
       went = record {
         plan = a.plan;
         pass = a.pass;
         done = a.done;
-        within = let inside = (a.turned away).1 in omega (arith, inside);
+        within = a.within;
         numbers = a.numbers;
         each = a.each;
         sent = a.sent;
@@ -274,22 +275,39 @@ module _ {J : Type 0} {G : Ghosts J} (gate : Gate J G) where
         lost = a.unlost (λ e. none-some submit.Fault (sym unrefused ∙ e));
       }
 
-  ran_resumed : (s m t : Sender J G) → Ran gate s m → Resumed gate m t → Ran gate s t
-  ran_resumed s m t a r = by_door m.turned refl
+  -- what ran and goes on met no refusal
+  unrefused_on : (s m : Sender J G) → Ran gate s m → may_go_on m ≡ true → (o : Option SubmitFault) → m.refused ≡ o → m.refused ≡ None
+  unrefused_on s m a on None is = is
+  unrefused_on s m a on (Some f) is = (a.turned (sym (ap (λ (o : Option SubmitFault). is_none o || m.turned) is) ∙ on)).0
+
+  pub ran_resumed : (s m t : Sender J G) → Ran gate s m → Resumed gate m t → Ran gate s t
+  ran_resumed s m t a r = by_door (may_go_on m) refl
     where
-      by_door : (b : Bool) → m.turned ≡ b → Ran gate s t
-      by_door true e = ran_after s m t e a (r.ran e)
+      by_door : (b : Bool) → may_go_on m ≡ b → Ran gate s t
+      by_door true e = ran_after s m t (unrefused_on s m a e m.refused refl) a (r.ran e)
       by_door false e = subst (λ (x : Sender J G). Ran gate s x) (sym (r.same e)) a
 
-  pub each_resumed : (before middle after : List (Sender J G)) → RanEach gate before middle → ResumedEach gate middle after → RanEach gate before after
+  resumed_on : (s m t : Sender J G) → Resumed gate s m → Resumed gate m t → Resumed gate s t
+  resumed_on s m t a r = record {
+    ran = λ e. ran_resumed s m t (a.ran e) r;
+    same = λ e. let is = a.same e in r.same (ap (λ (x : Sender J G). may_go_on x) is ∙ e) ∙ is;
+  }
+
+  pub each_resumed : (before middle after : List (Sender J G)) → RanEach gate before middle → WorkedEach (Resumed gate) middle after → RanEach gate before after
   each_resumed before middle after a r = record {
     long = r.long ∙ a.long;
     each = λ i d lt. ran_resumed (slice_index_or before i d) (slice_index_or middle i d) (slice_index_or after i d) (a.each i d lt) (r.each i d (omega (arith, lt, a.long)));
   }
 
+  pub each_on : (before middle after : List (Sender J G)) → WorkedEach (Resumed gate) before middle → WorkedEach (Resumed gate) middle after → WorkedEach (Resumed gate) before after
+  each_on before middle after a r = record {
+    long = r.long ∙ a.long;
+    each = λ i d lt. resumed_on (slice_index_or before i d) (slice_index_or middle i d) (slice_index_or after i d) (a.each i d lt) (r.each i d (omega (arith, lt, a.long)));
+  }
+
   -- a run forgets what was refused before, and that the door turned it away
-  pub ran_anew : (s t : Sender J G) → Ran gate (record s { refused = None; turned = false }) t → Ran gate s t
-  ran_anew s t r = record {
+  pub ran_anew : (b : Bool) (s t : Sender J G) → Ran gate (record s { refused = None; turned = b }) t → Ran gate s t
+  ran_anew b s t r = record {
     ready = r.ready;
     plan = r.plan;
     pass = r.pass;
@@ -315,4 +333,15 @@ module _ {J : Type 0} {G : Ghosts J} (gate : Gate J G) where
     mine = mine;
     lost = lost;
     done = done;
+  }
+
+  -- those that were set out all ran
+  pub each_set_out : (before set after : List (Sender J G)) → SetOut before set → WorkedEach (Resumed gate) set after → RanEach gate before after
+  each_set_out before set after out r = record {
+    long = r.long ∙ out.long;
+    each = λ i d lt.
+        let s = slice_index_or before i d in
+        let t = slice_index_or after i d in
+        let x : Resumed gate (record s { refused = None }) t = subst (λ (y : Sender J G). Resumed gate y t) (out.each i d lt) (r.each i d (omega (arith, lt, out.long))) in
+        ran_anew s.turned s t (x.ran refl);
   }

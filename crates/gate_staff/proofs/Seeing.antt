@@ -1,9 +1,10 @@
 -- What a pass has seen of its own entries, call by call.
-use Rattle.std.proofs.Common.{◌≡◌, ℕ, List, [], ◌∷◌, ◌++◌, length, slice_get, Some, refl, sym, ap, subst, ◌∙◌}
+use Rattle.std.proofs.Common.{◌≡◌, ℕ, suc, ◌-◌, List, [], ◌∷◌, ◌++◌, length, slice_get, Some, refl, sym, ap, subst, ◌∙◌}
 use Rattle.std.specs.List.{AllByRecursion}
 use Rattle.session_model.specs.Journal.{Entry, BeginsHistory}
 use Rattle.session_model.proofs.Lists.{all_weaker, all_append, prefix_get}
 use Rattle.gate_turn.specs.Views.{Part}
+use Rattle.gate_staff.specs.Sent.{StandAt}
 use Rattle.gate_staff.specs.Made.{IsAmong, SeesOwn}
 
 -- what was seen of some entries is in what begins with it
@@ -23,3 +24,16 @@ pub sees_last : (p q : Part) (before : List Entry) (e : Entry) → BeginsHistory
 sees_last p q before e seen last mine own =
     subst (λ (es : List Entry). AllByRecursion (IsAmong q.seen.made) es) (sym mine)
     (all_append (IsAmong q.seen.made) p.mine (e ∷ []) (among_on p q p.mine seen own) ((length before, ap (λ (es : List Entry). slice_get es (length before)) last ∙ get_last before e), tt))
+
+-- entries that stand at numbers are as many as these, and are among those of the history
+pub stand_long : (made : List Entry) (n : ℕ) (ks : List ℕ) (es : List Entry) → StandAt made n ks es → length es ≡ length ks
+stand_long made n [] [] s = refl
+stand_long made n [] (e ∷ es) s = absurd s
+stand_long made n (k ∷ ks) [] s = absurd s
+stand_long made n (k ∷ ks) (e ∷ es) s = ap suc (stand_long made k ks es s.2)
+
+pub stand_among : (made : List Entry) (n : ℕ) (ks : List ℕ) (es : List Entry) → StandAt made n ks es → AllByRecursion (IsAmong made) es
+stand_among made n [] [] s = tt
+stand_among made n [] (e ∷ es) s = absurd s
+stand_among made n (k ∷ ks) [] s = absurd s
+stand_among made n (k ∷ ks) (e ∷ es) s = ((k - 1, s.1), stand_among made k ks es s.2)

@@ -40,31 +40,44 @@ pub record StaysPass (p q : Part) : Type 0 where
 abbrev pub AllStay : (count : ℕ) (p q : ℕ → Part) → Type 0
 AllStay count p q = (n : ℕ) → In count n → StaysPass (p n) (q n)
 
--- each pass made all of its plan
-abbrev pub AllMade : (plan : ℕ → List (List ℕ)) (count : ℕ) (p q : ℕ → Part) → Type 0
-AllMade plan count p q = (n : ℕ) → In count n → IsAllMade (p n).mine n (plan n) (q n).mine
+-- each pass made all of its plan, where the place of a pass gives the number of its sender
+abbrev pub AllMadeOf : (number : ℕ → ℕ) (plan : ℕ → List (List ℕ)) (count : ℕ) (p q : ℕ → Part) → Type 0
+AllMadeOf number plan count p q = (n : ℕ) → In count n → IsAllMade (p n).mine (number n) (plan n) (q n).mine
 
--- What the pass of number n lost with a call of the disk that failed: the next messages of its plan, a piece at most, or the mark, which only comes
--- where the peer's finish is recorded and each pass made all of its plan; and none of them made the mark in this call
-pub record Loses (plan : ℕ → List (List ℕ)) (count : ℕ) (p q : ℕ → Part) (finished : Bool) (n : ℕ) : Type 0 where
+-- What the pass of place n lost with a call of the disk that failed: the next messages of its plan, a piece at most, or the mark, which only comes
+-- where it may and each pass made all of its plan; and none of them made the mark in this call
+pub record LosesOf (number : ℕ → ℕ) (plan : ℕ → List (List ℕ)) (count : ℕ) (p q : ℕ → Part) (finished : Bool) (n : ℕ) : Type 0 where
   pub broken : (q n).broken ≡ true
   pub unmarked : (q n).seen.finished ≢ true
   pub unmade : (m : ℕ) → In count m → (q m).ended ≡ true → (p m).ended ≡ true
-  pub what : LosesMessages (plan n) (q n) ⊎ (((q n).lost ≡ finish ∷ []) × (finished ≡ true) × AllMade plan count p q)
+  pub what : LosesMessages (plan n) (q n) ⊎ (((q n).lost ≡ finish ∷ []) × (finished ≡ true) × AllMadeOf number plan count p q)
 
--- Whatever the call answered: behind its own entries each pass made messages of its plan, from there on; it added the mark only where the
--- peer's finish is recorded and each pass made all of its plan; and it lost nothing but what comes next
-pub record Grew (plan : ℕ → List (List ℕ)) (count : ℕ) (p q : ℕ → Part) (finished : Bool) : Type 0 where
+-- Whatever the call answered: behind its own entries each pass made messages of its plan, from there on; it added the mark only where that may
+-- come (`finished`) and each pass made all of its plan; and it lost nothing but what comes next
+pub record GrewOf (number : ℕ → ℕ) (plan : ℕ → List (List ℕ)) (count : ℕ) (p q : ℕ → Part) (finished : Bool) : Type 0 where
   pub same : AllStay count p q
-  pub each : (n : ℕ) → In count n → MadeOf (p n).mine n (plan n) (q n).mine
-  pub ended : (n : ℕ) → In count n → (q n).ended ≡ true → ((p n).ended ≡ true) ⊎ ((finished ≡ true) × AllMade plan count p q)
-  pub lost : (n : ℕ) → In count n → ((q n).lost ≡ (p n).lost) ⊎ Loses plan count p q finished n
+  pub each : (n : ℕ) → In count n → MadeOf (p n).mine (number n) (plan n) (q n).mine
+  pub ended : (n : ℕ) → In count n → (q n).ended ≡ true → ((p n).ended ≡ true) ⊎ ((finished ≡ true) × AllMadeOf number plan count p q)
+  pub lost : (n : ℕ) → In count n → ((q n).lost ≡ (p n).lost) ⊎ LosesOf number plan count p q finished n
 
--- Where it answered Ok: each pass made all of its plan, and where there is one and the peer's finish is recorded, the mark stands. Or one of
--- them has seen that the mark stands already
-pub record Whole (plan : ℕ → List (List ℕ)) (count : ℕ) (p q : ℕ → Part) (finished : Bool) : Type 0 where
-  pub all : SeesMark count q ⊎ AllMade plan count p q
+-- Where it answered Ok: each pass made all of its plan, and where there is one and the mark may come, it stands. Or one of them has seen that the
+-- mark stands already
+pub record WholeOf (number : ℕ → ℕ) (plan : ℕ → List (List ℕ)) (count : ℕ) (p q : ℕ → Part) (finished : Bool) : Type 0 where
+  pub all : SeesMark count q ⊎ AllMadeOf number plan count p q
   pub finish : 0 < count → finished ≡ true → SeesMark count q
+
+-- of a business each pass stands at the place of its number, and the mark may come where the peer's finish is recorded
+abbrev pub AllMade : (plan : ℕ → List (List ℕ)) (count : ℕ) (p q : ℕ → Part) → Type 0
+AllMade plan count p q = AllMadeOf (λ n. n) plan count p q
+
+abbrev pub Loses : (plan : ℕ → List (List ℕ)) (count : ℕ) (p q : ℕ → Part) (finished : Bool) (n : ℕ) → Type 0
+Loses plan count p q finished n = LosesOf (λ n. n) plan count p q finished n
+
+abbrev pub Grew : (plan : ℕ → List (List ℕ)) (count : ℕ) (p q : ℕ → Part) (finished : Bool) → Type 0
+Grew plan count p q finished = GrewOf (λ n. n) plan count p q finished
+
+abbrev pub Whole : (plan : ℕ → List (List ℕ)) (count : ℕ) (p q : ℕ → Part) (finished : Bool) → Type 0
+Whole plan count p q finished = WholeOf (λ n. n) plan count p q finished
 
 -- a refusal is shown by one of the passes: that the mark stands, or that a call of the disk failed, in this call or since the opening
 pub record ShownByOne (count : ℕ) (p q : ℕ → Part) (f : SubmitFault) : Type 0 where

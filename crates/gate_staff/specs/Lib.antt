@@ -4,3 +4,7 @@ pub mod Seats
 pub mod Made
 pub mod Business
 pub mod Hands
+pub mod Faults
+pub mod Submitted
+pub mod Producers
+pub mod Plans

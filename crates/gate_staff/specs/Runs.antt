@@ -1,5 +1,5 @@
 -- What becomes of a sender while its plan is submitted: s before, t behind it. Plans are this project's profile.
-use Rattle.std.specs.Prelude.{◌≡◌, ◌⊎◌, ℕ, ◌+◌, ◌-◌, ◌<◌, ◌≤◌, true, false, List, All, Contains, length, take, drop, slice_get, slice_index_or, Some, None, Result, Ok, Err}
+use Rattle.std.specs.Prelude.{◌≡◌, ◌⊎◌, ℕ, ◌+◌, ◌-◌, ◌<◌, ◌≤◌, Bool, true, false, is_none, ◌||◌, List, All, Contains, length, take, drop, slice_get, slice_index_or, Some, None, Result, Ok, Err}
 use Rattle.jr_dated.specs.declared.journal.Journal.{Ghosts}
 use Rattle.jr_boxes.specs.declared.faults.SubmitFault.{SubmitFault}
 use Rattle.jr_boxes.specs.declared.faults.SubmitFault.TheVariants as submit
@@ -47,6 +47,10 @@ module _ {J : Type 0} {G : Ghosts J} where
     pub refused : (f : SubmitFault) → t.refused ≡ Some f → WasRefused s t f
     pub unlost : (t.refused ≡ Some submit.Fault → ⊥) → (known t.pass).lost ≡ (known s.pass).lost
 
+  -- it counts the entries of its pass
+  abbrev pub IsCounted : Sender J G → Type 0
+  IsCounted s = s.done ≡ length (known s.pass).mine
+
   -- the messages that the outbox has of it were counted as done, and nothing else changed
   pub record Counted (gate : Gate J G) (s t : Sender J G) : Type 0 where
     pub ready : IsReady gate t
@@ -82,15 +86,14 @@ module _ {J : Type 0} {G : Ghosts J} where
     pub long : length after ≡ length before
     pub each : (i : ℕ) (d : Sender J G) → i < length before → Ran gate (slice_index_or before i d) (slice_index_or after i d)
 
-  -- it ran on where it was turned away, and else it is as it was
-  pub record Resumed (gate : Gate J G) (s t : Sender J G) : Type 0 where
-    pub ran : s.turned ≡ true → Ran gate s t
-    pub same : s.turned ≡ false → t ≡ s
+  -- it goes on in a run: no message of it was refused before, or a door turned it away since
+  abbrev pub may_go_on : Sender J G → Bool
+  may_go_on s = is_none s.refused || s.turned
 
-  -- each sender did, in its place
-  pub record ResumedEach (gate : Gate J G) (before after : List (Sender J G)) : Type 0 where
-    pub long : length after ≡ length before
-    pub each : (i : ℕ) (d : Sender J G) → i < length before → Resumed gate (slice_index_or before i d) (slice_index_or after i d)
+  -- it ran where it goes on, and else it is as it was
+  pub record Resumed (gate : Gate J G) (s t : Sender J G) : Type 0 where
+    pub ran : may_go_on s ≡ true → Ran gate s t
+    pub same : may_go_on s ≡ false → t ≡ s
 
   -- it met no refusal
   abbrev pub HasNone : Sender J G → Type 0

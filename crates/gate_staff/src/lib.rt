@@ -4,8 +4,12 @@
 
 mod business;
 mod door;
+mod fault;
 mod hands;
+mod nobody;
 mod none;
+mod plans;
+mod producers;
 mod resume;
 mod run;
 mod seats;
@@ -13,10 +17,14 @@ mod sender;
 
 pub use business::{Business, ResumeFault};
 pub use door::{Door, OpenDoor};
+pub use fault::{StaffFault, refused_submit};
 pub use hands::run_hands;
+pub use nobody::Nobody;
 pub use none::NoBusiness;
 pub use plan_values::Plan;
-pub use run::{resume_turned, run_senders};
+pub use plans::{Plans, finish_by};
+pub use producers::{Producers, run_producers};
+pub use run::run_senders;
 pub use seats::{
     count_done, give_connection, give_last, run_seated, seat, take_connection, take_last, unseat,
 };

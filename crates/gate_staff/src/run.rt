@@ -1,8 +1,8 @@
 //! All senders at once.
-ghost use Rattle.std.specs.Prelude.{◌≡◌, false, List, All, OnOk};
-ghost use Rattle.gate_staff.specs.Runs.{IsReady, Ran, RanEach, Resumed, ResumedEach, IsWhole, IsAdmitted, IsLowest};
+ghost use Rattle.std.specs.Prelude.{◌≡◌, false, All, OnOk};
+ghost use Rattle.gate_staff.specs.Runs.{IsReady, Ran, RanEach, IsWhole, IsAdmitted, IsLowest};
 
-use crate::door::{Door, OpenDoor};
+use crate::door::Door;
 use crate::sender::Sender;
 use gate_senders::Gate;
 use jr_boxes::SubmitFault;
@@ -52,47 +52,6 @@ fn run_each<J: Journal + Send, D: Door + Sync, R: Threads + Wait + Sync>(
         ensures ran { Ran gate.entry.now sender.old sender.new }
         ensures admits { D.turns ≡ false → IsAdmitted sender.new }
     { sender.submit_rest(gate, door, rt) };
-    thread::for_each_mut(rt, senders, count, &submit);
-}
-
-/// Submits what is left of the plan of each sender that was turned away, through the open door, as `run_senders` does. The others stay
-/// as they are. So it ends a run that a door had cut short.
-///
-/// # Errors
-///
-/// The refusal of the sender with the lowest number among those that met one, in this call or before it.
-pub fn resume_turned<J: Journal + Send, R: Threads + Wait + Sync>(
-    gate: &Gate<J>,
-    senders: &mut [Sender<J>],
-    rt: &R,
-) -> Result<(), SubmitFault>
-    requires ready { All (λ s. IsReady gate.now s) senders.old }
-    ensures ready { All (λ s. IsReady gate.now s) senders.new }
-    ensures each { ResumedEach gate.now senders.old senders.new }
-    ensures one_run { (before : List (Sender _ _)) → RanEach gate.now before senders.old → RanEach gate.now before senders.new }
-    ensures admitted { All IsAdmitted senders.new }
-    ensures lowest { IsLowest senders.new result }
-{
-    resume_each(gate, senders, rt);
-    lowest_refusal(senders)
-}
-
-/// Has each sender that was turned away submit what is left of its plan, at once.
-fn resume_each<J: Journal + Send, R: Threads + Wait + Sync>(
-    gate: &Gate<J>,
-    senders: &mut [Sender<J>],
-    rt: &R,
-)
-    requires ready { All (λ s. IsReady gate.now s) senders.old }
-    ensures each { ResumedEach gate.now senders.old senders.new }
-    ensures admitted { All IsAdmitted senders.new }
-{
-    let count = senders.len().max(1);
-    let submit = |_: usize, sender: &mut Sender<J>|
-        requires { IsReady gate.now sender.old }
-        ensures resumed { Resumed gate.entry.now sender.old sender.new }
-        ensures admitted { IsAdmitted sender.new }
-    { sender.resume(gate, rt) };
     thread::for_each_mut(rt, senders, count, &submit);
 }
 

@@ -1,7 +1,7 @@
 //! One sender, and how what is left of its plan is submitted.
 ghost use Rattle.std.specs.Prelude.{◌≡◌, ◌≢◌, ◌+◌, ◌<◌, ◌≤◌, ◌^◌, true, false, None, length, IsTrue, IsFalse};
 
-use crate::door::{Door, OpenDoor};
+use crate::door::Door;
 use gate_senders::{Gate, Kept};
 use gate_turn::Pass;
 use jr_boxes::SubmitFault;
@@ -85,14 +85,14 @@ impl<J: Journal> Sender<J> {
         most
     }
 
-    /// Submits what is left of the plan, through the open door, where it was turned away; else it stays as it is.
-    pub(crate) fn resume<R: Wait>(&mut self, gate: &Gate<J>, rt: &R)
+    /// Submits what is left of the plan, unless a message was refused before and no door turned it away since: then it stays as it is.
+    pub(crate) fn go_on<D: Door, R: Wait>(&mut self, gate: &Gate<J>, door: &D, rt: &R)
         requires ready { IsReady gate.now self.old }
         ensures resumed { Resumed gate.now self.old self.new }
-        ensures admitted { IsAdmitted self.new }
+        ensures admitted { D.turns ≡ false → IsAdmitted self.new }
     {
-        if self.turned {
-            self.submit_rest(gate, &OpenDoor, rt);
+        if self.refused.is_none() || self.turned {
+            self.submit_rest(gate, door, rt);
         }
     }
 

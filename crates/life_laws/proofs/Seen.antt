@@ -8,24 +8,10 @@ use native.Mathlib.Nat.{ℕ_set}
 use Rattle.session_model.specs.Journal.{Entry, entries_of, counts_from, InOrder}
 use Rattle.session_model.proofs.Lists.{all_weaker, all_second}
 use Rattle.gate_turn.proofs.Histories.{entries_of-append}
-use Rattle.gate_staff.specs.Sent.{StandAt}
 use Rattle.gate_staff.specs.Made.{IsAmong}
 
 pub order_prop : (es : List Entry) → IsProp (InOrder es)
 order_prop es = hlevel (ℕ_set, List-set)
-
--- entries that stand at numbers are as many as these, and are among those of the history
-pub stand_long : (made : List Entry) (n : ℕ) (ks : List ℕ) (es : List Entry) → StandAt made n ks es → length es ≡ length ks
-stand_long made n [] [] s = refl
-stand_long made n [] (e ∷ es) s = absurd s
-stand_long made n (k ∷ ks) [] s = absurd s
-stand_long made n (k ∷ ks) (e ∷ es) s = ap suc (stand_long made k ks es s.2)
-
-pub stand_among : (made : List Entry) (n : ℕ) (ks : List ℕ) (es : List Entry) → StandAt made n ks es → AllByRecursion (IsAmong made) es
-stand_among made n [] [] s = tt
-stand_among made n [] (e ∷ es) s = absurd s
-stand_among made n (k ∷ ks) [] s = absurd s
-stand_among made n (k ∷ ks) (e ∷ es) s = ((k - 1, s.1), stand_among made k ks es s.2)
 
 -- those of one sender are among all
 pub own_among : (es : List Entry) (n : ℕ) → AllByRecursion (IsAmong es) (entries_of es n)

@@ -1,11 +1,10 @@
 -- What the passes of senders know behind a life, in which each went on with its plan.
-use Rattle.std.proofs.Common.{◌≡◌, ◌≢◌, ◌⊎◌, inl, inr, ⊎_elim, ℕ, zero, suc, ◌+◌, ◌-◌, ◌<◌, ◌≤◌, true, false, List, [], ◌∷◌, ◌++◌, length, take, drop, map, reverse, slice_get, slice_index_or, All, Option, Some, None, if◌then◌else◌, ◌==◌, refl, sym, ap, subst, ◌∙◌, arith, add-one, append-nil, length-drop, length-append}
-use Rattle.std.proofs.lemmas.Option.{none-some, same_Some}
-use Rattle.std.proofs.lemmas.List.{take_all, get_or-map, get_or_default, reverse-reverse, length-map}
+use Rattle.std.proofs.Common.{◌≡◌, ◌≢◌, ◌⊎◌, inl, inr, ⊎_elim, ℕ, zero, suc, ◌+◌, ◌-◌, ◌<◌, ◌≤◌, true, false, List, [], ◌∷◌, length, map, reverse, slice_get, slice_index_or, All, Option, Some, if◌then◌else◌, ◌==◌, sym, ap, subst, ◌∙◌, arith, add-one, append-nil}
+use Rattle.std.proofs.lemmas.List.{get_or-map, get_or_default, reverse-reverse, length-map}
 use Rattle.std.specs.List.{AllByRecursion}
 use mathlib.Core.List.{IsPrefix}
 use Rattle.session_model.specs.Journal.{Entry, History, finish, entries_of, BeginsHistory}
-use Rattle.session_model.proofs.Lists.{all_append, all_weaker, prefix_get}
+use Rattle.session_model.proofs.Lists.{all_weaker, prefix_get}
 use Rattle.jr_dated.specs.declared.journal.Journal.{Ghosts}
 use Rattle.jr_boxes.specs.declared.faults.SubmitFault.{SubmitFault}
 use Rattle.jr_boxes.specs.declared.faults.SubmitFault.TheVariants as submit
@@ -20,10 +19,8 @@ use Rattle.gate_senders.specs.Gate.{opening_of, MadeAt}
 use Rattle.gate_senders.specs.Shown.{TakesTurn}
 use Rattle.gate_senders.specs.declared.gate.Gate.{Gate}
 use Rattle.gate_senders.specs.declared.kept.Kept.{Kept}
-use Rattle.gate_senders.proofs.Keeping.{submit_failed}
 use Rattle.plan_values.specs.Plans.{payloads_of}
 use Rattle.plan_values.specs.declared.plan.Plan.{Plan}
-use Rattle.gate_staff.specs.Sent.{entries_behind, HasLost}
 use Rattle.gate_staff.specs.Runs.{plan_of, IsThrough, Counted, CountedEach, Ran, WasRefused}
 use Rattle.gate_staff.specs.Seats.{SeatedFrom}
 use Rattle.gate_staff.specs.declared.sender.Sender.{Sender}
@@ -32,7 +29,8 @@ use Rattle.conn_door.specs.Senders.{LosesMark, IsRefusal, FinishedFirst, Submitt
 use Rattle.life_laws.specs.Plans.{plan_in}
 use Rattle.gate_staff.specs.Made.{MadeOf, IsAllMade, LosesMessages}
 use Rattle.gate_staff.specs.Made.{IsAmong}
-use Rattle.life_laws.proofs.Seen.{stand_long, stand_among, own_among}
+use Rattle.gate_staff.proofs.Stepping.{stepped, all_ran, next_ran, unlost_ran}
+use Rattle.life_laws.proofs.Seen.{own_among}
 
 -- what a pass knows that was made with a value that said this, and went on with a plan
 pub record PartMade (a : Account) (n : ℕ) (plan : List (List ℕ)) (p : Part) : Type 0 where
@@ -71,20 +69,14 @@ module _ {J : Type 0} {G : Ghosts J} (gate : Gate J G) (a : Account) where
   counted_had : (n : ℕ) (plan : List (List ℕ)) (s c : Sender J G) → Fresh n plan s → Counted gate s c → (known c.pass).mine ≡ entries_of a.history.made n
   counted_had n plan s c f k = k.mine ∙ ap (λ (p : Part). p.mine) f.part
 
-  -- it made exactly the messages that were accepted
-  ran_mine : (n : ℕ) (plan : List (List ℕ)) (s c t : Sender J G) → Fresh n plan s → Counted gate s c → Ran gate c t
-      → (known t.pass).mine ≡ entries_of a.history.made n ++ entries_behind n (length (entries_of a.history.made n)) (take (t.done - c.done) (drop (length (entries_of a.history.made n)) plan))
-  ran_mine n plan s c t f k r =
+  -- what a sender made behind what it was counted with, in the terms of the opening
+  moved : (P : List Entry → ℕ → List (List ℕ) → Type 0) (n : ℕ) (plan : List (List ℕ)) (s c : Sender J G) → Fresh n plan s → Counted gate s c → P (known c.pass).mine (known c.pass).number (plan_of c)
+      → P (entries_of a.history.made n) n plan
+  moved P n plan s c f k x =
       let had : List Entry = entries_of a.history.made n in
-      let mine : (known c.pass).mine ≡ had = counted_had n plan s c f k in
-      let number : (known c.pass).number ≡ n = k.pass.number ∙ ap (λ (p : Part). p.number) f.part in
-      let done : c.done ≡ length had = k.done ∙ ap length mine in
-      let same : plan_of c ≡ plan = k.plan ∙ f.plan_is in
-      r.sent.mine
-      ∙ (ap (λ (es : List Entry). es ++ entries_behind (known c.pass).number (length es) (take (t.done - c.done) (drop c.done (plan_of c)))) mine
-      ∙ (ap (λ (m : ℕ). had ++ entries_behind m (length had) (take (t.done - c.done) (drop c.done (plan_of c)))) number
-      ∙ (ap (λ (d : ℕ). had ++ entries_behind n (length had) (take (t.done - c.done) (drop d (plan_of c)))) done
-      ∙ ap (λ (ps : List (List ℕ)). had ++ entries_behind n (length had) (take (t.done - c.done) (drop (length had) ps))) same)))
+      subst (λ (ps : List (List ℕ)). P had n ps) (k.plan ∙ f.plan_is)
+      (subst (λ (m : ℕ). P had m (plan_of c)) (k.pass.number ∙ ap (λ (p : Part). p.number) f.part)
+      (subst (λ (es : List Entry). P es (known c.pass).number (plan_of c)) (counted_had n plan s c f k) x))
 
   ran_made : (n : ℕ) (plan : List (List ℕ)) (s c t : Sender J G) → Fresh n plan s → Counted gate s c → Ran gate c t → PartMade a n plan (known t.pass)
   ran_made n plan s c t f k r =
@@ -94,67 +86,40 @@ module _ {J : Type 0} {G : Ghosts J} (gate : Gate J G) (a : Account) where
         opening = r.pass.opening ∙ m.opening;
         behind = begins_on a.history (known c.pass).seen (known t.pass).seen m.behind r.pass.seen;
         faults = omega (arith, m.faults, r.pass.faults);
-        of = record { count = t.done - c.done; are = ran_mine n plan s c t f k r };
+        of = moved (λ had number ps. MadeOf had number ps (known t.pass).mine) n plan s c f k (stepped gate c t k.done r).made;
       }
 
   -- all of the plan, where it met no refusal and was not turned away
   ran_all : (n : ℕ) (plan : List (List ℕ)) (s c t : Sender J G) → Fresh n plan s → Counted gate s c → Ran gate c t → IsThrough t → IsAllMade (entries_of a.history.made n) n plan (known t.pass).mine
-  ran_all n plan s c t f k r through =
-      let had : List Entry = entries_of a.history.made n in
-      let done : c.done ≡ length had = k.done ∙ ap length (counted_had n plan s c f k) in
-      let long : length (plan_of c) ≡ length plan = ap length (k.plan ∙ f.plan_is) in
-      let whole : length (plan_of c) ≤ t.done = r.whole through.0 through.1 in
-      let within : length (drop (length had) plan) ≤ t.done - c.done = omega (arith, length-drop (length had) plan, done, long, whole) in
-      ran_mine n plan s c t f k r ∙ ap (λ (ps : List (List ℕ)). had ++ entries_behind n (length had) ps) (take_all (t.done - c.done) (drop (length had) plan) within)
+  ran_all n plan s c t f k r through = moved (λ had number ps. IsAllMade had number ps (known t.pass).mine) n plan s c f k (all_ran gate c t k.done r through)
 
   counted_unlost : (n : ℕ) (plan : List (List ℕ)) (s c : Sender J G) → Fresh n plan s → Counted gate s c → (known c.pass).lost ≡ []
   counted_unlost n plan s c f k = k.lost ∙ ap (λ (p : Part). p.lost) f.part
 
-  -- it made as many as it counts as done
-  ran_long : (n : ℕ) (plan : List (List ℕ)) (s c t : Sender J G) → Fresh n plan s → Counted gate s c → Ran gate c t → length (known t.pass).mine ≡ t.done
-  ran_long n plan s c t f k r =
-      let had : List Entry = (known c.pass).mine in
-      let more : List Entry = entries_behind (known c.pass).number (length had) (take (t.done - c.done) (drop c.done (plan_of c))) in
-      omega (arith, ap length r.sent.mine, length-append had more, stand_long (known t.pass).seen.made (length (known c.pass).seen.made) r.numbers more r.sent.stand, r.each, r.done, k.done)
-
-  -- so what it met a refusal at is the next of its plan behind these
+  -- what it met a refusal at is the next of its plan behind what it made
   ran_next : (n : ℕ) (plan : List (List ℕ)) (s c t : Sender J G) → Fresh n plan s → Counted gate s c → Ran gate c t → (met : SubmitFault) (w : WasRefused c t met) → slice_get plan (length (known t.pass).mine) ≡ Some w.payload
   ran_next n plan s c t f k r met w =
-      subst (λ (ps : List (List ℕ)). slice_get ps (length (known t.pass).mine) ≡ Some w.payload) (r.plan ∙ (k.plan ∙ f.plan_is))
-      (subst (λ (d : ℕ). slice_get (plan_of t) d ≡ Some w.payload) (sym (ran_long n plan s c t f k r)) w.next)
-
-  -- and so is what it has left of its plan
-  ran_rest : (n : ℕ) (plan : List (List ℕ)) (s c t : Sender J G) → Fresh n plan s → Counted gate s c → Ran gate c t → drop t.done (plan_of t) ≡ drop (length (known t.pass).mine) plan
-  ran_rest n plan s c t f k r = ap (λ (d : ℕ). drop d (plan_of t)) (sym (ran_long n plan s c t f k r))
-      ∙ ap (λ (ps : List (List ℕ)). drop (length (known t.pass).mine) ps) (r.plan ∙ (k.plan ∙ f.plan_is))
+      subst (λ (ps : List (List ℕ)). slice_get ps (length (known t.pass).mine) ≡ Some w.payload) (k.plan ∙ f.plan_is) (next_ran gate c t k.done r met w)
 
   -- all that it made stands in what it has then seen
   ran_seen : (n : ℕ) (plan : List (List ℕ)) (s c t : Sender J G) → Fresh n plan s → Counted gate s c → Ran gate c t → AllByRecursion (IsAmong (known t.pass).seen.made) (known t.pass).mine
   ran_seen n plan s c t f k r =
-      let seen : List Entry = (known t.pass).seen.made in
-      let had : List Entry = (known c.pass).mine in
-      let more : List Entry = entries_behind (known c.pass).number (length had) (take (t.done - c.done) (drop c.done (plan_of c))) in
-      let begins : IsPrefix a.history.made seen = (ran_made n plan s c t f k r).behind.made in
+      let seen : List Entry = (known c.pass).seen.made in
+      let begins : IsPrefix a.history.made seen = (counted_made n plan s c f k).behind.made in
       let opened = all_weaker (IsAmong a.history.made) (IsAmong seen) (λ e x. (x.0, prefix_get a.history.made seen x.0 e begins x.1)) (entries_of a.history.made n) (own_among a.history.made n) in
-      subst (λ (es : List Entry). AllByRecursion (IsAmong seen) es) (sym r.sent.mine)
-      (all_append (IsAmong seen) had more (subst (λ (es : List Entry). AllByRecursion (IsAmong seen) es) (sym (counted_had n plan s c f k)) opened)
-      (stand_among seen (length (known c.pass).seen.made) r.numbers more r.sent.stand))
+      (stepped gate c t k.done r).stays.own (subst (λ (es : List Entry). AllByRecursion (IsAmong seen) es) (sym (counted_had n plan s c f k)) opened)
 
   -- what it lost: nothing, or a piece of its plan behind the messages that it made
-  ran_loses : (n : ℕ) (plan : List (List ℕ)) (s c t : Sender J G) → Fresh n plan s → Counted gate s c → Ran gate c t → (r : Option SubmitFault) → t.refused ≡ r
-      → ((known t.pass).lost ≡ []) ⊎ (LosesMessages plan (known t.pass) × (a.history.finished ≢ true))
-  ran_loses n plan s c t f k r None none = inl (r.unlost (λ e. none-some submit.Fault (sym none ∙ e)) ∙ counted_unlost n plan s c f k)
-  ran_loses n plan s c t f k r (Some fault) met = ⊎_elim
-      (λ failed.
-      let l : HasLost (known t.pass) (drop (length (known t.pass).mine) plan) =
-      subst (λ (ps : List (List ℕ)). HasLost (known t.pass) ps) (ran_rest n plan s c t f k r) ((r.refused fault met).lost failed) in
+  ran_loses : (n : ℕ) (plan : List (List ℕ)) (s c t : Sender J G) → Fresh n plan s → Counted gate s c → Ran gate c t → ((known t.pass).lost ≡ []) ⊎ (LosesMessages plan (known t.pass) × (a.history.finished ≢ true))
+  ran_loses n plan s c t f k r = ⊎_elim
+      (λ same. inl (same ∙ counted_unlost n plan s c f k))
+      (λ l.
       let behind : BeginsHistory a.history (known t.pass).seen = (ran_made n plan s c t f k r).behind in
       inr (
-        record { count = l.count; within = l.within; few = l.few; is = l.lost },
+        subst (λ (ps : List (List ℕ)). LosesMessages ps (known t.pass)) (k.plan ∙ f.plan_is) l.messages,
         λ was. l.unmarked (sym (ap (λ (h : History). h.finished) (behind.alone was)) ∙ was),
       ))
-      (λ other. inl (r.unlost (λ e. other (same_Some fault submit.Fault (sym met ∙ e))) ∙ counted_unlost n plan s c f k))
-      (submit_failed fault)
+      (stepped gate c t k.done r).lost
 
   counted_unended : (n : ℕ) (plan : List (List ℕ)) (s c : Sender J G) → Fresh n plan s → Counted gate s c → (known c.pass).ended ≡ false
   counted_unended n plan s c f k = k.pass.ended ∙ ap (λ (p : Part). p.ended) f.part
@@ -230,13 +195,13 @@ module _ {J : Type 0} {G : Ghosts J} (gate : Gate J G) (a : Account) (plans : Li
       ran_whole through i d lt = ran_all gate a (suc i) (plan_in plans (suc i) []) (slice_index_or seated i d) (slice_index_or counted i d) (slice_index_or s.ran i d)
           (fresh.each i d (ran_within i lt)) (count.each i d (ran_within i lt)) (ran_at i d lt) (through i d lt)
 
-      lost_at : (i : ℕ) (d : Sender J G) (r : Option SubmitFault) → i < length s.ran → (slice_index_or s.ran i d).refused ≡ r
+      lost_at : (i : ℕ) (d : Sender J G) → i < length s.ran
           → ((known (slice_index_or s.ran i d).pass).lost ≡ []) ⊎ (LosesMessages (plan_in plans (suc i) []) (known (slice_index_or s.ran i d).pass) × (a.history.finished ≢ true))
-      lost_at i d r lt is = ran_loses gate a (suc i) (plan_in plans (suc i) []) (slice_index_or seated i d) (slice_index_or counted i d) (slice_index_or s.ran i d)
-          (fresh.each i d (ran_within i lt)) (count.each i d (ran_within i lt)) (ran_at i d lt) r is
+      lost_at i d lt = ran_loses gate a (suc i) (plan_in plans (suc i) []) (slice_index_or seated i d) (slice_index_or counted i d) (slice_index_or s.ran i d)
+          (fresh.each i d (ran_within i lt)) (count.each i d (ran_within i lt)) (ran_at i d lt)
 
       ran_unlost : All IsThrough s.ran → (i : ℕ) (d : Sender J G) → i < length s.ran → (known (slice_index_or s.ran i d).pass).lost ≡ []
-      ran_unlost through i d lt = (ran_at i d lt).unlost (λ e. none-some submit.Fault (sym (through i d lt).0 ∙ e))
+      ran_unlost through i d lt = unlost_ran gate (slice_index_or counted i d) (slice_index_or s.ran i d) (count.each i d (ran_within i lt)).done (ran_at i d lt) (through i d lt)
           ∙ counted_unlost gate a (suc i) (plan_in plans (suc i) []) (slice_index_or seated i d) (slice_index_or counted i d) (fresh.each i d (ran_within i lt)) (count.each i d (ran_within i lt))
 
       ran_many : length s.ran ≡ length plans
@@ -247,7 +212,7 @@ module _ {J : Type 0} {G : Ghosts J} (gate : Gate J G) (a : Account) (plans : Li
         long = ran_many;
         each = ran_part;
         ended = inl ran_unended;
-        lost = λ i d lt. ⊎_elim (λ e. inl e) (λ l. inr (record { opened = l.1; unended = ran_unended; what = inl l.0 })) (lost_at i d (slice_index_or s.ran i d).refused lt refl);
+        lost = λ i d lt. ⊎_elim (λ e. inl e) (λ l. inr (record { opened = l.1; unended = ran_unended; what = inl l.0 })) (lost_at i d lt);
       }
 
       with_finish : All IsThrough s.ran → FinishedFirst s.ran after refused → SendersMade after

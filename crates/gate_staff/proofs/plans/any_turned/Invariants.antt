@@ -1,6 +1,6 @@
 use Rattle.std.proofs.Common.{All, take}
 use Rattle.gate_staff.specs.Runs.{IsAdmitted}
-use Rattle.conn_door.proofs.senders.any_turned.Given as goal
+use Rattle.gate_staff.proofs.plans.any_turned.Given as goal
 
 abbrev pub invariant-loop-sender : goal.invariant-loop-sender
 invariant-loop-sender g l = All IsAdmitted (take l.sender-index l.senders)

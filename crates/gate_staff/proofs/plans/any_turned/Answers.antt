@@ -3,7 +3,7 @@ use Rattle.std.proofs.Math.Seq.{take-length}
 use Rattle.std.proofs.lemmas.List.{get_or_default}
 use Rattle.std.proofs.lemmas.List.Elements.{All-more}
 use Rattle.gate_staff.specs.Runs.{IsAdmitted}
-use Rattle.conn_door.proofs.senders.any_turned.Goals as goal
+use Rattle.gate_staff.proofs.plans.any_turned.Goals as goal
 
 pub loop-sender-preserved : goal.loop-sender-preserved
 loop-sender-preserved g c =

@@ -1,0 +1,10 @@
+use Rattle.std.proofs.Common.{◌≡◌, ℕ, ◌<◌, ◌≤◌, None, length, slice_index_or}
+use Rattle.gate_staff.specs.declared.sender.Sender.{Sender}
+use Rattle.gate_staff.proofs.plans.set_out.Given as goal
+
+abbrev pub invariant-loop-place : goal.invariant-loop-place
+invariant-loop-place g l = record {
+  long : length l.senders.items ≡ length l.fn.senders.items;
+  set : (i : ℕ) (d : Sender _ _) → i < l.place → slice_index_or l.senders.items i d ≡ record (slice_index_or l.fn.senders.items i d) { refused = None };
+  left : (i : ℕ) (d : Sender _ _) → l.place ≤ i → slice_index_or l.senders.items i d ≡ slice_index_or l.fn.senders.items i d;
+}
