@@ -2,6 +2,16 @@
 use Rattle.std.specs.Prelude.{ℕ, ◌+◌, List, [], ◌∷◌, ◌++◌, codes, decimal}
 use Rattle.hex.specs.Hex.{encode_lower}
 use Rattle.jr_record.specs.declared.record.Record.{Record}
+use Rattle.fixp_msgs.specs.declared.flow.Flow.{Flow}
+use Rattle.fixp_msgs.specs.declared.flow.Flow.TheVariants as flows
+use Rattle.fixp_shake.specs.declared.config.Role.{Role}
+use Rattle.fixp_shake.specs.declared.config.Role.TheVariants.{Initiator, Acceptor}
+use Rattle.jr_title.specs.declared.title.Orders.{Orders}
+use Rattle.jr_title.specs.declared.title.Title.{Title}
+use Rattle.jr_title.specs.declared.title.WhoSends.{WhoSends}
+use Rattle.jr_title.specs.declared.title.WhoSends.TheVariants.{Senders, Desks, Book}
+use Rattle.jr_dated.specs.declared.form.Form.{Form}
+use Rattle.jr_dated.specs.declared.form.Form.TheVariants.{Two, Three}
 use Rattle.jr_dated.specs.Dated.{Dated}
 use Rattle.jr_boxes.specs.declared.faults.Which.{Which}
 use Rattle.jr_boxes.specs.declared.faults.Which.TheVariants.{Outbox, Inbox}
@@ -26,15 +36,46 @@ abbrev pub lines_from : ℕ → List Dated → List ℕ
 lines_from n [] = []
 lines_from n (d ∷ records) = line_of n d ++ lines_from (n + 1) records
 
--- The lines of a journal: its name, then its records, numbered from 1. In an outbox that is the number of an entry, since no
--- entry stands behind the Finish
-abbrev pub name_of : Which → List ℕ
-name_of Outbox = codes "outbox" ++ 10 ∷ []
-name_of Inbox = codes "inbox" ++ 10 ∷ []
+-- the words for a flow, a role, and who sends
+abbrev pub flow_word : Flow → List ℕ
+flow_word flows.Recoverable = codes "recoverable"
+flow_word flows.Idempotent = codes "idempotent"
+flow_word flows.Unsequenced = codes "unsequenced"
+flow_word flows.None = codes "none"
 
-abbrev pub box_lines : Which → List Dated → List ℕ
-box_lines which records = name_of which ++ lines_from 1 records
+abbrev pub role_word : Role → List ℕ
+role_word Initiator = codes "initiator"
+role_word Acceptor = codes "acceptor"
+
+abbrev pub orders_words : Orders → List ℕ
+orders_words orders = codes " version " ++ decimal orders.version ++ codes " reference " ++ decimal orders.reference
+
+abbrev pub who_words : WhoSends → List ℕ
+who_words Senders = codes " senders"
+who_words (Desks desks orders) = codes " desks " ++ decimal desks ++ orders_words orders
+who_words (Book orders) = codes " book" ++ orders_words orders
+
+-- what a title says: the session's UUID in 32 hexadecimal digits, the end's role, both flows, who sends, and the pair
+abbrev pub title_words : Title → List ℕ
+title_words t = codes " of " ++ encode_lower t.binding.session ++ codes " " ++ role_word t.binding.role ++ codes " client " ++ flow_word t.binding.client_flow
+    ++ codes " server " ++ flow_word t.binding.server_flow ++ who_words t.binding.who_sends ++ codes " pair " ++ decimal t.pair
+
+abbrev pub form_words : Form → List ℕ
+form_words Two = []
+form_words (Three title) = title_words title
+
+abbrev pub name_of : Which → List ℕ
+name_of Outbox = codes "outbox"
+name_of Inbox = codes "inbox"
+
+-- The lines of a journal: its name, with its title, then its records, numbered from 1. In an outbox that is the number of an entry, since no
+-- entry stands behind the Finish
+abbrev pub heading : Which → Form → List ℕ
+heading which form = name_of which ++ form_words form ++ 10 ∷ []
+
+abbrev pub box_lines : Which → Form → List Dated → List ℕ
+box_lines which form records = heading which form ++ lines_from 1 records
 
 -- those of both, the outbox first
-abbrev pub journal_lines : List Dated → List Dated → List ℕ
-journal_lines outbox inbox = box_lines Outbox outbox ++ box_lines Inbox inbox
+abbrev pub journal_lines : (out_form in_form : Form) → (outbox inbox : List Dated) → List ℕ
+journal_lines out_form in_form outbox inbox = box_lines Outbox out_form outbox ++ box_lines Inbox in_form inbox

@@ -1,13 +1,18 @@
-//! A record of a journal as a line.
+//! The title of a journal, and a record of it, as a line.
 
 ghost use Rattle.std.specs.Prelude.{◌≡◌, ◌≤◌, ◌^◌, ◌++◌, [], ◌∷◌, length, codes, decimal, OnOk};
 ghost use Rattle.hex.specs.Hex.{encode_lower};
 ghost use Rattle.jr_record.specs.Records.{IsRecord};
 ghost use Rattle.jr_record.specs.declared.record.Record.TheVariants as kinds;
 ghost use Rattle.jr_dated.specs.Dated.{stamped};
-ghost use Rattle.cmd_journal.specs.Lines.{line_of, words_of};
+ghost use Rattle.cmd_journal.specs.Lines.{flow_word, form_words, heading, line_of, name_of, orders_words, role_word, title_words, who_words, words_of};
 
+use fixp_msgs::Flow;
+use fixp_shake::Role;
+use jr_boxes::Which;
+use jr_dated::Form;
 use jr_record::Record;
+use jr_title::{Orders, Title, WhoSends};
 use std::alloc::AllocError;
 use text_words::{push_hex, push_number};
 
@@ -86,4 +91,105 @@ pub fn push_record(
     push_number(lines, b"at ", moment)?;
     lines.extend_from_slice(b" ")?;
     push_words(lines, number, r)
+}
+
+/// The word for a flow.
+fn flow_word(flow: Flow) -> &'static [u8]
+    ensures { result.now ≡ flow_word flow }
+{
+    match flow {
+        Flow::Recoverable => b"recoverable",
+        Flow::Idempotent => b"idempotent",
+        Flow::Unsequenced => b"unsequenced",
+        Flow::None => b"none",
+    }
+}
+
+/// The word for a role.
+fn role_word(role: Role) -> &'static [u8]
+    ensures { result.now ≡ role_word role }
+{
+    match role {
+        Role::Initiator => b"initiator",
+        Role::Acceptor => b"acceptor",
+    }
+}
+
+/// Adds what desks read and answer by.
+fn push_orders(lines: &mut Vec<u8>, orders: Orders) -> Result<(), AllocError>
+    ensures { OnOk result (lines.new.items ≡ lines.old.items ++ orders_words orders) }
+{
+    push_number(lines, b" version ", u64::from(orders.version))?;
+    push_number(lines, b" reference ", orders.reference)
+}
+
+/// Adds who sends.
+fn push_who(lines: &mut Vec<u8>, who: WhoSends) -> Result<(), AllocError>
+    ensures { OnOk result (lines.new.items ≡ lines.old.items ++ who_words who) }
+{
+    match who {
+        WhoSends::Senders => lines.extend_from_slice(b" senders"),
+        WhoSends::Desks { desks, orders } => {
+            push_number(lines, b" desks ", u64::from(desks))?;
+            push_orders(lines, orders)
+        }
+        WhoSends::Book { orders } => {
+            lines.extend_from_slice(b" book")?;
+            push_orders(lines, orders)
+        }
+    }
+}
+
+/// Adds a word behind others.
+fn push_word(lines: &mut Vec<u8>, before: &[u8], word: &[u8]) -> Result<(), AllocError>
+    ensures { OnOk result (lines.new.items ≡ lines.old.items ++ (before.now ++ word.now)) }
+{
+    lines.extend_from_slice(before)?;
+    lines.extend_from_slice(word)
+}
+
+/// Adds what a title says.
+fn push_title(lines: &mut Vec<u8>, title: &Title) -> Result<(), AllocError>
+    ensures { OnOk result (lines.new.items ≡ lines.old.items ++ title_words title.now) }
+{
+    let binding = &title.binding;
+    lines.extend_from_slice(b" of ")?;
+    push_hex(lines, &binding.session)?;
+    push_word(lines, b" ", role_word(binding.role))?;
+    push_word(lines, b" client ", flow_word(binding.client_flow))?;
+    push_word(lines, b" server ", flow_word(binding.server_flow))?;
+    push_who(lines, binding.who_sends)?;
+    push_number(lines, b" pair ", title.pair)
+}
+
+/// Adds what a journal's first bytes say; nothing in format 2.
+fn push_form(lines: &mut Vec<u8>, form: Form) -> Result<(), AllocError>
+    ensures { OnOk result (lines.new.items ≡ lines.old.items ++ form_words form) }
+{
+    match form {
+        Form::Two => Ok(()),
+        Form::Three { title } => push_title(lines, &title),
+    }
+}
+
+/// The name of a box.
+fn name(which: Which) -> &'static [u8]
+    ensures { result.now ≡ name_of which }
+{
+    match which {
+        Which::Outbox => b"outbox",
+        Which::Inbox => b"inbox",
+    }
+}
+
+/// Adds the first line of a journal: its name, with its title in format 3.
+///
+/// # Errors
+/// Want of memory.
+pub fn push_heading(lines: &mut Vec<u8>, which: Which, form: Form) -> Result<(), AllocError>
+    ensures { OnOk result (lines.new.items ≡ lines.old.items ++ heading which form) }
+{
+    lines.extend_from_slice(name(which))?;
+    push_form(lines, form)?;
+    lines.extend_from_slice(b"\n")
 }

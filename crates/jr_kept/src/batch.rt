@@ -25,7 +25,7 @@ pub fn append_fitting<J: Journal>(journal: &mut J, batch: &Records) -> Result<u6
     ensures added { IfOk result (λ n. n ≡ length (fitting (J.limits journal.old) (J.size journal.old) batch.now)) }
     ensures ok { OnOk result ((h : List Dated) → Holds J.stands J.leaves journal.old h []
         → Holds J.stands J.leaves journal.new (h ++ dated (J.moment journal.old) (fitting (J.limits journal.old) (J.size journal.old) batch.now)) []) }
-    ensures grown { OnOk result (Grows J.count J.size journal.old journal.new (fitting (J.limits journal.old) (J.size journal.old) batch.now)) }
+    ensures grown { OnOk result (Grows (J.limits journal.old).form J.count J.size journal.old journal.new (fitting (J.limits journal.old) (J.size journal.old) batch.now)) }
     ensures sound { OnOk result (J.is_broken journal.new ≡ false) }
     ensures quiet { OnOk result (J.faults journal.new ≡ J.faults journal.old) }
 

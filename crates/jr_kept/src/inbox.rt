@@ -128,7 +128,8 @@ impl<J: Journal> Inbox<J> {
             return Err(AppendFault::Broken);
         }
         let bytes = self.journal.bytes();
-        if APPLY_FRONT + payload.len() as u64 > self.limits.bytes.saturating_sub(bytes) {
+        let size = APPLY_FRONT + self.limits.form.sum_size() + payload.len() as u64;
+        if size > self.limits.bytes.saturating_sub(bytes) {
             return Err(AppendFault::Full { bytes });
         }
         self.notes.reserve()?;
@@ -378,7 +379,7 @@ impl<J: Journal> Inbox<J> {
     /// How many bytes its journal takes.
     pub fn bytes(&self) -> u64
         ensures value { result ≡ size_of self.now }
-        ensures counts { (i : List InboxRecord) → StandsFor self.now i → result ≡ journal_size (records_of_inbox i) }
+        ensures counts { (i : List InboxRecord) → StandsFor self.now i → result ≡ journal_size (limits_of self.now).form (records_of_inbox i) }
     {
         self.journal.bytes()
     }

@@ -33,7 +33,7 @@ use jr_dated::{FetchFault, Journal, Limits};
 use jr_record::Record;
 use std::alloc::Global;
 
-/// The bytes of an entry's record with its gate, but for the payload.
+/// The bytes of an entry's record with its gate, but for the payload and the sum.
 const ENTRY_FRONT: u64 = 24;
 
 /// The application messages that an end was given to send, in the order of their numbers, over a journal with moments.
@@ -129,7 +129,8 @@ impl<J: Journal> Outbox<J> {
         let entries = self.tally.entries;
         let bytes = self.journal.bytes();
         let room = self.limits.bytes.saturating_sub(bytes);
-        if entries >= self.limits.entries || ENTRY_FRONT + payload.len() as u64 > room {
+        let front = ENTRY_FRONT + self.limits.form.sum_size();
+        if entries >= self.limits.entries || front + payload.len() as u64 > room {
             return Err(SubmitFault::Full { entries, bytes });
         }
         let record = Record::Entry {
@@ -357,7 +358,7 @@ impl<J: Journal> Outbox<J> {
     /// How many bytes its journal takes.
     pub fn bytes(&self) -> u64
         ensures value { result ≡ size_of self.now }
-        ensures counts { (h : History) → StandsFor self.now h → result ≡ journal_size (records_of_history h) }
+        ensures counts { (h : History) → StandsFor self.now h → result ≡ journal_size (limits_of self.now).form (records_of_history h) }
     {
         self.journal.bytes()
     }

@@ -1,6 +1,7 @@
 pub mod Adding
 pub mod Behind
 pub mod Crossing
+pub mod Formatting
 pub mod Growing
 pub mod Journal
 pub mod Lawful

@@ -94,7 +94,7 @@ returns-then-added-payloads-clause-tells g c =
       negotiated = noted.negotiated_is;
       peer_last = noted.peer_last_is;
       count = omega (arith, added, ap length noted.places_are, length-append (numbers_of old.notes.places) (counts_from c.len.result c.in-Ok.added), length-counts_from c.len.result c.in-Ok.added);
-      size = c.in-Ok.ensures.grown.bytes ∙ ap (λ (xs : List Record). size + sizes xs) are;
+      size = c.in-Ok.ensures.grown.bytes ∙ ap (λ (l : Limits). size + sizes l.form rs) old.limited ∙ ap (λ (xs : List Record). size + sizes old.limits.form xs) are;
     }
 
 pub returns-in-Ok-clause-ok : goal.returns-in-Ok-clause-ok
@@ -151,7 +151,7 @@ returns-in-Ok-clause-tells g c =
       negotiated = noted.negotiated_is;
       peer_last = noted.peer_last_is;
       count = omega (arith, added, ap length noted.places_are, length-append (numbers_of old.notes.places) (counts_from c.len.result c.in-Ok.added), length-counts_from c.len.result c.in-Ok.added);
-      size = c.in-Ok.ensures.grown.bytes ∙ ap (λ (xs : List Record). size + sizes xs) are;
+      size = c.in-Ok.ensures.grown.bytes ∙ ap (λ (l : Limits). size + sizes l.form rs) old.limited ∙ ap (λ (xs : List Record). size + sizes old.limits.form xs) are;
     }
 
 pub invariant_of-self-in-Err : goal.invariant_of-self-in-Err

@@ -82,7 +82,7 @@ returns-then-added-payloads-clause-entered g c =
       mine = c.count_entries.ensures.counted.its ∙ ap (λ (n : ℕ). mine + n) added;
       others = c.count_entries.ensures.counted.others;
       closed = c.count_entries.ensures.counted.mark;
-      size = c.in-Ok.ensures.grown.bytes ∙ ap (λ (xs : List Record). size + sizes xs) are;
+      size = c.in-Ok.ensures.grown.bytes ∙ ap (λ (l : Limits). size + sizes l.form rs) old.limited ∙ ap (λ (xs : List Record). size + sizes old.limits.form xs) are;
     }
 
 pub returns-in-Ok-clause-number : goal.returns-in-Ok-clause-number
@@ -150,7 +150,7 @@ returns-in-Ok-clause-entered g c =
       mine = c.count_entries.ensures.counted.its ∙ ap (λ (n : ℕ). mine + n) added;
       others = c.count_entries.ensures.counted.others;
       closed = c.count_entries.ensures.counted.mark;
-      size = c.in-Ok.ensures.grown.bytes ∙ ap (λ (xs : List Record). size + sizes xs) are;
+      size = c.in-Ok.ensures.grown.bytes ∙ ap (λ (l : Limits). size + sizes l.form rs) old.limited ∙ ap (λ (xs : List Record). size + sizes old.limits.form xs) are;
     }
 
 pub returns-clause-fault : goal.returns-clause-fault
