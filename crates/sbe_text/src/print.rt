@@ -168,10 +168,7 @@ pub fn write_path(before: &[u8], name: &Bytes, lines: &mut Vec<u8>) -> Result<()
 {
     lines.extend_from_slice(before)?;
     lines.extend_from_slice(name.as_slice())?;
-    lines.push(b' ')?;
-    lines.push(b'=')?;
-    lines.push(b' ')?;
-    Ok(())
+    lines.extend_from_slice(b" = ")
 }
 
 fn write_data(
