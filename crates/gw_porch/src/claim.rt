@@ -6,7 +6,9 @@ use fixp_replies::{Incoming, classify};
 use fixp_shake::{EstablishmentCode, NegotiationCode};
 use sofh_frame::{FirstFrame, next};
 
-/// The longest heartbeat interval, in milliseconds.
+/// The shortest and the longest heartbeat interval, in milliseconds.
+const SHORTEST: u32 = 100;
+
 const LONGEST: u32 = 60_000;
 
 /// How long the older connection may be silent beyond one and a half intervals, in milliseconds.
@@ -21,9 +23,9 @@ pub(crate) struct Claim {
     pub refusal: Reject,
 }
 
-/// How long a connection with this heartbeat interval may be silent, both in milliseconds.
+/// How long a connection with this heartbeat interval may be silent, both in milliseconds. One that nobody may have is taken for the next that one may.
 fn patience_of(interval: u32) -> u64 {
-    let interval = u64::from(interval.min(LONGEST));
+    let interval = u64::from(interval.max(SHORTEST).min(LONGEST));
     interval + interval / 2 + GRACE
 }
 

@@ -11,8 +11,7 @@ use std::net::{Shutdown, SocketAddr};
 /// How long a guest has for its first frame from its acceptance on, and one that gives the keys to be let in, in milliseconds.
 pub(crate) const PATIENCE: u64 = 5_000;
 
-/// How long a guest that was answered has to end the connection, in milliseconds: what it still sends is read, since the system would drop the answer
-/// where bytes stay unread.
+/// How long a guest that was answered has to end the connection, in milliseconds.
 const FAREWELL: u64 = 1_000;
 
 /// How often it is read at once from a guest that was answered.
@@ -131,8 +130,8 @@ impl Guest {
         }
     }
 
-    /// Reads what a guest still says that was answered, and drops it.
-    fn read_on(&mut self) -> Found {
+    /// Reads what a guest still says that was answered, and drops it: where bytes stay unread as its connection is closed, the system drops the answer.
+    pub(crate) fn read_on(&mut self) -> Found {
         let mut piece = [0; LOOKED_AT];
         for _ in 0..READS {
             match self.stream.read(&mut piece) {

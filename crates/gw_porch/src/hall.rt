@@ -94,17 +94,28 @@ impl<'a, E: Ear> Hall<'a, E> {
             return;
         }
         let place = token.0 - FIRST_PLACE;
-        if !self.visit(registry, place, now) && is_over {
-            self.close(place);
+        if is_over {
+            self.dismiss(registry, place, now);
+        } else {
+            let _ = self.visit(registry, place, now);
         }
     }
 
     /// Closes the connection of a place, whose guest gets no word and no line of its own.
     fn close(&mut self, place: usize) {
-        if let Some(guest) = self.places.take(place) {
-            if !guest.is_answered() {
+        if let Some(mut guest) = self.places.take(place) {
+            if guest.is_answered() {
+                let _ = guest.read_on();
+            } else {
                 self.notice.count();
             }
+        }
+    }
+
+    /// Has the guest of a place go, behind a last look at what it has to say.
+    fn dismiss(&mut self, registry: &Registry, place: usize, now: u64) {
+        if !self.visit(registry, place, now) {
+            self.close(place);
         }
     }
 
@@ -187,12 +198,10 @@ impl<'a, E: Ear> Hall<'a, E> {
         }
     }
 
-    /// Has the guest go whose place is wanted, if it has nothing to say even now.
+    /// Has the guest go whose place is wanted.
     fn make_room(&mut self, registry: &Registry, now: u64) {
         if let Some(place) = self.places.wanted() {
-            if !self.visit(registry, place, now) {
-                self.close(place);
-            }
+            self.dismiss(registry, place, now);
         }
     }
 
@@ -222,7 +231,7 @@ impl<'a, E: Ear> Hall<'a, E> {
         for place in 0..PLACES {
             match self.places.standing(place, now) {
                 Standing::Calm => {}
-                Standing::Late => self.close(place),
+                Standing::Late => self.dismiss(registry, place, now),
                 Standing::Half => {
                     let is_gone = self.visit(registry, place, now);
                     self.has_half = self.has_half || !is_gone;

@@ -8,11 +8,22 @@ use std::net::SocketAddr;
 /// How far apart two things are told at least, in milliseconds.
 const APART: u64 = 1_000;
 
-/// What was told last, and what was not.
+/// A guest that gives the keys, and the connection that it waits behind.
+#[derive(Clone, Copy)]
+struct Waiting {
+    peer: SocketAddr,
+    behind: SocketAddr,
+}
+
+/// When something was told last, and what was not told yet.
 #[derive(Drop)]
 pub(crate) struct Notice {
+    /// The moment of the last thing that was told, in milliseconds.
     last: Option<u64>,
+    /// How many guests were turned away and not told of.
     more: u64,
+    /// The last guest that waits and was not told of. It goes before those who were turned away, who may be many.
+    waiting: Option<Waiting>,
 }
 
 /// The session that a guest asked for, where it is another one.
@@ -38,6 +49,7 @@ impl Notice {
         Notice {
             last: None,
             more: 0,
+            waiting: None,
         }
     }
 
@@ -59,7 +71,7 @@ impl Notice {
 
     /// A guest was rejected.
     pub(crate) fn refuse<E: Ear>(&mut self, ear: &E, peer: SocketAddr, reject: Reject, now: u64) {
-        if !self.may_tell(now) {
+        if self.waiting.is_some() || !self.may_tell(now) {
             self.count();
             return;
         }
@@ -73,14 +85,18 @@ impl Notice {
 
     /// A guest that gives the keys waits behind another connection.
     pub(crate) fn wait<E: Ear>(&mut self, ear: &E, peer: SocketAddr, behind: SocketAddr, now: u64) {
-        if self.may_tell(now) {
-            ear.hear(Heard::Waits { peer, behind });
-        }
+        self.waiting = Some(Waiting { peer, behind });
+        self.catch_up(ear, now);
     }
 
-    /// Tells how many were turned away and not told of, where it may.
+    /// Tells what was not told yet, where it may: who waits, else how many were turned away.
     pub(crate) fn catch_up<E: Ear>(&mut self, ear: &E, now: u64) {
-        if self.more > 0 && self.may_tell(now) {
+        if let Some(Waiting { peer, behind }) = self.waiting {
+            if self.may_tell(now) {
+                ear.hear(Heard::Waits { peer, behind });
+                self.waiting = None;
+            }
+        } else if self.more > 0 && self.may_tell(now) {
             ear.hear(Heard::TurnedAway { others: self.more });
             self.more = 0;
         }

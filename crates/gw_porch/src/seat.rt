@@ -1,5 +1,7 @@
 //! The seat: where a guest that gives the keys waits to be let in, and what is known of the connection that is lent meanwhile.
 
+ghost use Rattle.std.specs.Prelude.{◌≡◌};
+
 use crate::claim::Claim;
 use crate::guest::{Guest, PATIENCE};
 use std::net::SocketAddr;
@@ -61,7 +63,9 @@ impl Seat {
     }
 
     /// Has a guest wait that gives the keys, in the place of one that waits already, and answers whom it waits behind.
-    pub(crate) fn park(&mut self, guest: Guest, claim: Claim, now: u64) -> Option<SocketAddr> {
+    pub(crate) fn park(&mut self, guest: Guest, claim: Claim, now: u64) -> Option<SocketAddr>
+        ensures lent { self.new.lent ≡ self.old.lent }
+    {
         self.parked = Some(Parked {
             guest,
             claim,
@@ -134,7 +138,9 @@ impl Seat {
     }
 
     /// The guest that has waited too long, and whether the older connection has lived meanwhile.
-    pub(crate) fn late(&mut self, now: u64) -> Option<(Guest, Option<Claim>)> {
+    pub(crate) fn late(&mut self, now: u64) -> Option<(Guest, Option<Claim>)>
+        ensures lent { self.new.lent ≡ self.old.lent }
+    {
         let parked = self.parked.take()?;
         if now.saturating_sub(parked.since) < PATIENCE {
             self.parked = Some(parked);
