@@ -23,6 +23,8 @@ pub struct Ahead<S> {
     text: Vec<u8>,
     /// How many bytes of the text were given.
     given: usize,
+    /// Whether its end was met as it was read ahead: it is not asked again then, since a FIFO may have another writer meanwhile.
+    is_over: bool,
 }
 
 impl<S> Ahead<S> {
@@ -32,6 +34,7 @@ impl<S> Ahead<S> {
             inner,
             text: Vec::new(alloc),
             given: 0,
+            is_over: false,
         }
     }
 
@@ -46,6 +49,7 @@ impl<S> Ahead<S> {
             inner,
             text: _,
             given: _,
+            is_over: _,
         } = self;
         inner
     }
@@ -60,7 +64,11 @@ impl<S: Source> Ahead<S> {
             return false;
         }
         match self.inner.pull(&mut piece) {
-            Ok(0) | Err(_) => false,
+            Ok(0) => {
+                self.is_over = true;
+                false
+            }
+            Err(_) => false,
             Ok(count) => self.text.extend_from_slice(&piece[..count]).is_ok(),
         }
     }
@@ -95,6 +103,9 @@ impl<S: Source> Source for Ahead<S> {
         let given = self.given.min(self.text.len());
         let (_, left) = self.text.as_slice().split_at(given);
         if left.is_empty() {
+            if self.is_over {
+                return Ok(0);
+            }
             return self.inner.pull(into);
         }
         let count = copy_front(into, left);
