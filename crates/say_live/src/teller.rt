@@ -30,6 +30,9 @@ const APART: &str =
 /// Why it cannot where a flow differs.
 const OTHER_FLOW: &str = "server_flow is another one at the peer than in CONFIG";
 
+/// Why one is refused that gives other credentials.
+const OTHER_CREDENTIALS: &str = "its credentials are not those in CONFIG";
+
 /// The permission of all users to read a file.
 const READ_BY_ALL: u32 = 0o004;
 
@@ -471,7 +474,7 @@ impl<'a, R: Clock + Eprint + Files<File = File>> Teller<'a, R> {
     fn refuse_session(&self, m: &NegotiationReject<'_>) {
         match m.code {
             1 => self.warn(self.other_session()),
-            2 => self.warn(self.refused("its credentials are not those in CONFIG")),
+            2 => self.warn(self.refused(OTHER_CREDENTIALS)),
             3 => self.warn(self.refused_flow()),
             _ => {}
         }
@@ -502,7 +505,7 @@ impl<'a, R: Clock + Eprint + Files<File = File>> Teller<'a, R> {
             2 => self.say(self.refused("the session is not negotiated yet, and it may do so")),
             3 => self.warn(self.refused("the connection is established already")),
             5 => self.warn(self.refused_keepalive()),
-            6 => self.warn(self.refused("its credentials are not those in CONFIG")),
+            6 => self.warn(self.refused(OTHER_CREDENTIALS)),
             _ => {}
         }
     }
@@ -524,7 +527,10 @@ impl<'a, R: Clock + Eprint + Files<File = File>> Teller<'a, R> {
         let mut line = self.of_guest(peer)?;
         match asked {
             Some(session) => self.push_other_session(&mut line, &session)?,
-            None => line.push_str("refused: its credentials are not those in CONFIG")?,
+            None => {
+                line.push_str("refused: ")?;
+                line.push_str(OTHER_CREDENTIALS)?;
+            }
         }
         if others > 0 {
             write!(line, "; others turned away: {others}")?;
