@@ -1,5 +1,7 @@
 //! What the commands are, for people.
 
+ghost use Rattle.std.specs.Prelude.{◌≡◌};
+
 use crate::report::Report;
 use cmd_run::Status;
 use say_words::quoted;
@@ -326,6 +328,8 @@ fn line_of<R: AllocGlobal>(rt: &R, words: &[String]) -> Result<String, AllocErro
 }
 
 /// The report of words that are no listed form.
-pub fn usage_fault<R: AllocGlobal>(rt: &R, words: &[String]) -> Report {
+pub fn usage_fault<R: AllocGlobal>(rt: &R, words: &[String]) -> Report
+    ensures { result.status ≡ Status.Words }
+{
     Report::told(Status::Words, line_of(rt, words).ok())
 }
