@@ -199,7 +199,7 @@ fn add_end<N>(text: &mut String, ended: &Ended<MemSink, MemDisk, N>) -> Result<(
 }
 
 /// Runs a life over devices in memory and this dialer.
-fn lived<N: Dialer, R: Threads + Wait + Sync>(
+fn lived<N: Dialer + Drop, R: Threads + Wait + Sync>(
     rt: &R,
     alloc: Global,
     life: Life<'_>,
