@@ -4,13 +4,22 @@ ghost use Rattle.std.specs.Prelude.{◌≡◌, ◌≤◌, false, length};
 
 use cmd_config::{Purpose, Role, read_configuration};
 use conn_keys::{Keys, Knowing};
+use gw_links::{Dialer, Next};
 use gw_outside::{Bytes, Failed, Source};
-use gw_porch::PortGuests;
-use gw_watch::Ear;
+use gw_porch::{PortGuests, PortLink};
+use gw_real::Named;
+use gw_sockets::{SocketReason, SocketWaker};
+use gw_watch::{Approach, Approaches};
+use say_live::Teller;
+use say_session::SaysWhy;
 use schema_toml::TEXT_LIMIT;
-use session_files::Session;
+use session_files::{Session, push_place};
 use std::alloc::{AllocError, Global};
+use std::fs::File;
+use std::io::ErrorKind;
 use std::net::{Net, TcpListener, TcpStream};
+use std::rt::Files;
+use std::sync::atomic::AtomicBool;
 use std::time::Clock;
 
 /// How many bytes are read ahead at once.
@@ -156,15 +165,86 @@ fn shut(alloc: Global) -> Door {
     }
 }
 
-/// The dialer of `accept`, which hands on who gives the keys that this text of CONFIG has. Where it is none, which the session finds itself, nobody is let in.
-pub fn dialer_of<'a, R: Net<Listener = TcpListener, Stream = TcpStream> + Clock, E: Ear>(
+/// The dialer of `accept`, which hands on who gives the session's keys. Its type names one lifetime: the borrow checker covers no call with a type of several
+/// beside a `Session`, in which is a `'static`.
+#[derive(Drop)]
+pub struct DoorDialer<'a, R> {
+    inner: Knowing<PortGuests<'a, R, Teller<'a, R>>>,
+}
+
+impl<
+    'a,
+    R: Net<Listener = TcpListener, Stream = TcpStream> + Clock + Eprint + Files<File = File>,
+> Dialer for DoorDialer<'a, R> {
+    type Link = PortLink<'a, R, Teller<'a, R>>;
+
+    type Waker = SocketWaker;
+
+    ghost use Rattle.std.specs.Prelude.{None};
+
+    ghost told = { λ d. None };
+
+    ghost lent = { λ d. d.inner.guests.is_lent };
+
+    ghost faults = { λ d. d.inner.guests.faults };
+
+    fn next(&mut self, stop: &AtomicBool) -> Result<Next<Self::Link>, Failed> {
+        self.inner.next(stop)
+    }
+
+    fn waker(&self) -> SocketWaker {
+        self.inner.waker()
+    }
+
+    fn back(&mut self, link: Self::Link) {
+        self.inner.back(link);
+    }
+}
+
+impl<
+    R: Net<Listener = TcpListener, Stream = TcpStream> + Clock + Eprint + Files<File = File>,
+> Approaches for DoorDialer<'_, R> {
+    fn approach(&mut self) -> Approach {
+        self.inner.approach()
+    }
+}
+
+/// What to look at where an address cannot be listened at.
+fn advice(kind: ErrorKind) -> &'static str {
+    match kind {
+        ErrorKind::AddrInUse => ": another process has it (tried for a second)",
+        ErrorKind::AddrNotAvailable => ": it is no address of this machine",
+        _ => "",
+    }
+}
+
+impl<R> SaysWhy for DoorDialer<'_, R> {
+    fn push_why(&self, line: &mut String, name: Named<'_>) -> Result<bool, AllocError> {
+        let Some(reason) = self.inner.guests().reason() else {
+            return Ok(false);
+        };
+        push_place(line, name)?;
+        let advice = match &reason {
+            SocketReason::System(error) => advice(error.kind()),
+            _ => "",
+        };
+        write!(line, "{reason}{advice}")?;
+        Ok(true)
+    }
+}
+
+/// The dialer of `accept`, by this text of CONFIG. Where it is none, which the session finds itself, nobody is let in.
+pub fn dialer_of<
+    'a,
+    R: Net<Listener = TcpListener, Stream = TcpStream> + Clock + Eprint + Files<File = File>,
+>(
     rt: &'a R,
     alloc: Global,
-    ear: &'a E,
+    ear: &'a Teller<'a, R>,
     session: Session<'a>,
     config: &[u8],
-) -> Knowing<PortGuests<'a, R, E>>
-    ensures { result.guests.is_lent ≡ false }
+) -> DoorDialer<'a, R>
+    ensures { result.inner.guests.is_lent ≡ false }
 {
     let (door, most) = match door_of(alloc, config) {
         Some(door) => (door, u64::from(session.most)),
@@ -176,5 +256,7 @@ pub fn dialer_of<'a, R: Net<Listener = TcpListener, Stream = TcpStream> + Clock,
         own,
     } = door;
     let guests = PortGuests::new(rt, alloc, ear, session.address, guests, own);
-    Knowing::new(guests, dialer, most)
+    DoorDialer {
+        inner: Knowing::new(guests, dialer, most),
+    }
 }

@@ -94,14 +94,23 @@ fn is_stranger(word: &str) -> bool {
     word.as_bytes().first() == Some(&b'?')
 }
 
+/// A guest that gives the bytes of a word.
+#[tactic(auto, using(crate::proofs::Fresh::fresh_guest))]
+fn guest_of(alloc: Global, word: &str) -> Result<MemGuest, AllocError>
+    ensures fresh { IfOk result IsFresh }
+{
+    let given = bytes(alloc, word.trim_start_matches('?'))?;
+    let guest = MemGuest::new(alloc, given.as_slice(), 4096, false)?;
+    Ok(guest)
+}
+
 /// A guest of each word.
 fn guests_of(alloc: Global, words: &str) -> Result<Vec<MemGuest>, AllocError>
     ensures fresh { IfOk result (λ guests. All IsFresh guests.items) }
 {
     let mut guests = Vec::new(alloc);
     for word in words.split_whitespace() {
-        let given = bytes(alloc, word.trim_start_matches('?'))?;
-        guests.push(MemGuest::new(alloc, given.as_slice(), 4096, false)?)?;
+        guests.push(guest_of(alloc, word)?)?;
     }
     Ok(guests)
 }
