@@ -29,7 +29,7 @@ use cmd_base::{JournalCause, Status};
 use conn_serve::{Lent, Opening, ServeFault, serve_lent};
 use fixp_shake::EndConfig;
 use gate_senders::{Gate, Kept};
-use gate_staff::{Plans, Sender, count_done, give_last, seat, take_last, unseat};
+use gate_staff::{Plans, Sender, count_done, give_connection, seat, take_connection, unseat};
 use gate_turn::Passes;
 use gw_links::{Clock, Dialer};
 use gw_outside::{Disk, Sink};
@@ -142,8 +142,8 @@ fn serve_seated<
     let count = plans.len() as u16;
     // Seats are given from the last plan on.
     plans.as_mut_slice().reverse();
+    let pass = take_connection(gate, passes, count);
     let mut senders = seat(gate, passes, plans, seats);
-    let pass = take_last(gate, passes, count);
     count_done(gate, &mut senders, rt);
     let opening = Opening {
         alloc,
@@ -168,8 +168,8 @@ fn serve_seated<
         pass,
         inbox,
     } = lent;
-    give_last(gate, passes, count, pass);
-    unseat(gate, senders.into_senders(), passes);
+    *passes = unseat(gate, senders.into_senders());
+    give_connection(gate, passes, count, pass);
     Lived {
         answer,
         devices: Live { out, dialer, clock },

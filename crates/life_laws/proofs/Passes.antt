@@ -13,7 +13,7 @@ use Rattle.jr_boxes.specs.declared.faults.SubmitFault.{SubmitFault}
 use Rattle.jr_boxes.specs.declared.faults.SubmitFault.TheVariants as submit
 use Rattle.gate_turn.specs.Views.{Account, HasFailed, Part, new_part}
 use Rattle.gate_turn.specs.Places.{known}
-use Rattle.gate_turn.specs.Listed.{pass_at, known_if, known_at}
+use Rattle.gate_turn.specs.Listed.{known_at}
 use Rattle.gate_turn.specs.declared.pass.Pass.{Pass}
 use Rattle.gate_turn.specs.declared.passes.Passes.{Passes}
 use Rattle.gate_turn.proofs.Failing.{failed_before}
@@ -37,7 +37,7 @@ use Rattle.conn_serve.specs.Opening.{ServedThrough}
 use Rattle.life_laws.specs.Plans.{plan_in, PlansMade}
 use Rattle.life_laws.specs.PlanLives.{AreUnhindered, Clocked, clocked, SomePass, SeesMark, SeesFailure, MetFull, BlamesInbox, FillsInbox, ServedAt}
 use Rattle.life_laws.proofs.Back as back
-use Rattle.life_laws.proofs.Back.{at_place}
+use Rattle.gate_staff.proofs.Seating.{at_place}
 use Rattle.life_laws.proofs.Senders.{PartMade, AllFresh, SendersMade, senders_made, ran_part, ran_at, ran_next_at, ran_seen_at}
 use Rattle.conn_serve.specs.Moments.{life_at, faults_at, serving_at, beside}
 
@@ -90,28 +90,24 @@ pub blamed_at : {A : Type 0} (P : ServeFault → Type 0) (r : Result A ServeFaul
 blamed_at P (Ok a) x h e = cc
 blamed_at P (Err y) x h e = let same : y ≡ x = cc in subst P same h
 
--- what a pass knew that was made and took no turn, by its place in a list that it was taken out of
-pub part_at : {T : Type 0} (old at : Passes T) (pass : Pass T) (n : ℕ) (p : Part) → known_at old n ≡ p → pass_at at n ≡ pass_at old n → pass_at at n ≡ Some pass → known pass ≡ p
-part_at {T} old at pass n p is same there = ap (λ (o : Option (Pass T)). known_if o) (sym there ∙ same) ∙ is
-
-module _ {J : Type 0} {G : Ghosts J} (gate : Gate J G) (a : Account) (plans : List (List (List ℕ))) (seated counted after : List (Sender J G)) (old new : Passes (Kept J G)) (last : Pass (Kept J G)) (first now : Part)
-    (fresh : AllFresh gate a plans seated) (count : CountedEach gate seated counted) (seats : Seated gate after (length plans + 1)) (theirs : HasTheirs old new after) (there : pass_at old (length plans + 1) ≡ Some last)
+module _ {J : Type 0} {G : Ghosts J} (gate : Gate J G) (a : Account) (plans : List (List (List ℕ))) (seated counted after : List (Sender J G)) (new : Passes (Kept J G)) (last : Pass (Kept J G)) (first now : Part)
+    (fresh : AllFresh gate a plans seated) (count : CountedEach gate seated counted) (seats : Seated gate after (length plans + 1)) (theirs : HasTheirs new after last)
     (was : (m : ℕ) × (first ≡ new_part (length plans + 1) m a)) (looks : Looks first now) (now_is : known last ≡ now) (only : length plans ≡ 0 → first.made ≡ 1) where
   -- what they are of those that are back
   plans_made : SendersMade gate a plans after → PlansMade a plans (known_at new)
-  plans_made m = back.plans_made gate a plans after old new last first now seats theirs there was looks now_is only m
+  plans_made m = back.plans_made gate a plans after new last first now seats theirs was looks now_is only m
 
   last_at : SendersMade gate a plans after → known_at new (length plans + 1) ≡ now
-  last_at m = back.last_at gate a plans after old new last first now seats theirs there was looks now_is only m
+  last_at m = back.last_at gate a plans after new last first now seats theirs was looks now_is only m
 
   some_sender : SendersMade gate a plans after → (P : Part → Type 0) (i : ℕ) (d : Sender J G) → i < length after → P (known (slice_index_or after i d).pass) → SomePass (length plans + 1) P (known_at new)
-  some_sender m P i d lt p = back.some_sender gate a plans after old new last first now seats theirs there was looks now_is only m P i d lt p
+  some_sender m P i d lt p = back.some_sender gate a plans after new last first now seats theirs was looks now_is only m P i d lt p
 
   marked_at : SendersMade gate a plans after → SomeMarked after → SomePass (length plans + 1) SeesMark (known_at new)
-  marked_at m k = back.marked_at gate a plans after old new last first now seats theirs there was looks now_is only m k
+  marked_at m k = back.marked_at gate a plans after new last first now seats theirs was looks now_is only m k
 
   last_failed : SendersMade gate a plans after → HasFailed first.faults now.faults ⊎ HasFailed now.opening.faults now.faults → SomePass (length plans + 1) SeesFailure (known_at new)
-  last_failed m f = back.last_failed gate a plans after old new last first now seats theirs there was looks now_is only m f
+  last_failed m f = back.last_failed gate a plans after new last first now seats theirs was looks now_is only m f
 
   -- what the refusal of a life shows
   module _ (refused : Option ServeFault) (s : SubmittedAll gate counted after refused) where

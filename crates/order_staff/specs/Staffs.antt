@@ -10,7 +10,7 @@ use Rattle.gate_turn.specs.declared.passes.Passes.{Passes}
 use Rattle.gate_senders.specs.Gate.{senders_of, IsPassAt}
 use Rattle.gate_senders.specs.declared.gate.Gate.{Gate}
 use Rattle.gate_senders.specs.declared.kept.Kept.{Kept}
-use Rattle.gate_staff.specs.Seats.{Seated, HasBehind}
+use Rattle.gate_staff.specs.Seats.{Seated}
 use Rattle.gate_staff.specs.declared.sender.Sender.{Sender}
 use Rattle.gate_staff.specs.Business.{lock_of}
 use Rattle.order_desk.specs.Schema.{IsVersion}
@@ -33,7 +33,7 @@ MayBe (posts.Desks terms) = (0 < terms.desks) × (terms.desks ≤ 16) × IsVersi
 module _ {J : Type 0} {G : Ghosts J} where
   -- how many send
   abbrev pub count_of : Staff J G → ℕ
-  count_of (staffs.Senders senders passes) = vec_len senders
+  count_of (staffs.Senders senders) = vec_len senders
   count_of (staffs.Desks count desks) = count
 
   -- so many who answer have their passes, which are the first ones of this gate
@@ -46,7 +46,7 @@ module _ {J : Type 0} {G : Ghosts J} where
 
   -- they have the passes of the first numbers
   abbrev pub IsSeatedAt : Gate J G → Staff J G → Type 0
-  IsSeatedAt gate (staffs.Senders senders passes) = Seated gate senders.items (vec_len senders + 1) × HasBehind gate passes (vec_len senders + 1) (vec_len senders + 1)
+  IsSeatedAt gate (staffs.Senders senders) = Seated gate senders.items (vec_len senders + 1)
   IsSeatedAt gate (staffs.Desks count desks) = HasFirst gate count (HasPasses (lock_of gate) desks) (part_in desks.hands.items) × (desks.desks ≡ count)
 
   -- and the connection has the one behind them
@@ -64,7 +64,7 @@ module _ {J : Type 0} {G : Ghosts J} where
 
   -- and each sender of an end, where it has senders
   abbrev pub sent_in : Staff J G → Option (List ℕ)
-  sent_in (staffs.Senders senders passes) = Some (sent_by senders.items)
+  sent_in (staffs.Senders senders) = Some (sent_by senders.items)
   sent_in (staffs.Desks count desks) = None
 
   -- the passes of the first numbers made so many entries each
