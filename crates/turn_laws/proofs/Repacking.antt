@@ -1,5 +1,6 @@
 -- The parts of a turn, as the loop has them, are those of the laws.
-use Rattle.std.proofs.Common.{◌≡◌, inl, inr, ℕ, ◌<◌, ◌≤◌, max, Bool, List, ◌++◌, refl, sym, ap, subst, ◌∙◌, append-nil}
+use Rattle.gw_outside.specs.Faults.{HasRisen}
+use Rattle.std.proofs.Common.{◌≡◌, inl, inr, ℕ, ◌<◌, ◌≤◌, max, Bool, true, List, ◌++◌, refl, sym, ap, subst, ◌∙◌, append-nil}
 use Rattle.std.proofs.lemmas.List.Elements.{All-nil}
 use Rattle.session_model.specs.Journal.{History}
 use Rattle.jr_dated.specs.declared.journal.Journal.{Ghosts}
@@ -18,6 +19,7 @@ use Rattle.conn_loop.specs.Live.{EndAt}
 use Rattle.conn_loop.specs.Turned.{CutShort, CutMore, Exchanged}
 use Rattle.turn_laws.specs.Turns.{Sends, Works, line_received}
 use Rattle.turn_laws.specs.Made.{turn_at, calls_unsent, DoesMore, SendsAll}
+use Rattle.turn_laws.specs.Legs.{is_lost}
 use Rattle.turn_laws.specs.Turned.{WasTurn, WasCut, TurnIsOne, CutIsOne}
 
 -- the line as the frames of a work are taken of it
@@ -41,9 +43,9 @@ work_unsent now before seen old behind w at served =
 
 module _ {J : Type 0} {G : Ghosts J} where
   pub turn_is_one : (tells : Type 0) (box : Inbox J G) → TurnIsOne tells box
-  turn_is_one tells box eager before after old new result time clock (inl x) =
+  turn_is_one tells box eager before after losses losses' old new result time clock (inl x) =
       let now : ℕ = max after old.line.machine.moment in
-      record {
+      (record {
         turn = only_sends now x.sent.sent x.sent.lost;
         made = record {
           result = result;
@@ -57,14 +59,14 @@ module _ {J : Type 0} {G : Ghosts J} where
         faithful = λ _. tt;
         gains = gains_none old.box new.box x.same_box;
         news_are = x.same_news ∙ sym (append-nil old.news);
-      }
-  turn_is_one tells box eager before after old new result time clock (inr x) = by_kind x.exchanged
+      }, x.sent.cause)
+  turn_is_one tells box eager before after losses losses' old new result time clock (inr x) = by_kind x.exchanged
     where
       now : ℕ
       now = max after old.line.machine.moment
 
-      by_kind : Exchanged tells now eager (record old { line = line_ticked old.line now }) new result → WasTurn tells eager before after old new
-      by_kind (inl w) = record {
+      by_kind : Exchanged tells losses losses' now eager (record old { line = line_ticked old.line now }) new result → (was : WasTurn tells eager before after old new) × (is_lost was.turn ≡ true → HasRisen losses losses')
+      by_kind (inl w) = (record {
         turn = works w.work;
         made = record {
           result = result;
@@ -83,15 +85,15 @@ module _ {J : Type 0} {G : Ghosts J} where
         faithful = w.faithful;
         gains = subst (λ (n : ℕ). Gains old.box new.box (added n (line_worked old.line n w.work) w.work.frames)) (sym w.at) w.gains;
         news_are = subst (λ (n : ℕ). new.news ≡ old.news ++ told n (line_worked old.line n w.work) w.work.frames) (sym w.at) w.news_are;
-      }
-      by_kind (inr l) = record {
+      }, w.cause)
+      by_kind (inr l) = (record {
         turn = link_lost now;
         made = record { result = result; is = (l.line, l.same_seen); does = ((x.little, x.unended), l.answer); moved = l.moved; moment = refl; clock = clock };
         timely = record { bytes = All-nil (λ (b : ℕ). b < 256); time = time };
         faithful = λ _. tt;
         gains = gains_none old.box new.box l.same_box;
         news_are = l.same_news ∙ sym (append-nil old.news);
-      }
+      }, λ _. l.cause)
 
   cut_more_is_one : (eager : Bool) (before after : ℕ) (old new : EndAt J G) (fault : TurnFault) → IsInTime (max after old.line.machine.moment) → before ≤ after → CutMore (max after old.line.machine.moment) eager old new fault
       → WasCut eager before after old new fault
