@@ -7,7 +7,7 @@ use crate::sequence::Sequence;
 use cases_words::{halves, number};
 use gw_fakes::MemDisk;
 use gw_outside::Disk;
-use jr_dated::Limits;
+use jr_dated::{Form, Limits};
 use jr_segments::{SegJournal, format};
 use std::alloc::{AllocError, Global};
 
@@ -24,6 +24,7 @@ const ROOM: usize = 1 << 19;
 const WIDE: Limits = Limits {
     entries: 1000,
     bytes: 1 << 20,
+    form: Form::Two,
 };
 
 /// A journal on a disk, and the list that it is.
@@ -36,7 +37,7 @@ struct Start {
 /// A journal without records.
 fn empty(alloc: Global) -> Result<Start, AllocError> {
     let mut disk = MemDisk::without_faults(alloc, ROOM)?;
-    let _ = format(&mut disk);
+    let _ = format(&mut disk, Form::Two);
     Ok(Start {
         disk,
         plain: Plain::new(alloc),

@@ -25,8 +25,9 @@ use std::sync::Wait;
 /// How a journal begins: its magic, and behind it zeros up to the end of its header and the closed byte.
 const JOURNAL: Begun = Begun {
     mark: b"FIXPJRN2",
-    older: b"FIXPJRN1",
+    others: [b"FIXPJRN1", b"FIXPJRN3"],
     length: 17,
+    is_plain: true,
 };
 
 /// The file that the word at a place names, from 1, behind the command; 0 is no file.

@@ -5,7 +5,6 @@ use Rattle.schema_toml.specs.declared.fault.ConfigFault.{ConfigFault}
 use Rattle.sbe_layout.specs.declared.plan.Plan.{Plan}
 use Rattle.jr_record.specs.declared.faults.OpenFault.{OpenFault}
 use Rattle.jr_record.specs.declared.faults.OpenFault.TheVariants as faults
-use Rattle.jr_dated.specs.declared.formats.Format.TheVariants.{Two}
 use Rattle.jr_dated.specs.Dated.{Dated}
 use Rattle.jr_stream.specs.Reading.{IsUnread, Refuses}
 use Rattle.jr_stream.specs.declared.reader.End.{End}
@@ -168,7 +167,7 @@ gave_refused asked out (outcomes.NotFormatted origin) schema is judged ok = absu
 gave_refused asked out (outcomes.Damaged at) schema is judged ok = absurd is
 
 -- nor where no journal was found when its end was looked for
-pub gave_ahead : (asked : Asked) (out : Option (List ℕ)) (fault : OpenFault) → Refuses Two fault asked.ahead → Gave asked out out (unread_by Ahead fault)
+pub gave_ahead : (asked : Asked) (out : Option (List ℕ)) (fault : OpenFault) → Refuses fault asked.ahead → Gave asked out out (unread_by Ahead fault)
 gave_ahead asked out faults.Memory refused = inl (keeps_self out)
 gave_ahead asked out faults.Fault refused = keeps_self out
 gave_ahead asked out faults.NotFormatted refused = (refused, keeps_self out)

@@ -7,10 +7,9 @@ use Rattle.sbe_layout.specs.declared.plan.Plan.{Plan}
 use Rattle.jr_record.specs.declared.record.Record.{Record}
 use Rattle.jr_record.specs.declared.faults.OpenFault.{OpenFault}
 use Rattle.jr_record.specs.declared.faults.OpenFault.TheVariants as faults
-use Rattle.jr_dated.specs.declared.formats.Format.{Format}
-use Rattle.jr_dated.specs.declared.formats.Format.TheVariants.{Two}
+use Rattle.jr_dated.specs.declared.form.Form.{Form}
 use Rattle.jr_dated.specs.Dated.{Dated, stamped}
-use Rattle.jr_stream.specs.Images.{BeginsWith, HasRecords}
+use Rattle.jr_stream.specs.Images.{HasRecords}
 use Rattle.jr_stream.specs.Reading.{Reading, HasTaken, IsUnread, Refuses}
 use Rattle.jr_stream.specs.declared.reader.End.{End}
 use Rattle.jr_stream.specs.declared.reader.End.TheVariants as ends
@@ -32,40 +31,38 @@ pub keeps_self : (out : Option (List ℕ)) → Keeps out out
 keeps_self None = tt
 keeps_self (Some xs) = refl
 
--- the journal begins with the records that were taken
-front : (before now : Option (List ℕ)) (records : List Dated) (r : Reading) (image : List ℕ) → r.format ≡ Two → HasTaken before now records r → before ≡ Some image → BeginsWith Two image records
-front before now records r image is h e = subst (λ (f : Format). BeginsWith f image records) is (begins before now records r h image e)
-
 -- some lines of these records were given
-some : (asked : Asked) (start : Start) (before now after : Option (List ℕ)) (records : List Dated) (r : Reading) (out new : Option (List ℕ)) → IsStart asked.choice.begin asked.ahead start → r.format ≡ Two
-    → HasTaken before now records r → before ≡ Some asked.image → TakesFront out new (records_shown asked.choice.style asked.plan start asked.choice.most records) → GaveSome asked out new
-some asked start before now after records r out new is_start is h e gained = record {
-  lines = records_shown asked.choice.style asked.plan start asked.choice.most records;
-  shows = record { start = start; is_start = is_start; records = records; front = front before now records r asked.image is h e; lines_are = refl };
+some : (asked : Asked) (start : Start) (before now : Option (List ℕ)) (records : List Dated) (r : Reading) (out new : Option (List ℕ)) → IsStart asked.choice.begin asked.ahead start
+    → HasTaken before now records r → before ≡ Some asked.image → TakesFront out new (records_shown asked.choice.style asked.plan r.form start asked.choice.most records) → GaveSome asked out new
+some asked start before now records r out new is_start h e gained = record {
+  lines = records_shown asked.choice.style asked.plan r.form start asked.choice.most records;
+  shows = record { form = r.form; start = start; is_start = is_start; records = records; front = begins before now records r asked.image h e; lines_are = refl };
   gained = gained;
 }
 
 -- so far a front of the lines was given
 so_far : (asked : Asked) (start : Start) (before now : Streams) (r : Reading) (s : Shower) → Stands asked start before now r s → before.journal ≡ Some asked.image → GaveSome asked before.out now.out
 so_far asked start before now r s t e =
-    some asked start before.journal now.journal now.journal t.records r before.out now.out t.is_start t.format t.taken e
-    (shown_so_far asked.choice.style asked.plan start asked.choice.most t.records before.out now.out s t.showing)
+    some asked start before.journal now.journal t.records r before.out now.out t.is_start t.taken e
+    (shown_so_far asked.choice.style asked.plan r.form start asked.choice.most t.records before.out now.out s t.showing)
 
 -- ---- a round
 
 -- a record was taken
 pub after_record : (asked : Asked) (start : Start) (before : Streams) (journal left out new : Option (List ℕ)) (r next : Reading) (s more : Shower) (what : Record) (moment : ℕ) (o : Option Outcome)
-    → (t : Stands asked start before (record { journal = journal; out = out }) r s) → HasTaken before.journal left (t.records ++ stamped moment what ∷ []) next → next.format ≡ r.format
+    → (t : Stands asked start before (record { journal = journal; out = out }) r s) → HasTaken before.journal left (t.records ++ stamped moment what ∷ []) next → next.form ≡ r.form
     → Adds asked.plan (stamped moment what) out new s more o → AfterRound asked start before (record { journal = left; out = new }) next more o
 after_record asked start before journal left out new r next s more what moment None t taken same adds = record {
   is_start = t.is_start;
-  format = same ∙ t.format;
   records = t.records ++ stamped moment what ∷ [];
   taken = taken;
-  showing = adds asked.choice.style start asked.choice.most t.records before.out t.showing;
+  showing = subst (λ (f : Form). HasShown asked.choice.style asked.plan f start asked.choice.most (t.records ++ stamped moment what ∷ []) before.out new more) (sym same)
+      (adds asked.choice.style r.form start asked.choice.most t.records before.out t.showing);
 }
 after_record asked start before journal left out new r next s more what moment (Some outcomes.OutputFault) t taken same adds = λ e.
-    inl (some asked start before.journal left left (t.records ++ stamped moment what ∷ []) next before.out new t.is_start (same ∙ t.format) taken e (adds asked.choice.style start asked.choice.most t.records before.out t.showing))
+    inl (some asked start before.journal left (t.records ++ stamped moment what ∷ []) next before.out new t.is_start taken e
+    (subst (λ (f : Form). TakesFront before.out new (records_shown asked.choice.style asked.plan f start asked.choice.most (t.records ++ stamped moment what ∷ []))) (sym same)
+    (adds asked.choice.style r.form start asked.choice.most t.records before.out t.showing)))
 after_record asked start before journal left out new r next s more what moment (Some outcomes.Memory) t taken same adds = λ e.
     inr (subst (GaveSome asked before.out) (sym adds) (so_far asked start before (record { journal = journal; out = out }) r s t e))
 after_record asked start before journal left out new r next s more what moment (Some outcomes.Done) t taken same adds = absurd adds
@@ -75,32 +72,32 @@ after_record asked start before journal left out new r next s more what moment (
 after_record asked start before journal left out new r next s more what moment (Some (outcomes.Damaged at)) t taken same adds = absurd adds
 
 -- all lines of these records, and of this end, were given
-all : (asked : Asked) (start : Start) (records : List Dated) (end : End) (out new : Option (List ℕ)) → IsStart asked.choice.begin asked.ahead start → HasRecords Two asked.image records end
-    → Appends out new (shown asked.choice.style asked.plan start asked.choice.most records end) → GaveAll asked end out new
-all asked start records end out new is_start has gained = record {
-  lines = shown asked.choice.style asked.plan start asked.choice.most records end;
-  shows = record { start = start; is_start = is_start; records = records; has = has; lines_are = refl };
+all : (asked : Asked) (form : Form) (start : Start) (records : List Dated) (end : End) (out new : Option (List ℕ)) → IsStart asked.choice.begin asked.ahead start → HasRecords form asked.image records end
+    → Appends out new (shown asked.choice.style asked.plan form start asked.choice.most records end) → GaveAll asked end out new
+all asked form start records end out new is_start has gained = record {
+  lines = shown asked.choice.style asked.plan form start asked.choice.most records end;
+  shows = record { form = form; start = start; is_start = is_start; records = records; has = has; lines_are = refl };
   gained = gained;
 }
 
 module _ (asked : Asked) (start : Start) (before : Streams) (journal out new : Option (List ℕ)) (r : Reading) (s : Shower) (t : Stands asked start before (record { journal = journal; out = out }) r s) where
   -- the end was reached, and what waited was pushed with its line
-  ended : (end : End) → HasRecords Two asked.image t.records end → Appends out new (s.lines.items ++ end_in asked.choice.style end) → GaveAll asked end before.out new
+  ended : (end : End) → HasRecords r.form asked.image t.records end → Appends out new (s.lines.items ++ end_in asked.choice.style end) → GaveAll asked end before.out new
   ended end has gained =
-      all asked start t.records end before.out new t.is_start has (shown_all asked.choice.style asked.plan start asked.choice.most t.records before.out out new s end t.showing gained)
+      all asked r.form start t.records end before.out new t.is_start has (shown_all asked.choice.style asked.plan r.form start asked.choice.most t.records before.out out new s end t.showing gained)
 
-  finished : (end : End) (o : Outcome) → HasRecords Two asked.image t.records end → Finished asked.choice.style end s.lines.items out new o → o ≡ outcome_of end → Gave asked before.out new o
+  finished : (end : End) (o : Outcome) → HasRecords r.form asked.image t.records end → Finished asked.choice.style end s.lines.items out new o → o ≡ outcome_of end → Gave asked before.out new o
   finished (ends.Closed at) o has f is = subst (Gave asked before.out new) (sym is) (at, ended (ends.Closed at) has f.gained)
   finished (ends.Damaged at) o has f is = subst (Gave asked before.out new) (sym is) (ended (ends.Damaged at) has f.gained)
 
-  pub after_end : (end : End) (o : Outcome) → HasRecords Two asked.image t.records end → before.journal ≡ Some asked.image → Finishes asked.choice.style end s.lines.items out new o → Gave asked before.out new o
+  pub after_end : (end : End) (o : Outcome) → HasRecords r.form asked.image t.records end → before.journal ≡ Some asked.image → Finishes asked.choice.style end s.lines.items out new o → Gave asked before.out new o
   after_end end outcomes.Done has e f = finished end outcomes.Done has f f.outcome_is
   after_end end (outcomes.Damaged at) has e f = finished end (outcomes.Damaged at) has f f.outcome_is
   after_end end outcomes.OutputFault has e f = inr (record {
     end = end;
-    lines = shown asked.choice.style asked.plan start asked.choice.most t.records end;
-    shows = record { start = start; is_start = t.is_start; records = t.records; has = has; lines_are = refl };
-    gained = shown_part asked.choice.style asked.plan start asked.choice.most t.records before.out out new s end t.showing f;
+    lines = shown asked.choice.style asked.plan r.form start asked.choice.most t.records end;
+    shows = record { form = r.form; start = start; is_start = t.is_start; records = t.records; has = has; lines_are = refl };
+    gained = shown_part asked.choice.style asked.plan r.form start asked.choice.most t.records before.out out new s end t.showing f;
   })
   after_end end outcomes.Memory has e f = inr (subst (GaveSome asked before.out) (sym f) (so_far asked start before (record { journal = journal; out = out }) r s t e))
   after_end end (outcomes.Config fault) has e f = absurd f
@@ -122,26 +119,29 @@ finishes style (ends.Damaged at) waits out new o is gained = subst (Finishes sty
 -- ---- before the first round
 
 -- the header was read
-pub stands_none : (asked : Asked) (start : Start) (before : Streams) (left new : Option (List ℕ)) (r : Reading) (s : Shower) → IsStart asked.choice.begin asked.ahead start → r.format ≡ Two
-    → HasTaken before.journal left [] r → Appends before.out new [] → IsNew asked.choice.style start asked.choice.most s → Stands asked start before (record { journal = left; out = new }) r s
-stands_none asked start before left new r s is_start is taken nothing fresh = record {
+pub stands_none : (asked : Asked) (start : Start) (before : Streams) (left new : Option (List ℕ)) (r : Reading) (s : Shower) → IsStart asked.choice.begin asked.ahead start
+    → HasTaken before.journal left [] r → Appends before.out new [] → IsNew asked.choice.style r.form start asked.choice.most s → Stands asked start before (record { journal = left; out = new }) r s
+stands_none asked start before left new r s is_start taken nothing fresh = record {
   is_start = is_start;
-  format = is;
   records = [];
   taken = taken;
-  showing = shown_none asked.choice.style asked.plan start asked.choice.most before.out new s fresh nothing;
+  showing = shown_none asked.choice.style asked.plan r.form start asked.choice.most before.out new s fresh nothing;
 }
 
 -- it was read, and the output could not be begun
-pub unbegun : (asked : Asked) (start : Start) (before after : Streams) (r : Reading) → IsStart asked.choice.begin asked.ahead start → r.format ≡ Two → HasTaken before.journal after.journal [] r
+pub unbegun : (asked : Asked) (start : Start) (before after : Streams) (r : Reading) → IsStart asked.choice.begin asked.ahead start → HasTaken before.journal after.journal [] r
     → Appends before.out after.out [] → KeepsTo asked before after outcomes.OutputFault
-unbegun asked start before after r is_start is taken nothing = λ e.
-    inl (some asked start before.journal after.journal after.journal [] r before.out after.out is_start is taken e (record { count = 0; within = omega arith; appended = nothing }))
+unbegun asked start before after r is_start taken nothing = λ e.
+    inl (some asked start before.journal after.journal [] r before.out after.out is_start taken e (record { count = 0; within = omega arith; appended = nothing }))
 
 -- it was not
-pub unopened : (asked : Asked) (before after : Streams) (fault : OpenFault) → ForSome before.journal (Refuses Two fault) → ((at : ℕ) → fault ≡ faults.Damaged at → ⊥) → after.out ≡ before.out
+pub unopened : (asked : Asked) (before after : Streams) (fault : OpenFault) → ForSome before.journal (Refuses fault) → ((at : ℕ) → fault ≡ faults.Damaged at → ⊥) → after.out ≡ before.out
     → KeepsTo asked before after (unread_by Journal fault)
 unopened asked before after faults.Memory refused whole same = λ e. inl (subst (Keeps before.out) (sym same) (keeps_self before.out))
 unopened asked before after faults.Fault refused whole same = λ e. inl (subst (Keeps before.out) (sym same) (keeps_self before.out))
 unopened asked before after faults.NotFormatted refused whole same = λ e. (refused asked.image e, subst (Keeps before.out) (sym same) (keeps_self before.out))
 unopened asked before after (faults.Damaged at) refused whole same = λ e. absurd (whole at refl)
+
+-- there was no memory for the title
+pub untitled : (asked : Asked) (before after : Streams) → after.out ≡ before.out → KeepsTo asked before after outcomes.Memory
+untitled asked before after same = λ e. inl (subst (Keeps before.out) (sym same) (keeps_self before.out))

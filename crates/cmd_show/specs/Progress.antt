@@ -5,7 +5,7 @@ use Rattle.gw_outside.specs.Faults.{TakesFront}
 use Rattle.jr_record.specs.declared.faults.OpenFault.{OpenFault}
 use Rattle.jr_record.specs.declared.faults.OpenFault.TheVariants as faults
 use Rattle.sbe_layout.specs.declared.plan.Plan.{Plan}
-use Rattle.jr_dated.specs.declared.formats.Format.TheVariants.{Two}
+use Rattle.jr_dated.specs.declared.form.Form.{Form}
 use Rattle.jr_dated.specs.Dated.{Dated}
 use Rattle.jr_stream.specs.Reading.{Reading, HasTaken}
 use Rattle.jr_stream.specs.declared.reader.End.{End}
@@ -25,11 +25,11 @@ use Rattle.cmd_show.specs.Promise.{Asked, Gave}
 -- ---- records, one after another
 
 -- what was pushed and what waits are the lines of these records, whatever follows them
-pub record HasShown (style : Style) (plan : Plan) (start : Start) (most : ℕ) (records : List Dated) (before now : Option (List ℕ)) (s : Shower) : Type 0 where
+pub record HasShown (style : Style) (plan : Plan) (form : Form) (start : Start) (most : ℕ) (records : List Dated) (before now : Option (List ℕ)) (s : Shower) : Type 0 where
   pub pushed : List ℕ
   pub gained : Appends before now pushed
   pub style_is : s.style ≡ style
-  pub same : (ds : List Dated) → records_shown style plan start most (records ++ ds) ≡ pushed ++ (s.lines.items ++ goes_on plan s ds)
+  pub same : (ds : List Dated) → records_shown style plan form start most (records ++ ds) ≡ pushed ++ (s.lines.items ++ goes_on plan s ds)
 
 -- some lines were pushed, and the others wait
 pub record Pushes (out now : Option (List ℕ)) (old new : Shower) : Type 0 where
@@ -41,10 +41,10 @@ pub record Pushes (out now : Option (List ℕ)) (old new : Shower) : Type 0 wher
 
 -- what the next record leaves: it was taken and shown, or a front of all lines was pushed
 abbrev pub Adds : Plan → Dated → Option (List ℕ) → Option (List ℕ) → Shower → Shower → Option Outcome → Type 0
-Adds plan d out now old new None = (style : Style) (start : Start) (most : ℕ) (records : List Dated) (before : Option (List ℕ)) → HasShown style plan start most records before out old
-    → HasShown style plan start most (records ++ d ∷ []) before now new
-Adds plan d out now old new (Some outcomes.OutputFault) = (style : Style) (start : Start) (most : ℕ) (records : List Dated) (before : Option (List ℕ))
-    → HasShown style plan start most records before out old → TakesFront before now (records_shown style plan start most (records ++ d ∷ []))
+Adds plan d out now old new None = (style : Style) (form : Form) (start : Start) (most : ℕ) (records : List Dated) (before : Option (List ℕ)) → HasShown style plan form start most records before out old
+    → HasShown style plan form start most (records ++ d ∷ []) before now new
+Adds plan d out now old new (Some outcomes.OutputFault) = (style : Style) (form : Form) (start : Start) (most : ℕ) (records : List Dated) (before : Option (List ℕ))
+    → HasShown style plan form start most records before out old → TakesFront before now (records_shown style plan form start most (records ++ d ∷ []))
 Adds plan d out now old new (Some outcomes.Memory) = now ≡ out
 Adds plan d out now old new (Some _) = ⊥
 
@@ -89,10 +89,9 @@ KeepsTo asked before after outcome = before.journal ≡ Some asked.image → Gav
 -- these records were taken and shown
 pub record Stands (asked : Asked) (start : Start) (before now : Streams) (r : Reading) (s : Shower) : Type 0 where
   pub is_start : IsStart asked.choice.begin asked.ahead start
-  pub format : r.format ≡ Two
   pub records : List Dated
   pub taken : HasTaken before.journal now.journal records r
-  pub showing : HasShown asked.choice.style asked.plan start asked.choice.most records before.out now.out s
+  pub showing : HasShown asked.choice.style asked.plan r.form start asked.choice.most records before.out now.out s
 
 -- what a round leaves: it goes on, or the promise is kept
 abbrev pub AfterRound : Asked → Start → Streams → Streams → Reading → Shower → Option Outcome → Type 0

@@ -14,7 +14,6 @@ ghost use Rattle.cmd_show.specs.Progress.{Adds, AfterRound, Finishes, IsEnd, IsL
 use crate::outcome::{Origin, Outcome};
 use cmd_base::begin;
 use gw_outside::{Failed, Sink, Source, push_all};
-use jr_dated::Format;
 use jr_record::{OpenFault, Record};
 use jr_shown::{Choice, Shower, Start};
 use jr_stream::{End, Found, RecordReader};
@@ -138,7 +137,7 @@ fn round<S: Source, K: Sink>(
     }
 }
 
-/// Shows the records of a journal from the start on, and its end. The output is begun once the header was read.
+/// Shows the title of a journal, its records from the start on, and its end. The output is begun once the header was read.
 #[tactic(auto, using(crate::proofs::Judging::unread_late, crate::proofs::Judging::unread_cause, crate::proofs::Judging::unread_output))]
 pub(crate) fn show_records<R: Wait, S: Source, K: Sink>(
     rt: &R,
@@ -160,14 +159,16 @@ pub(crate) fn show_records<R: Wait, S: Source, K: Sink>(
     ensures journal_cause { result ≡ Outcome.InputFault Origin.Journal → HasRisen (S.faults journal.old) (S.faults journal.new) }
     ensures out_cause { result ≡ Outcome.OutputFault → HasRisen (K.faults out.old) (K.faults out.new) }
 {
-    let mut reader = match RecordReader::behind_header(alloc, Format::Two, journal) {
+    let mut reader = match RecordReader::behind_header(alloc, journal) {
         Ok(reader) => reader,
         Err(fault) => return unread(Origin::Journal, fault),
+    };
+    let Ok(mut shower) = Shower::new(alloc, choice.style, reader.form(), start, choice.most) else {
+        return Outcome::Memory;
     };
     let Ok(()) = begin(out) else {
         return Outcome::OutputFault;
     };
-    let mut shower = Shower::new(alloc, choice.style, start, choice.most);
     for _ in rt.forever() {
         match round(alloc, plan, &mut reader, &mut shower, journal, out) {
             None => {}
