@@ -3,6 +3,8 @@ mod Fronts
 mod Texts
 mod Entries
 mod OneReading
+mod StrictPlanned
+mod AsEncode
 mod Taking
 mod Reading
 mod Rounds

@@ -84,7 +84,10 @@ pub fn next_message<'a>(
 pub fn refused_line(lines: &[u8], left: &[u8]) -> TextError
     ensures { Numbers result (length (lines_in lines.now) - length (lines_in left.now) + 1) }
 {
-    match count_lines(lines).saturating_sub(count_lines(left)).checked_add(1) {
+    match count_lines(lines)
+        .saturating_sub(count_lines(left))
+        .checked_add(1)
+    {
         Some(number) => TextError::Line(number),
         None => TextError::Memory,
     }
