@@ -35,7 +35,7 @@ const USAGE: &str =
   fixpgw plan SCHEMA TEXT OUT           prints the messages in TEXT as lines of INPUT for their senders
   fixpgw datagram CONFIG OUT            packs messages into datagrams, delivers those that CONFIG lists, and prints what comes to OUT
   fixpgw rehearse CONFIG OUT            runs two ends in memory by the script in CONFIG, and prints what both hold to OUT
-  fixpgw show [--json] SCHEMA JOURNAL OUT [FROM [COUNT]]
+  fixpgw show [--follow] [--json] SCHEMA JOURNAL OUT [FROM [COUNT]]
                                         prints the records of one journal, with their dates and messages, as text or JSON to OUT
   fixpgw soak N OUT                     runs two ends in memory over N messages, with cuts, and prints what both hold to OUT
   fixpgw COMMAND --help                 what a command takes and does
@@ -211,11 +211,15 @@ opened.
   CONFIG   the script, as TOML (read); - is standard input
   OUT      a line for each sender, a line for each end, and `finished` (written); - is standard output";
 
-const SHOW: &str = "usage: fixpgw show [--json] SCHEMA JOURNAL OUT [FROM [COUNT]]
+const SHOW: &str = "usage: fixpgw show [--follow] [--json] SCHEMA JOURNAL OUT [FROM [COUNT]]
 
 Prints the records of one journal, each with its date and time in UTC and with its message as text, and then where they end. No lock is taken, so that a
 journal may be looked at while a session writes it: what is printed is what stands behind an open gate as it is read.
 
+With --follow it goes on as records come, until COUNT are printed or it is ended, or whoever reads OUT is gone: each is printed within about 50
+milliseconds. It ends with status 6 where the journal is cut off or replaced meanwhile, as far as that is seen.
+
+  --follow go on as records come; JOURNAL is a file then, and not -
   --json   each record is a JSON object on a line of its own
   SCHEMA   the schema of the messages, as TOML (read); - is standard input
   JOURNAL  the journal, of either box (read); - is standard input, where SCHEMA is not and FROM counts from the first record
