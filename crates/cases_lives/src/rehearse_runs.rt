@@ -1,4 +1,4 @@
-//! A rehearsal with desks, cuts and stops of both ends: whether each end had more lives than one, and what the desks were handed, as the journals that it
+//! A rehearsal with desks, cuts and stops of both ends, at both versions of the session schema: whether each end had more lives than one, and what the desks were handed, as the journals that it
 //! answers hold it. It shows that both ends run, and that no line is made from the script alone. What it has to print stands in `stdout`.
 
 use cases_made::records;
@@ -100,22 +100,37 @@ fn handed(alloc: Global, acceptor: Journals) -> Option<[u64; 4]> {
     orders_in(records.as_slice())
 }
 
-/// Runs the rehearsal, and prints it.
-pub fn print<R: Threads + Wait + Sync + Print + AllocGlobal>(rt: &R) -> io::Result<()> {
+/// The rehearsal by a script whose first line says which version of the session schema both ends speak.
+fn rehearsed<R: Threads + Wait + Sync>(alloc: Global, line: &[u8], rt: &R) -> Option<Rehearsal> {
+    let mut text = Vec::new(alloc);
+    text.extend_from_slice(line).ok()?;
+    text.extend_from_slice(SCRIPT).ok()?;
+    let script = read_script(alloc, text.as_slice()).ok()?;
+    rehearse(alloc, &script, &mut Unwatched, rt).ok()
+}
+
+/// Runs the rehearsal at one version, and prints it.
+fn print_one<R: Threads + Wait + Sync + Print + AllocGlobal>(
+    rt: &R,
+    line: &[u8],
+) -> io::Result<()> {
     let alloc = rt.alloc();
-    let Ok(script) = read_script(alloc, SCRIPT) else {
-        return rt.println("the script is none");
-    };
-    let Ok(
+    let Some(
         Rehearsal {
             initiator,
             acceptor,
         },
-    ) = rehearse(alloc, &script, &mut Unwatched, rt)
+    ) = rehearsed(alloc, line, rt)
     else {
         return rt.println("it came to no end");
     };
     let lives = [initiator.lives > 1, acceptor.lives > 1];
     let orders = handed(alloc, acceptor);
     println!(rt; "more lives than one: {lives:?}, handed {orders:?}")
+}
+
+/// Runs the rehearsal at both versions of the session schema, and prints it.
+pub fn print<R: Threads + Wait + Sync + Print + AllocGlobal>(rt: &R) -> io::Result<()> {
+    print_one(rt, b"session_version = 0\n")?;
+    print_one(rt, b"session_version = 1\n")
 }

@@ -1,8 +1,9 @@
-//! Cases of sockets on this machine's own network, at ports of its own: what links, dialers and the clock of `gw_sockets` do
+//! Cases of sockets on this machine's own network, at ports of its own: what links, dialers and the clock of `gw_sockets`, and the door of `gw_porch`, do
 //! there. No clause says it, since they tell nothing of what they carry. What it has to print stands in `stdout`.
 
 mod clocks;
 mod dialers;
+mod door;
 mod links;
 mod wakes;
 

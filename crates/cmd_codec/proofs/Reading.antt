@@ -4,7 +4,7 @@ use Rattle.std.proofs.lemmas.Bool.{false≢true}
 use Rattle.sbe_value.specs.declared.message.Message.{Message}
 use Rattle.sbe_layout.specs.declared.plan.Plan.{Plan}
 use Rattle.sbe_text.specs.declared.error.Refusal.{Refusal}
-use Rattle.sbe_text.specs.declared.error.Refusal.TheVariants.{Left, Memory}
+use Rattle.sbe_text.specs.declared.error.Refusal.TheVariants.{At, Memory}
 use Rattle.sbe_text.specs.Answers.{Fails}
 use Rattle.text_words.specs.Lines.{lines_in, in_first, begins_with}
 use Rattle.text_names.specs.Fronts.{front_of}
@@ -44,5 +44,5 @@ pub empty_read : (plan : Plan) (text left : List ℕ) → HasRead plan text left
 empty_read plan text left h none = all_read plan text left h (ap (λ (l : List ℕ). front_of plan (lines_in l)) none)
 
 pub refused : (A : Type 0) (plan : Plan) (text left : List ℕ) (r : Refusal) → HasRead plan text left → left ≢ [] → Fails r (front_of plan (lines_in left)) → Reads {A = A} plan text (Err r)
-refused A plan text left (Left n) h some told = record { messages = h.messages; behind = lines_in left; read = h.read; more = some-lines left some; refused = told }
+refused A plan text left (At at) h some told = record { messages = h.messages; behind = lines_in left; read = h.read; more = some-lines left some; refused = told }
 refused A plan text left Memory h some told = tt

@@ -10,7 +10,7 @@ use Rattle.sbe_value.specs.declared.message.Message.{Message}
 use Rattle.sbe_layout.specs.declared.plan.Plan.{Plan}
 use Rattle.sbe_encode.specs.declared.fault.EncodeFault.{EncodeFault}
 use Rattle.sbe_text.specs.declared.error.Refusal.{Refusal}
-use Rattle.sbe_text.specs.declared.error.Refusal.TheVariants.{Left, Memory}
+use Rattle.sbe_text.specs.declared.error.Refusal.TheVariants.{At, Memory}
 use Rattle.text_words.specs.Lines.{lines_in}
 use Rattle.text_names.specs.Fronts.{front_of}
 use Rattle.cmd_base.specs.declared.status.Bad.TheVariants as bad
@@ -109,7 +109,7 @@ made-spelled plan text left number frames h s =
     record { messages = r.messages ++ s.messages; read = all-on plan (lines_in text) r.messages s.messages (lines_in left) r.read s.read }
 
 pub made-refused : (A B : Type 0) (plan : Plan) (text left : List ℕ) (number : ℕ) (frames : List ℕ) (e : Refusal) → HasMade plan text left number frames → Reads {A = A} plan left (Err e) → Reads {A = B} plan text (Err e)
-made-refused A B plan text left number frames (Left n) h s =
+made-refused A B plan text left number frames (At at) h s =
     let r = made-read plan text left number frames h in
     record { messages = r.messages ++ s.messages; behind = s.behind; read = read-on plan (lines_in text) r.messages s.messages (lines_in left) s.behind r.read s.read; more = s.more; refused = s.refused }
 made-refused A B plan text left number frames Memory h s = tt

@@ -43,7 +43,7 @@ pub record RefusesWith (plan : Plan) (text : List ℕ) (left : ℕ) : Type 0 whe
 -- what the reading of all messages says
 abbrev pub Reads : {A : Type 0} → Plan → List ℕ → Result A Refusal → Type 0
 Reads plan text (Ok done) = Spelled plan text
-Reads plan text (Err (refusal.Left left)) = RefusesWith plan text left
+Reads plan text (Err (refusal.At left)) = RefusesWith plan text (length (lines_in left.now))
 Reads plan text (Err refusal.Memory) = ⊤
 
 -- the frame of a message was added
@@ -81,7 +81,7 @@ pub record WroteAll (plan : Plan) (left : List ℕ) (old new : List ℕ) : Type 
 abbrev pub WritesOne : Plan → List ℕ → List ℕ → List ℕ → Result (Option (Bor (List ℕ))) Stop → Type 0
 WritesOne plan left old new (Ok (Some rest)) = WroteOne plan left rest.now old new
 WritesOne plan left old new (Ok None) = WroteAll plan left old new
-WritesOne plan left old new (Err (stop.Line lines)) = front_of plan (lines_in left) ≡ Err lines
+WritesOne plan left old new (Err (stop.Line at)) = front_of plan (lines_in left) ≡ Err (length (lines_in at.now))
 WritesOne plan left old new (Err (stop.Fault fault)) = WroteNone plan left fault old new
 WritesOne plan left old new (Err stop.Memory) = ⊤
 

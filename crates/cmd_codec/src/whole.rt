@@ -13,9 +13,9 @@ use sbe_layout::Plan;
 use sbe_text::{Refusal, TextError, refused_line};
 use std::alloc::Global;
 
-// What is wrong with a text at whose refused line so many lines are left.
-fn refused(text: &[u8], left: u64) -> Status
-    ensures { TellsLine (length (lines_in text.now) - left + 1) result }
+// What is wrong with a text at whose refused line this is left of it.
+fn refused(text: &[u8], left: &[u8]) -> Status
+    ensures { TellsLine (length (lines_in text.now) - length (lines_in left.now) + 1) result }
 {
     match refused_line(text, left) {
         TextError::Line(line) => Status::Message(Bad::Line { line }),
@@ -51,7 +51,7 @@ pub fn write_frames<S: Source, K: Sink>(
     let mut frames = Vec::new(alloc);
     let place = match make_frames(alloc, plan, text.as_slice(), &mut frames) {
         Ok(place) => place,
-        Err(Refusal::Left(left)) => return refused(text.as_slice(), left),
+        Err(Refusal::At(left)) => return refused(text.as_slice(), left),
         Err(Refusal::Memory) => return Status::Memory,
     };
     let Ok(()) = begin(wire) else {

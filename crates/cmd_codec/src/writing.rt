@@ -21,7 +21,7 @@ use text_names::{Narrow, front_message};
 const PIECE: usize = 32_768;
 
 // Reads all messages of a text, and keeps none of them.
-fn read_all(alloc: Global, plan: &Plan, text: &[u8]) -> Result<(), Refusal>
+fn read_all<'a>(alloc: Global, plan: &Plan, text: &'a [u8]) -> Result<(), Refusal<'a>>
     ensures { Reads plan.now text.now result }
 {
     let mut narrow = Narrow::new(alloc);
@@ -55,9 +55,9 @@ impl Rooms {
 
 /// Why no frame is made of the message at the front of a text.
 #[derive(Drop)]
-pub enum Stop {
-    /// A line is refused, at which so many are left.
-    Line(u64),
+pub enum Stop<'a> {
+    /// The first line of this text is refused.
+    Line(&'a [u8]),
     /// The message may not be written.
     Fault(EncodeFault),
     /// There is not enough memory.
@@ -71,7 +71,7 @@ fn write_message<'a>(
     left: &'a [u8],
     rooms: &mut Rooms,
     frames: &mut Vec<u8>,
-) -> Result<Option<&'a [u8]>, Stop>
+) -> Result<Option<&'a [u8]>, Stop<'a>>
     ensures { WritesOne plan.now left.now frames.old.items frames.new.items result }
 {
     // the wider form, and what is wrong with a message, are told by its tree
@@ -91,7 +91,7 @@ fn write_tree<'a>(
     left: &'a [u8],
     rooms: &mut Rooms,
     frames: &mut Vec<u8>,
-) -> Result<Option<&'a [u8]>, Stop>
+) -> Result<Option<&'a [u8]>, Stop<'a>>
     ensures { WritesOne plan.now left.now frames.old.items frames.new.items result }
 {
     match front_message(alloc, plan, left, &mut rooms.narrow) {
@@ -103,7 +103,7 @@ fn write_tree<'a>(
                 Err(EncodeError::Memory) => Err(Stop::Memory),
             }
         }
-        Err(Refusal::Left(lines)) => Err(Stop::Line(lines)),
+        Err(Refusal::At(at)) => Err(Stop::Line(at)),
         Err(Refusal::Memory) => Err(Stop::Memory),
     }
 }
@@ -124,7 +124,7 @@ fn make_front<'a>(
     plan: &Plan,
     text: &'a [u8],
     frames: &mut Vec<u8>,
-) -> Result<Place<'a>, Refusal>
+) -> Result<Place<'a>, Refusal<'a>>
     requires empty { frames.old.items ≡ [] }
     requires short { length text.now ≤ text_limit }
     ensures { MakesFront plan.now text.now frames.new.items result }
@@ -139,7 +139,7 @@ fn make_front<'a>(
                 left = rest;
             }
             Ok(None) => return Ok(Place { left, number }),
-            Err(Stop::Line(lines)) => return Err(Refusal::Left(lines)),
+            Err(Stop::Line(at)) => return Err(Refusal::At(at)),
             Err(Stop::Fault(_)) => return Ok(Place { left, number }),
             Err(Stop::Memory) => return Err(Refusal::Memory),
         }
@@ -151,13 +151,13 @@ fn make_front<'a>(
 /// text is refused, and not kept: one line may stand for a block of 16,384 bytes.
 ///
 /// # Errors
-/// `Left` with how many lines are left at the first that is refused, and `Memory`.
+/// `At` with the text from the first line on that is refused, and `Memory`.
 pub fn make_frames<'a>(
     alloc: Global,
     plan: &Plan,
     text: &'a [u8],
     frames: &mut Vec<u8>,
-) -> Result<Place<'a>, Refusal>
+) -> Result<Place<'a>, Refusal<'a>>
     requires empty { frames.old.items ≡ [] }
     requires short { length text.now ≤ text_limit }
     ensures { Makes plan.now text.now frames.new.items result }

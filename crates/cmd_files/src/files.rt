@@ -1,5 +1,8 @@
 //! A run over the files that its words name.
 
+ghost use Rattle.std.specs.Prelude.{◌≡◌, ◌↔◌, IfSome, IfNone, None, Some};
+ghost use Rattle.cmd_run.specs.Words.{bytes_of, command_of};
+
 use crate::again::place_of_frame;
 use crate::report::Report;
 use cmd_config::Purpose;
@@ -78,7 +81,10 @@ struct Run<'a> {
 
 impl<'a> Run<'a> {
     /// The run of words that are a listed form.
-    fn of(words: &'a [String]) -> Option<Run<'a>> {
+    fn of(words: &'a [String]) -> Option<Run<'a>>
+        ensures found { IfSome result (λ run. command_of (bytes_of words.now) ≡ Some run.command) }
+        ensures none { IfNone result (command_of (bytes_of words.now) ≡ None) }
+    {
         let command = command_of(words)?;
         let [config, input, wire, out, outbox, inbox] = places(command);
         let [first, second] = roles(command);
@@ -407,7 +413,9 @@ fn run_over<R: Wait, S: Source, K: Sink, D: Disk>(
     alloc: Global,
     words: &[String],
     outside: Outside<S, K, D>,
-) -> (Status, Outside<S, K, D>) {
+) -> (Status, Outside<S, K, D>)
+    ensures { (result.0 ≡ Status.Words) ↔ (command_of (bytes_of words.now) ≡ None) }
+{
     run(rt, alloc, words, outside)
 }
 
@@ -417,7 +425,9 @@ fn report_of<R: Files<File = File> + AllocGlobal, P: Drop>(
     files: Run<'_>,
     status: Status,
     outside: Devices<'_, R, P>,
-) -> Report {
+) -> Report
+    ensures { result.status ≡ status }
+{
     let line = line_of(rt, files, &status, &outside);
     let Outside {
         config: _,
@@ -438,7 +448,9 @@ fn report_of<R: Files<File = File> + AllocGlobal, P: Drop>(
 pub fn run_over_files<R: Wait + Files<File = File> + Print + AllocGlobal>(
     rt: &R,
     words: &[String],
-) -> Report {
+) -> Report
+    ensures { (result.status ≡ Status.Words) ↔ (command_of (bytes_of words.now) ≡ None) }
+{
     let Some(files) = Run::of(words) else {
         return Report::bare(Status::Words);
     };

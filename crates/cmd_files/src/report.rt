@@ -1,5 +1,9 @@
 //! How a run ended, on standard output and standard error.
 
+ghost use Rattle.std.specs.Prelude.{◌≡◌, ◌⊎◌, false, None};
+ghost use Rattle.std.specs.Process.{exit_status};
+ghost use Rattle.cmd_base.specs.Codes.{code_of};
+
 use cmd_run::Status;
 use std::io;
 use std::process::ExitCode;
@@ -16,12 +20,20 @@ pub struct Report {
 
 impl Report {
     /// A status that says all by itself.
-    pub fn bare(status: Status) -> Report {
+    pub fn bare(status: Status) -> Report
+        ensures status { result.status ≡ status }
+        ensures line { result.line ≡ None }
+        ensures aside { result.is_aside ≡ false }
+    {
         Report::told(status, None)
     }
 
     /// A status, and what is wrong, where there was memory to say it.
-    pub fn told(status: Status, line: Option<String>) -> Report {
+    pub fn told(status: Status, line: Option<String>) -> Report
+        ensures status { result.status ≡ status }
+        ensures line { result.line ≡ line }
+        ensures aside { result.is_aside ≡ false }
+    {
         Report {
             status,
             line,
@@ -54,7 +66,9 @@ pub fn print_status<R: Print + Eprint>(
 }
 
 /// Prints the status, and what is wrong on standard error. Where the status cannot be printed, that is what is wrong: it is an output fault.
-pub fn finish<R: Print + Eprint>(rt: &R, report: Report) -> ExitCode {
+pub fn finish<R: Print + Eprint>(rt: &R, report: Report) -> ExitCode
+    ensures { (exit_status result ≡ code_of report.status) ⊎ (exit_status result ≡ code_of Status.OutputFault) }
+{
     let code = report.status.code();
     let name = report.status.name();
     match print_status(rt, report.is_aside, code, name) {

@@ -1,12 +1,14 @@
 //! What the commands are, for people.
 
+ghost use Rattle.std.specs.Prelude.{◌≡◌};
+
 use crate::report::Report;
 use cmd_run::Status;
 use say_words::quoted;
 use session_files::{are_both_standard, named, role_of};
 use std::alloc::{AllocError, Global};
 
-pub const VERSION: &str = "fixpgw 0.8.0";
+pub const VERSION: &str = "fixpgw 0.9.0";
 
 const USAGE: &str =
     "fixpgw: an order gateway for sessions of the FIX Performance Session Layer (FIXP) 1.1
@@ -326,6 +328,8 @@ fn line_of<R: AllocGlobal>(rt: &R, words: &[String]) -> Result<String, AllocErro
 }
 
 /// The report of words that are no listed form.
-pub fn usage_fault<R: AllocGlobal>(rt: &R, words: &[String]) -> Report {
+pub fn usage_fault<R: AllocGlobal>(rt: &R, words: &[String]) -> Report
+    ensures { result.status ≡ Status.Words }
+{
     Report::told(Status::Words, line_of(rt, words).ok())
 }

@@ -1,5 +1,5 @@
 -- The script of a rehearsal as a TOML table: its keys in the order in which they are visited (this project's profile).
-use Rattle.std.specs.Prelude.{ℕ, ◌*◌, ◌^◌, ◌==◌, ◌≡◌, ◌≤◌, Bool, false, not, nat_le, if◌then◌else◌, List, [], ◌∷◌, length, replicate, All, Result, Ok, codes}
+use Rattle.std.specs.Prelude.{ℕ, ◌*◌, ◌^◌, ◌==◌, ◌≡◌, ◌≤◌, Bool, true, false, not, nat_le, if◌then◌else◌, List, [], ◌∷◌, length, replicate, All, Result, Ok, codes}
 use Rattle.toml.specs.Data.{Data}
 use Rattle.fixp_msgs.specs.declared.flow.Flow.{Flow}
 use Rattle.toml_walk.specs.Reading.{Read, ◌>>=◌}
@@ -13,7 +13,7 @@ use Rattle.fixp_shake.specs.declared.config.Role.TheVariants as roles
 use Rattle.gw_fakes.specs.declared.disk.Pick.{Pick}
 use Rattle.gw_fakes.specs.declared.disk.Pick.TheVariants as picks
 use Rattle.cmd_config.specs.declared.configuration.Link.{Link}
-use Rattle.cmd_config.specs.Settings.{IsLinkInRange, session_of, flow_of, credentials_of, ensure_in_range, is_none}
+use Rattle.cmd_config.specs.Settings.{IsLinkInRange, session_of, flow_of, credentials_of, ensure_in_range, is_none, version_of}
 use Rattle.cmd_script.specs.declared.script.Script.{Script}
 use Rattle.cmd_script.specs.declared.script.Load.{Load}
 use Rattle.cmd_script.specs.declared.steps.Action.{Action}
@@ -84,7 +84,7 @@ allows_desks server desks = if desks == 0 then is_none server else not (is_none 
 
 -- ---- the keys
 
--- {session, keepalive, client_flow, server_flow, credentials?, ..}; both ends have version 0 of the session schema
+-- {session, keepalive, client_flow, server_flow, credentials?, ..}; the version is that of a text without its key, which comes last
 abbrev pub link_of : Data → Read Link
 link_of keys =
     required (codes "session") session_of keys >>= λ session.
@@ -93,7 +93,7 @@ link_of keys =
     ensure_in_range (codes "client_flow") (allows_client client) >>= λ _.
     required (codes "server_flow") flow_of keys >>= λ server.
     get_or_default (codes "credentials") [] credentials_of keys >>= λ credentials.
-    Ok (record { session = session; keepalive = keepalive; client_flow = client; server_flow = server; credentials = credentials; version = 0 })
+    Ok (record { session = session; keepalive = keepalive; client_flow = client; server_flow = server; credentials = credentials; version = 1 })
 
 -- {.., senders, messages, ..}: the same number of messages for each sender
 abbrev pub messages_of : Data → Read (List ℕ)
@@ -116,20 +116,21 @@ load_of server keys =
 
 abbrev pub known_keys : List (List ℕ)
 known_keys = codes "session" ∷ codes "keepalive" ∷ codes "client_flow" ∷ codes "server_flow" ∷ codes "credentials" ∷ codes "senders" ∷ codes "messages"
-    ∷ codes "desks" ∷ codes "initiator_version" ∷ codes "desk_version" ∷ codes "reference" ∷ codes "step" ∷ []
+    ∷ codes "desks" ∷ codes "initiator_version" ∷ codes "desk_version" ∷ codes "reference" ∷ codes "step" ∷ codes "session_version" ∷ []
 
 -- {.., step?}
 abbrev pub steps_of : Data → Read (List Step)
 steps_of = get_or_default (codes "step") [] (list_of step_of)
 
--- all values
+-- all values; both ends speak the version of the session schema that stands at `session_version`
 abbrev pub script_of : Data → Read Script
 script_of keys =
     link_of keys >>= λ link.
     load_of link.server_flow keys >>= λ load.
     steps_of keys >>= λ steps.
+    version_of keys >>= λ version.
     deny_unknown_keys known_keys keys >>= λ _.
-    Ok (record { link = link; load = load; steps = steps })
+    Ok (record { link = record link { version = version }; load = load; steps = steps })
 
 abbrev pub script_of_document : List ℕ → Read Script
 script_of_document text = document_of text >>= script_of
@@ -154,8 +155,9 @@ pub record IsLoadInRange (l : Load) : Type 0 where
   pub desk_version : (1 ≤ l.desk_version) × (l.desk_version ≤ 2)
   pub reference : (1 ≤ l.reference) × (l.reference ≤ 10 ^ 15)
 
--- the initiator sends
+-- the initiator sends, and the acceptor does exactly where it has desks
 pub record IsScript (s : Script) : Type 0 where
   pub link : IsLinkInRange s.link
   pub client : is_none s.link.client_flow ≡ false
   pub load : IsLoadInRange s.load
+  pub desks : allows_desks s.link.server_flow s.load.desks ≡ true

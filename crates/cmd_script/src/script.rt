@@ -1,16 +1,16 @@
 //! The script itself: its keys, with what is asked of several of them.
 
-ghost use Rattle.std.specs.Prelude.{◌≡◌, ◌<◌, ◌≤◌, length, replicate, All, IfOk, Err, false};
+ghost use Rattle.std.specs.Prelude.{◌≡◌, ◌<◌, ◌≤◌, length, replicate, All, IfOk, Err, true, false};
 ghost use Rattle.toml.specs.View.{view};
 ghost use Rattle.toml_walk.specs.Reading.{Reads};
 ghost use Rattle.schema_toml.specs.Faults.{Tells, text_limit};
-ghost use Rattle.cmd_config.specs.Settings.{IsLinkInRange, ensure_in_range, is_none};
+ghost use Rattle.cmd_config.specs.Settings.{IsLinkInRange, ensure_in_range, is_none, version_of};
 ghost use Rattle.cmd_script.specs.Script.{IsCount, IsLoadInRange, IsScript, allows_desks, allows_messages, link_of, load_of, messages_of, script_of, script_of_document, script_of_text, steps_of};
 
 use crate::steps::{StepReader, Steps};
 use cmd_config::{
-    DESKS, Flows, KEEPALIVE, Link, ORDER_VERSION, REFERENCE, Range, SENDERS, Sessions,
-    read_credentials,
+    DESKS, Flows, KEEPALIVE, Link, ORDER_VERSION, REFERENCE, Range, SENDERS, SESSION_VERSION,
+    Sessions, read_credentials,
 };
 use fixp_msgs::Flow;
 use lists::List;
@@ -62,7 +62,8 @@ pub struct Script {
 /// # Errors
 /// `Range` at that key where it is not met.
 fn ensure_in_range(alloc: Global, key: &str, holds: bool) -> Result<(), TomlFault>
-    ensures { Reads result (ensure_in_range key.now holds) }
+    ensures value { Reads result (ensure_in_range key.now holds) }
+    ensures met { IfOk result (λ _. holds ≡ true) }
 {
     if holds {
         Ok(())
@@ -98,7 +99,7 @@ fn allows_desks(server: Flow, desks: u64) -> bool
     }
 }
 
-/// The keys of the session itself.
+/// The keys of the session itself but its schema's version, which is that of a text without the key.
 fn read_link(alloc: Global, keys: &Value) -> Result<Link, TomlFault>
     ensures value { Reads result (link_of (view keys.now)) }
     ensures range { IfOk result IsLinkInRange }
@@ -122,7 +123,7 @@ fn read_link(alloc: Global, keys: &Value) -> Result<Link, TomlFault>
         client_flow: client,
         server_flow: server,
         credentials,
-        version: 0,
+        version: 1,
     })
 }
 
@@ -150,6 +151,7 @@ fn read_messages(alloc: Global, keys: &Value) -> Result<Counts, TomlFault>
 fn read_load(alloc: Global, server: Flow, keys: &Value) -> Result<Load, TomlFault>
     ensures value { Reads result (load_of server (view keys.now)) }
     ensures range { IfOk result IsLoadInRange }
+    ensures desks { IfOk result (λ load. allows_desks server load.desks ≡ true) }
 {
     let messages = read_messages(alloc, keys)?;
     let desks = natural_at(alloc, keys, "desks", DESKS.least, DESKS.greatest)?;
@@ -175,13 +177,24 @@ fn read_steps(alloc: Global, keys: &Value) -> Result<Steps, TomlFault>
     Ok(List::from(list_or_empty::<StepReader>(alloc, (), keys, "step")?))
 }
 
+/// The version of the session schema, 1 where the key is absent.
+fn read_version(alloc: Global, keys: &Value) -> Result<u16, TomlFault>
+    ensures value { Reads result (version_of (view keys.now)) }
+    ensures range { IfOk result (λ version. version ≤ 1) }
+{
+    let (least, greatest) = (SESSION_VERSION.least, SESSION_VERSION.greatest);
+    let version = natural_or(alloc, keys, "session_version", least, greatest, 1)?;
+    Ok(version as u16)
+}
+
 fn read_table(alloc: Global, keys: &Value) -> Result<Script, TomlFault>
     ensures value { Reads result (script_of (view keys.now)) }
     ensures valid { IfOk result IsScript }
 {
-    let link = read_link(alloc, keys)?;
+    let mut link = read_link(alloc, keys)?;
     let load = read_load(alloc, link.server_flow, keys)?;
     let steps = read_steps(alloc, keys)?;
+    link.version = read_version(alloc, keys)?;
     deny_unknown_keys(
         alloc,
         keys,
@@ -198,6 +211,7 @@ fn read_table(alloc: Global, keys: &Value) -> Result<Script, TomlFault>
             "desk_version",
             "reference",
             "step",
+            "session_version",
         ],
     )?;
     Ok(Script { link, load, steps })

@@ -17,7 +17,7 @@ soak_link = record {
   client_flow = flows.Recoverable;
   server_flow = flows.Recoverable;
   credentials = [];
-  version = 0;
+  version = 1;
 }
 
 -- how many of the messages 1, 2, 3 and so on fall to a sender, where they are dealt out to four senders in turn

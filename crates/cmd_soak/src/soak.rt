@@ -42,7 +42,7 @@ fn soak_link(alloc: Global) -> Link
         client_flow: Flow::Recoverable,
         server_flow: Flow::Recoverable,
         credentials: Bytes::new(alloc),
-        version: 0,
+        version: 1,
     }
 }
 

@@ -17,6 +17,7 @@ use std::sync::atomic::AtomicBool;
 
 /// A dialer over guests. It looks at what came first of each, and hands on the link of one whose first frame gives the keys, with all its bytes. It turns
 /// away any other, untold, also one whose first frame is not whole yet: whoever holds guests until it is has judged them before.
+#[derive(Drop)]
 pub struct Knowing<G> {
     guests: G,
     keys: Keys,

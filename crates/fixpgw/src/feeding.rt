@@ -3,7 +3,8 @@
 
 ghost use Rattle.std.specs.Prelude.{◌≡◌, false, None};
 
-use crate::sessions::{SessionFiles, hold_stream, out_of, outlook_of, pauses_of};
+use crate::door::dialer_of;
+use crate::sessions::{Read, SessionFiles, config_of, hold_stream, out_of, outlook_of, pauses_of};
 use cmd_feed::{FeedOutside, Role, run_feeding};
 use cmd_files::Report;
 use cmd_run::Status;
@@ -11,12 +12,11 @@ use gw_appended::Appended;
 use gw_appended_files::AppendedFile;
 use gw_links::{Clock as LinkClock, Dialer};
 use gw_outside::{Disk, Failed, Sink, Source};
-use gw_real::{FileSink, FileSource, Named};
-use gw_sockets::{AcceptDialer, ConnectDialer, MachineClock};
-use gw_watch::{Approaches, HasPeer, WatchedDialer, WatchedSink, WatchedSource};
+use gw_real::{FileSink, Named};
+use gw_sockets::{ConnectDialer, MachineClock};
+use gw_watch::{Approaches, HasPeer, WatchedDialer, WatchedSink};
 use say_live::Teller;
 use say_session::{FedSaid, SaysWhy, fed_line_of};
-use schema_toml::TEXT_LIMIT;
 use session_files::Session;
 use std::alloc::{AllocError, Global};
 use std::fs::File;
@@ -30,7 +30,7 @@ use std::time::Clock;
 
 /// The devices of a session over files that is fed, watched by this teller but for INPUT and ACCEPTED.
 pub type FedDevices<'a, 't, R, I, A, D, N> = FeedOutside<
-    WatchedSource<'t, R, FileSource<'a, R, File>, Teller<'a, R>>,
+    Read<'a, 't, R>,
     I,
     WatchedSink<'t, AppendedFile<'a, R, Printer<'a, R>>, Teller<'a, R>>,
     A,
@@ -95,6 +95,7 @@ fn devices<'a, 't, R: Clock + Files<File = File> + Print + AllocGlobal, I, A, D,
     rt: &'a R,
     session: Session<'a>,
     files: SessionFiles<'a, D>,
+    config: Read<'a, 't, R>,
     input: I,
     accepted: A,
     dialer: N,
@@ -108,9 +109,8 @@ fn devices<'a, 't, R: Clock + Files<File = File> + Print + AllocGlobal, I, A, D,
         in_disk,
         others,
     } = files;
-    let config = FileSource::new(rt, alloc, session.config.path, TEXT_LIMIT + 1);
     FeedOutside {
-        config: WatchedSource::new(rt, config, teller),
+        config,
         input,
         out: WatchedSink::new(kept_out_of(rt, session.out, others), teller),
         accepted,
@@ -168,7 +168,7 @@ fn report_of<
         clock: _,
     } = outside;
     let mut said = FedSaid {
-        config: config.into_inner(),
+        config: config.into_inner().into_inner(),
         input,
         out: out.into_inner(),
         accepted,
@@ -185,6 +185,7 @@ fn report_of<
 /// Runs a session over this dialer and these files. The devices are closed when it returns, before anything is printed on standard output.
 fn run_with<
     'a,
+    't,
     R: Threads + Wait + Sync + Clock + Files<File = File> + Print + Eprint + AllocGlobal,
     I: Source + Send + Drop + SaysWhy,
     A: Sink + Send + Drop + SaysWhy,
@@ -195,8 +196,9 @@ fn run_with<
     session: Session<'a>,
     files: SessionFiles<'a, D>,
     feeds: Feeds<'_, I, A>,
+    config: Read<'a, 't, R>,
     dialer: N,
-    is_quiet: bool,
+    teller: &'t Teller<'a, R>,
 ) -> Report
 where
     N::Link: HasPeer,
@@ -207,10 +209,9 @@ where
         accepted,
         over,
     } = feeds;
-    let teller = Teller::new(rt, rt.alloc(), session, is_quiet);
-    let devices = devices(rt, session, files, input, accepted, dialer, &teller);
+    let devices = devices(rt, session, files, config, input, accepted, dialer, teller);
     let (status, devices) = run_over(rt, rt.alloc(), session.role, devices, over);
-    report_of(rt, session, status, devices, &teller)
+    report_of(rt, session, status, devices, teller)
 }
 
 /// Runs a session that is fed over a socket, over the files that its words name, and over these disks of its journals. A listener is bound once CONFIG and
@@ -237,18 +238,21 @@ pub fn feed_over_sockets<
     is_quiet: bool,
 ) -> Report {
     let (alloc, most) = (rt.alloc(), u64::from(session.most));
+    let teller = Teller::new(rt, alloc, session, is_quiet);
     // What a dialer waits with would take the number of a standard stream that is closed, and OUT would then be told to it.
     let held = (hold_stream(rt), hold_stream(rt), hold_stream(rt));
+    let mut config = config_of(rt, session, &teller);
     match session.role {
         Role::Initiator => {
             let dialer = ConnectDialer::new(rt, alloc, session.address, most);
             drop(held);
-            run_with(rt, session, files, feeds, dialer, is_quiet)
+            run_with(rt, session, files, feeds, config, dialer, &teller)
         }
         Role::Acceptor => {
-            let dialer = AcceptDialer::new(rt, alloc, session.address, most);
+            config.read();
+            let dialer = dialer_of(rt, alloc, &teller, session, config.text());
             drop(held);
-            run_with(rt, session, files, feeds, dialer, is_quiet)
+            run_with(rt, session, files, feeds, config, dialer, &teller)
         }
     }
 }

@@ -3,6 +3,7 @@
 #![tactic(auto)]
 
 mod datagrams;
+mod door;
 mod dumping;
 mod extending;
 mod feeding;

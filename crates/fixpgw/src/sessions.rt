@@ -3,13 +3,14 @@
 
 ghost use Rattle.std.specs.Prelude.{◌≡◌, false};
 
+use crate::door::{Ahead, dialer_of};
 use cmd_files::Report;
 use cmd_run::Status;
 use cmd_session::{Role, SessionOutside, run_session};
 use gw_links::{Clock as LinkClock, Dialer};
 use gw_outside::{Disk, Sink, Source};
 use gw_real::{FileSink, FileSource, Named};
-use gw_sockets::{AcceptDialer, ConnectDialer, MachineClock};
+use gw_sockets::{ConnectDialer, MachineClock};
 use gw_watch::{Approaches, HasPeer, Pauses, WatchedDialer, WatchedSink, WatchedSource};
 use say_live::Teller;
 use say_session::{Said, SaysWhy, line_of};
@@ -25,9 +26,12 @@ use std::sync::Wait;
 use std::thread::Threads;
 use std::time::Clock;
 
+/// A file that is read, watched by this teller; of CONFIG a door may have read ahead.
+pub type Read<'a, 't, R> = Ahead<WatchedSource<'t, R, FileSource<'a, R, File>, Teller<'a, R>>>;
+
 /// The devices of a session over files, watched by this teller.
 pub type Devices<'a, 't, R, D, N> = SessionOutside<
-    WatchedSource<'t, R, FileSource<'a, R, File>, Teller<'a, R>>,
+    Read<'a, 't, R>,
     WatchedSink<'t, FileSink<'a, R, File, Printer<'a, R>>, Teller<'a, R>>,
     D,
     WatchedDialer<'t, R, N, Teller<'a, R>>,
@@ -46,6 +50,7 @@ fn devices<'a, 't, R: Clock + Files<File = File> + Print + AllocGlobal, D, N>(
     rt: &'a R,
     session: Session<'a>,
     files: SessionFiles<'a, D>,
+    config: Read<'a, 't, R>,
     dialer: N,
     teller: &'t Teller<'a, R>,
 ) -> Devices<'a, 't, R, D, N>
@@ -57,17 +62,27 @@ fn devices<'a, 't, R: Clock + Files<File = File> + Print + AllocGlobal, D, N>(
         in_disk,
         others,
     } = files;
-    let config = FileSource::new(rt, alloc, session.config.path, TEXT_LIMIT + 1);
     let input = FileSource::new(rt, alloc, session.input.read_path(), 0);
     SessionOutside {
-        config: WatchedSource::new(rt, config, teller),
-        input: WatchedSource::new(rt, input, teller),
+        config,
+        input: Ahead::new(alloc, WatchedSource::new(rt, input, teller)),
         out: WatchedSink::new(out_of(rt, session.out, others), teller),
         out_disk,
         in_disk,
         dialer: WatchedDialer::new(rt, alloc, dialer, teller, pauses_of(session.role)),
         clock: MachineClock::new(rt),
     }
+}
+
+/// CONFIG, watched by this teller.
+pub fn config_of<'a, 't, R: Files<File = File> + AllocGlobal>(
+    rt: &'a R,
+    session: Session<'a>,
+    teller: &'t Teller<'a, R>,
+) -> Read<'a, 't, R> {
+    let alloc = rt.alloc();
+    let config = FileSource::new(rt, alloc, session.config.path, TEXT_LIMIT + 1);
+    Ahead::new(alloc, WatchedSource::new(rt, config, teller))
 }
 
 /// Whether an end pauses behind connections that came to nothing: one that makes them. One that listens would make those wait
@@ -124,8 +139,8 @@ fn report_of<
         clock: _,
     } = outside;
     let mut said = Said {
-        config: config.into_inner(),
-        input: input.into_inner(),
+        config: config.into_inner().into_inner(),
+        input: input.into_inner().into_inner(),
         out: out.into_inner(),
         out_disk,
         in_disk,
@@ -141,18 +156,25 @@ fn report_of<
 /// standard output: where that is closed, a file may stand in its place.
 fn run_with<
     'a,
+    't,
     R: Threads + Wait + Sync + Clock + Files<File = File> + Print + Eprint + AllocGlobal,
     D: Disk + Send + Drop + SaysWhy,
     N: Approaches + Drop + SaysWhy,
->(rt: &'a R, session: Session<'a>, files: SessionFiles<'a, D>, dialer: N, is_quiet: bool) -> Report
+>(
+    rt: &'a R,
+    session: Session<'a>,
+    files: SessionFiles<'a, D>,
+    config: Read<'a, 't, R>,
+    dialer: N,
+    teller: &'t Teller<'a, R>,
+) -> Report
 where
     N::Link: HasPeer,
     requires { N.lent dialer ≡ false }
 {
-    let teller = Teller::new(rt, rt.alloc(), session, is_quiet);
-    let devices = devices(rt, session, files, dialer, &teller);
+    let devices = devices(rt, session, files, config, dialer, teller);
     let (status, devices) = run_over(rt, rt.alloc(), session.role, devices);
-    report_of(rt, session, status, devices, &teller)
+    report_of(rt, session, status, devices, teller)
 }
 
 /// What stands at the number of a standard stream that is closed, while it is held.
@@ -176,18 +198,21 @@ pub fn run_over_sockets<
     D: Disk + Send + Drop + SaysWhy,
 >(rt: &'a R, session: Session<'a>, files: SessionFiles<'a, D>, is_quiet: bool) -> Report {
     let (alloc, most) = (rt.alloc(), u64::from(session.most));
+    let teller = Teller::new(rt, alloc, session, is_quiet);
     // What a dialer waits with would take the number of a standard stream that is closed, and OUT would then be told to it.
     let held = (hold_stream(rt), hold_stream(rt), hold_stream(rt));
+    let mut config = config_of(rt, session, &teller);
     match session.role {
         Role::Initiator => {
             let dialer = ConnectDialer::new(rt, alloc, session.address, most);
             drop(held);
-            run_with(rt, session, files, dialer, is_quiet)
+            run_with(rt, session, files, config, dialer, &teller)
         }
         Role::Acceptor => {
-            let dialer = AcceptDialer::new(rt, alloc, session.address, most);
+            config.read();
+            let dialer = dialer_of(rt, alloc, &teller, session, config.text());
             drop(held);
-            run_with(rt, session, files, dialer, is_quiet)
+            run_with(rt, session, files, config, dialer, &teller)
         }
     }
 }

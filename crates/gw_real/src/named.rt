@@ -1,5 +1,8 @@
 //! The files of a command line, and why one of them cannot be used.
 
+ghost use Rattle.std.specs.Prelude.{◌≡◌, ◌↔◌, IsTrue, codes};
+ghost use Rattle.gw_real.specs.Names.{read_path};
+
 use std::fs::{Files, Metadata};
 use std::io;
 use std::os::unix::fs::{FileTypeExt, MetadataExt};
@@ -21,12 +24,17 @@ const STANDARD_INPUT: &str = "/dev/stdin";
 
 impl<'a> Named<'a> {
     /// Whether it is `-`. A file of that name is `./-`.
-    pub fn is_standard(self) -> bool {
+    pub fn is_standard(self) -> bool
+        ensures { IsTrue result ↔ (self.entry.path.now ≡ codes "-") }
+    {
         self.path == STANDARD
     }
 
     /// It, as a file that is read and that an output must not be: `-` is standard input.
-    pub fn read_from(self) -> Named<'a> {
+    pub fn read_from(self) -> Named<'a>
+        ensures role { result.role.now ≡ self.entry.role.now }
+        ensures path { result.path.now ≡ read_path self.entry.path.now }
+    {
         let path = if self.is_standard() {
             STANDARD_INPUT
         } else {
@@ -36,7 +44,9 @@ impl<'a> Named<'a> {
     }
 
     /// The path of a file that is read: `-` is standard input.
-    pub fn read_path(self) -> &'a str {
+    pub fn read_path(self) -> &'a str
+        ensures { result.now ≡ read_path self.entry.path.now }
+    {
         self.read_from().path
     }
 }

@@ -10,3 +10,4 @@ mod Outboxes
 mod Stopping
 mod Staying
 mod Coming
+mod Finishing

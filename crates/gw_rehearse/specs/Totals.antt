@@ -1,9 +1,15 @@
 -- What a script comes to, where all that it sends arrives, and what is told of both ends behind a rehearsal (this project's profile).
-use Rattle.std.specs.Prelude.{◌≡◌, ℕ, ◌+◌, ◌-◌, ◌*◌, ◌==◌, if◌then◌else◌, List, [], ◌∷◌}
+use Rattle.std.specs.Prelude.{◌≡◌, ℕ, ◌+◌, ◌-◌, ◌*◌, ◌==◌, if◌then◌else◌, true, false, List, [], ◌∷◌}
+use Rattle.session_model.specs.Journal.{History}
+use Rattle.session_model.specs.Inbox.{InboxRecord, has_peer_finished}
+use Rattle.fixp_msgs.specs.declared.flow.Flow.{Flow}
 use Rattle.fixp_msgs.specs.declared.flow.Flow.TheVariants as flows
+use Rattle.fixp_shake.specs.Flows.{is_absent}
 use Rattle.jr_dated.specs.declared.journal.Journal.{Ghosts}
 use Rattle.jr_kept.specs.declared.inbox.Inbox.{Inbox}
 use Rattle.jr_kept.specs.Inbox.{count_of, next_of}
+use Rattle.jr_kept.specs.Inbox as inboxes
+use Rattle.jr_kept.specs.Outbox as outboxes
 use Rattle.cmd_config.specs.declared.configuration.Link.{Link}
 use Rattle.cmd_script.specs.declared.script.Load.{Load}
 use Rattle.cmd_script.specs.declared.script.Script.{Script}
@@ -47,12 +53,21 @@ abbrev pub HaveAll : Load → (initiator acceptor : Journals) → Type 0
 HaveAll load initiator acceptor =
     HasAll acceptor.inbox (sum_of load.messages) × HasAll initiator.inbox (all_reports (sum_of load.messages) load.desks)
 
+-- An end has finished, and heard that its peer has: whatever history its outbox stands for has its finish, and whatever list its inbox stands for the peer's, but
+-- for a flow that is absent
+pub record HasFinished (own peer : Flow) (j : Journals) : Type 0 where
+  pub finish : is_absent own ≡ false → (h : History) → outboxes.StandsFor j.outbox h → h.finished ≡ true
+  pub heard : is_absent peer ≡ false → (i : List InboxRecord) → inboxes.StandsFor j.inbox i → has_peer_finished i ≡ true
+
 -- Behind a rehearsal of a script its senders have sent what it says; each inbox holds of the other end's outbox what the kind of that flow promises, all of
--- it where that is recoverable; each desk has reported on its share; and where both flows are recoverable the summaries are what the script comes to
+-- it where that is recoverable; each desk has reported on its share; both ends have finished; and where both flows are recoverable the summaries are what the
+-- script comes to
 pub record IsRehearsed (script : Script) (r : Rehearsal) : Type 0 where
   pub sent : sent_in r ≡ script.load.messages
   pub keeps : ∥ KeepsSession script.link.client_flow script.link.server_flow r.initiator r.acceptor ∥₁
   pub outward : Arrives script.link.client_flow r.initiator r.acceptor
   pub homeward : Arrives script.link.server_flow r.acceptor r.initiator
   pub reported : HasReported script.load r.acceptor
+  pub initiator_finished : HasFinished script.link.client_flow script.link.server_flow r.initiator
+  pub acceptor_finished : HasFinished script.link.server_flow script.link.client_flow r.acceptor
   pub totals : AreRecoverable script.link → HaveTotals script.load r.initiator r.acceptor

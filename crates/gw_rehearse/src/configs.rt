@@ -32,6 +32,7 @@ pub(crate) fn config_of(alloc: Global, script: &Script, role: Role) -> Result<En
     ensures session { IfOk result (λ c. length c.session ≡ 16) }
     ensures keepalive { IfOk result (λ c. (100 ≤ c.keepalive) × (c.keepalive ≤ 60000)) }
     ensures credentials { IfOk result (λ c. length c.credentials ≤ 2048) }
+    ensures version { IfOk result (λ c. c.version ≡ script.now.link.version) }
 {
     let link = &script.link;
     let session = session_of(link);
@@ -43,6 +44,6 @@ pub(crate) fn config_of(alloc: Global, script: &Script, role: Role) -> Result<En
         peer_flow: peer_flow(role, link.client_flow, link.server_flow),
         keepalive: link.keepalive,
         credentials,
-        version: 0,
+        version: link.version,
     })
 }

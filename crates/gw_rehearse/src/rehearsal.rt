@@ -1,10 +1,15 @@
 //! The whole of a rehearsal: the steps, the rounds behind them, and what both journals hold then.
 
-ghost use Rattle.std.specs.Prelude.{◌≡◌, ℕ, Err, IfOk, IsTrue, OnOk};
+ghost use Rattle.std.specs.Prelude.{◌≡◌, ℕ, Err, IfOk, IsTrue, OnOk, List, true, false};
 ghost use Rattle.cmd_script.specs.Script.{IsScript};
+ghost use Rattle.session_model.specs.Journal.{History};
+ghost use Rattle.session_model.specs.Inbox.{InboxRecord, has_peer_finished};
+ghost use Rattle.fixp_shake.specs.Flows.{is_absent};
+ghost use Rattle.jr_kept.specs.Inbox as inboxes;
+ghost use Rattle.jr_kept.specs.Outbox as outboxes;
 ghost use Rattle.gw_rehearse.specs.Together.{Arrives, CountsAll, IsPairOf, KeepsSession, StaysSound, StoppedAt};
 ghost use Rattle.gw_rehearse.specs.Summaries.{HasReported, counts_to, sent_in};
-ghost use Rattle.gw_rehearse.specs.Totals.{AreRecoverable, HaveTotals};
+ghost use Rattle.gw_rehearse.specs.Totals.{AreRecoverable, HasFinished, HaveTotals};
 ghost use Rattle.gw_rehearse.specs.declared.rehearsal.RehearseFault.TheVariants as faults;
 
 use crate::journals::Journals;
@@ -76,7 +81,38 @@ fn has_arrived(flow: Flow, writer: &Journals, reader: &Journals) -> bool
     }
 }
 
-/// What a rehearsal came to that was not given up: its journals, where all is done and has arrived.
+/// Whether an outbox has its finish, but for a flow that is absent.
+#[tactic(auto, using(crate::proofs::Finishing::none_absent, crate::proofs::Finishing::finish_marked))]
+fn has_finish(own: Flow, journals: &Journals) -> bool
+    ensures { IsTrue result → is_absent own ≡ false → (h : History) → outboxes.StandsFor journals.now.outbox h → h.finished ≡ true }
+{
+    match own {
+        Flow::None => true,
+        Flow::Recoverable | Flow::Idempotent | Flow::Unsequenced => journals.outbox.closed(),
+    }
+}
+
+/// Whether an inbox has the peer's finish, but for a flow that is absent.
+#[tactic(auto, using(crate::proofs::Finishing::none_absent, crate::proofs::Finishing::heard_marked))]
+fn has_heard(peer: Flow, journals: &Journals) -> bool
+    ensures { IsTrue result → is_absent peer ≡ false → (i : List InboxRecord) → inboxes.StandsFor journals.now.inbox i → has_peer_finished i ≡ true }
+{
+    match peer {
+        Flow::None => true,
+        Flow::Recoverable | Flow::Idempotent | Flow::Unsequenced => {
+            journals.inbox.peer_last().is_some()
+        }
+    }
+}
+
+/// Whether an end has finished, and has heard that its peer has, as its journals have it: but for a flow that is absent.
+fn has_finished(own: Flow, peer: Flow, journals: &Journals) -> bool
+    ensures { IsTrue result → HasFinished own peer journals.now }
+{
+    has_finish(own, journals) && has_heard(peer, journals)
+}
+
+/// What a rehearsal came to that was not given up: its journals, where all is done and has arrived, and both ends have finished.
 ///
 /// # Errors
 /// `Undrained` in any other case.
@@ -95,13 +131,18 @@ fn judged(
     ensures outward { IfOk result (λ r. Arrives script.now.link.client_flow r.initiator r.acceptor) }
     ensures homeward { IfOk result (λ r. Arrives script.now.link.server_flow r.acceptor r.initiator) }
     ensures reported { IfOk result (λ r. HasReported script.now.load r.acceptor) }
+    ensures initiator_finished { IfOk result (λ r. HasFinished script.now.link.client_flow script.now.link.server_flow r.initiator) }
+    ensures acceptor_finished { IfOk result (λ r. HasFinished script.now.link.server_flow script.now.link.client_flow r.acceptor) }
     ensures totals { IfOk result (λ r. AreRecoverable script.now.link → HaveTotals script.now.load r.initiator r.acceptor) }
     ensures undrained { (m n : ℕ) → result ≡ Err (faults.Undrained m n) → ∥ StoppedAt script.now.link.client_flow script.now.link.server_flow m n ∥₁ }
 {
-    let outward = has_arrived(script.link.client_flow, &initiator, &acceptor);
-    let homeward = has_arrived(script.link.server_flow, &acceptor, &initiator);
+    let (client, server) = (script.link.client_flow, script.link.server_flow);
+    let outward = has_arrived(client, &initiator, &acceptor);
+    let homeward = has_arrived(server, &acceptor, &initiator);
     let reported = has_come(script, &initiator, &acceptor);
-    if done && outward && homeward && reported {
+    let initiator_finished = has_finished(client, server, &initiator);
+    let acceptor_finished = has_finished(server, client, &acceptor);
+    if done && outward && homeward && reported && initiator_finished && acceptor_finished {
         return Ok(Rehearsal {
             initiator,
             acceptor,
@@ -131,6 +172,8 @@ pub fn rehearse<W: Watch, R: Threads + Wait + Sync>(
     ensures outward { IfOk result (λ r. Arrives script.now.link.client_flow r.initiator r.acceptor) }
     ensures homeward { IfOk result (λ r. Arrives script.now.link.server_flow r.acceptor r.initiator) }
     ensures reported { IfOk result (λ r. HasReported script.now.load r.acceptor) }
+    ensures initiator_finished { IfOk result (λ r. HasFinished script.now.link.client_flow script.now.link.server_flow r.initiator) }
+    ensures acceptor_finished { IfOk result (λ r. HasFinished script.now.link.server_flow script.now.link.client_flow r.acceptor) }
     ensures totals { IfOk result (λ r. AreRecoverable script.now.link → HaveTotals script.now.load r.initiator r.acceptor) }
     ensures undrained { (m n : ℕ) → result ≡ Err (faults.Undrained m n) → ∥ StoppedAt script.now.link.client_flow script.now.link.server_flow m n ∥₁ }
 {

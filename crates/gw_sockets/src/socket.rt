@@ -38,7 +38,10 @@ pub struct SocketLink {
 }
 
 /// Reads what is there, again where a signal came between.
-fn read_now(stream: &mut TcpStream, into: &mut [u8]) -> io::Result<Got>
+///
+/// # Errors
+/// What the system says.
+pub fn read_now(stream: &mut TcpStream, into: &mut [u8]) -> io::Result<Got>
     ensures count { IfOk result (λ got. IsWithin got (length into.new)) }
 {
     for _ in 0..u64::MAX {
@@ -54,7 +57,10 @@ fn read_now(stream: &mut TcpStream, into: &mut [u8]) -> io::Result<Got>
 }
 
 /// Writes what the socket takes now, again where a signal came between.
-fn write_now(stream: &mut TcpStream, bytes: &[u8]) -> io::Result<usize>
+///
+/// # Errors
+/// What the system says.
+pub fn write_now(stream: &mut TcpStream, bytes: &[u8]) -> io::Result<usize>
     ensures count { IfOk result (λ n. n ≤ length bytes.now) }
 {
     for _ in 0..u64::MAX {

@@ -14,7 +14,7 @@ const STREAM: Token = Token(0);
 /// The token of the waker.
 const WAKER: Token = Token(1);
 
-/// Wakes the links of one dialer, or nothing where that dialer has no waker.
+/// Wakes the links that wait with one poll, or nothing where system or memory gave no waker.
 #[derive(Drop)]
 pub struct SocketWaker {
     waker: Option<Arc<Waker>>,
@@ -28,19 +28,42 @@ impl Wake for SocketWaker {
     }
 }
 
+/// What wakes a wait with this poll, or `None` where system or memory give none.
+fn waker_of(alloc: Global, poll: &Poll, token: Token) -> Option<Arc<Waker>> {
+    let waker = Waker::new(poll.registry(), token).ok()?;
+    Arc::new(alloc, waker).ok()
+}
+
+impl SocketWaker {
+    /// What wakes a wait with this poll, which has an event of this token then; nothing where system or memory give none.
+    pub fn of(alloc: Global, poll: &Poll, token: Token) -> SocketWaker {
+        SocketWaker {
+            waker: waker_of(alloc, poll, token),
+        }
+    }
+
+    /// Wakes nothing.
+    pub fn none() -> SocketWaker {
+        SocketWaker { waker: None }
+    }
+
+    /// Another that wakes the same; nothing where none was given, or no further owner of it.
+    pub fn another(&self) -> SocketWaker {
+        let waker = match &self.waker {
+            Some(waker) => waker.clone().ok(),
+            None => None,
+        };
+        SocketWaker { waker }
+    }
+}
+
 /// What a dialer lends to its links to wait with. A wake that comes while no link waits is kept in it for the next wait.
 #[derive(Drop)]
 pub(crate) struct Waiting {
     /// What the next link waits with; `None` while it is lent, and where the system gave none.
     poll: Option<Poll>,
-    /// What ends a wait of that, where system and memory gave it.
-    waker: Option<Arc<Waker>>,
-}
-
-/// What wakes a wait of this, or `None` where system or memory give none.
-fn waker_of(alloc: Global, poll: &Poll) -> Option<Arc<Waker>> {
-    let waker = Waker::new(poll.registry(), WAKER).ok()?;
-    Arc::new(alloc, waker).ok()
+    /// What ends a wait of that.
+    waker: SocketWaker,
 }
 
 impl Waiting {
@@ -48,23 +71,19 @@ impl Waiting {
     pub(crate) fn new<R: Net>(rt: &R, alloc: Global) -> Waiting {
         match Poll::new(rt) {
             Ok(poll) => Waiting {
-                waker: waker_of(alloc, &poll),
+                waker: SocketWaker::of(alloc, &poll, WAKER),
                 poll: Some(poll),
             },
             Err(_) => Waiting {
                 poll: None,
-                waker: None,
+                waker: SocketWaker::none(),
             },
         }
     }
 
-    /// What wakes the links that wait with this; it wakes nothing where none was given, or no further owner of it.
+    /// What wakes the links that wait with this.
     pub(crate) fn waker(&self) -> SocketWaker {
-        let waker = match &self.waker {
-            Some(waker) => waker.clone().ok(),
-            None => None,
-        };
-        SocketWaker { waker }
+        self.waker.another()
     }
 
     /// Lends what is to wait for the bytes of this socket, and for room in it behind a write that found none: where there is none, one that

@@ -23,8 +23,6 @@ const PIECE: u64 = 100;
 /// How a dialer comes to its next connection.
 #[derive(Clone, Copy)]
 pub enum Approach {
-    /// It listens now, and did not before.
-    Listens,
     /// It makes the connection.
     Connects,
     /// As before: there is nothing to tell.
@@ -131,7 +129,6 @@ fn pause_behind(pauses: Pauses, was_established: bool, last: u64) -> u64 {
 /// Tells an ear how the next connection will come.
 fn tell_approach<E: Ear>(ear: &E, approach: Approach) {
     match approach {
-        Approach::Listens => ear.hear(Heard::Listens),
         Approach::Connects => ear.hear(Heard::Connects),
         Approach::AsBefore => {}
     }

@@ -12,7 +12,7 @@ mod sockets;
 mod source;
 
 pub use dialer::{Approach, Approaches, Pauses, WatchedDialer};
-pub use ear::{Ear, Heard};
+pub use ear::{Ear, Heard, NoEar};
 pub use link::{HasPeer, WatchedLink};
 pub use sink::WatchedSink;
 pub use source::WatchedSource;

@@ -1,25 +1,16 @@
-//! The dialers over sockets, and their links, as what can be watched.
+//! The dialers over sockets and over guests, and the links of sockets, as what can be watched.
 
 use crate::dialer::{Approach, Approaches};
 use crate::link::HasPeer;
-use gw_sockets::{AcceptDialer, ConnectDialer, SocketLink};
-use std::net::{Net, SocketAddr, TcpListener, TcpStream};
+use conn_keys::Knowing;
+use gw_guests::{Guests, Wakes};
+use gw_sockets::{ConnectDialer, SocketLink};
+use std::net::{Net, SocketAddr};
 use std::time::Clock;
 
 impl HasPeer for SocketLink {
     fn peer(&self) -> Option<SocketAddr> {
         SocketLink::peer(self)
-    }
-}
-
-impl<R: Net<Listener = TcpListener, Stream = TcpStream> + Clock> Approaches
-    for AcceptDialer<'_, R> {
-    fn approach(&mut self) -> Approach {
-        if self.listen() {
-            Approach::Listens
-        } else {
-            Approach::AsBefore
-        }
     }
 }
 
@@ -30,5 +21,12 @@ impl<R: Net + Clock> Approaches for ConnectDialer<'_, R> {
         } else {
             Approach::AsBefore
         }
+    }
+}
+
+// Guests tell themselves from when on they are listened for.
+impl<G: Guests + Wakes> Approaches for Knowing<G> {
+    fn approach(&mut self) -> Approach {
+        Approach::AsBefore
     }
 }

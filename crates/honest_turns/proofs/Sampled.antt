@@ -199,7 +199,7 @@ rest_sample = record {
   opens = record {
     outbox = refl;
     ready = ready_so sample_config leg_a range_i turns_i time_i;
-    config = refl;
+    config = record { role = refl; session = refl; credentials = refl; own = refl; peer = refl; interval = (omega arith, omega arith) };
     most = refl;
     next = refl;
     last = refl;

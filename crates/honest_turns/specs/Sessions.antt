@@ -1,17 +1,28 @@
 -- All that comes of two ends of a session: connections of both, and new lives of either while the other lives on (this project's profile).
 use Rattle.std.specs.Prelude.{◌≡◌, ⊤, ℕ, ◌≤◌, List, length, Some, IfSome}
 use Rattle.std.specs.List.{AllByRecursion}
+use Rattle.fixp_shake.specs.declared.config.EndConfig.{EndConfig}
 use Rattle.turn_laws.specs.Legs.{TurnedLeg}
 use Rattle.honest_turns.specs.Sides.{IsReady, MakesTurns}
 use Rattle.honest_turns.specs.Lives.{InTime, End, sides, end_after, AgreeAt, EndInTime}
 
--- A next life of an end, over the same outbox, by the same configuration. It awaits the number that the one before came to await, and knows
+-- the configuration of a next life: of the same end and session, with the same credentials and flows; how often it is to hear and to be heard, and the version of
+-- the session schema that it speaks, may be others
+pub record SameSession (old new : EndConfig) : Type 0 where
+  pub role : new.role ≡ old.role
+  pub session : new.session ≡ old.session
+  pub credentials : new.credentials ≡ old.credentials
+  pub own : new.own_flow ≡ old.own_flow
+  pub peer : new.peer_flow ≡ old.peer_flow
+  pub interval : (100 ≤ new.keepalive) × (new.keepalive ≤ 60000)
+
+-- A next life of an end, over the same outbox, in the same session. It awaits the number that the one before came to await, and knows
 -- the same last number of the other end. It counts as sent all that its outbox held as it opened, so all that was sent before; and it knows
 -- a finish of its outbox where the one before knew it, behind all entries
 pub record Reopens (old new : End) : Type 0 where
   pub outbox : new.outbox ≡ old.outbox
   pub ready : IsReady new.outbox new.state new.inbox
-  pub config : new.state.config ≡ old.state.config
+  pub config : SameSession old.state.config new.state.config
   pub most : new.state.most ≡ old.state.most
   pub next : new.state.facts.recorded.inbox_next ≡ old.state.facts.recorded.inbox_next
   pub last : new.state.facts.recorded.peer_last ≡ old.state.facts.recorded.peer_last

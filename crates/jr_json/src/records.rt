@@ -13,22 +13,27 @@ use crate::payloads::{write_member, write_number, write_payload};
 use jr_record::Record;
 use jr_stream::End;
 use json::Writer;
-use sbe_json::text_of;
+use sbe_json::write_text;
 use sbe_layout::Plan;
 use std::alloc::{AllocError, Global};
 use std::mem::replace;
-use text_dates::push_millis;
+use text_seconds::Seconds;
 
 /// Writes the member of a moment.
-fn write_moment(alloc: Global, writer: &mut Writer, moment: u64) -> Result<(), AllocError>
+fn write_moment(
+    alloc: Global,
+    writer: &mut Writer,
+    seconds: &mut Seconds,
+    moment: u64,
+) -> Result<(), AllocError>
     requires { moment < 2 ^ 44 }
     ensures before { writer.new.before ≡ writer.old.before }
     ensures tokens { OnOk result (writer.new.tokens ≡ writer.old.tokens ++ has_text (codes "at") (texts.text_of (millis_text moment))) }
 {
     let mut date = Vec::new(alloc);
-    push_millis(&mut date, moment)?;
-    let text = text_of(alloc, date.as_slice())?;
-    write_member(writer, "at", text.as_str())
+    seconds.push_millis(&mut date, moment)?;
+    writer.key("at")?;
+    write_text(alloc, writer, date.as_slice())
 }
 
 /// Writes the members of an entry.
@@ -123,6 +128,7 @@ fn write_record(
     alloc: Global,
     writer: &mut Writer,
     plan: &Plan,
+    seconds: &mut Seconds,
     number: u64,
     moment: u64,
     what: &Record,
@@ -134,7 +140,7 @@ fn write_record(
 {
     writer.begin_object()?;
     write_number(writer, "record", number)?;
-    write_moment(alloc, writer, moment)?;
+    write_moment(alloc, writer, seconds, moment)?;
     write_kind(alloc, writer, plan, what)?;
     writer.end_object()
 }
@@ -146,6 +152,7 @@ fn write_record(
 pub fn push_object(
     alloc: Global,
     plan: &Plan,
+    seconds: &mut Seconds,
     number: u64,
     moment: u64,
     what: &Record,
@@ -156,7 +163,7 @@ pub fn push_object(
     ensures { OnOk result (lines.new.items ≡ lines.old.items ++ record_object plan.now number (stamped moment what.now)) }
 {
     let mut writer = Writer::new(replace(lines, Vec::new(alloc)));
-    write_record(alloc, &mut writer, plan, number, moment, what)?;
+    write_record(alloc, &mut writer, plan, seconds, number, moment, what)?;
     *lines = writer.into_inner();
     lines.extend_from_slice(b"\n")
 }

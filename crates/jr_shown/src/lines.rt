@@ -13,7 +13,7 @@ use jr_record::Record;
 use jr_stream::End;
 use sbe_layout::Plan;
 use std::alloc::{AllocError, Global};
-use text_dates::push_millis;
+use text_seconds::Seconds;
 use text_words::{push_hex, push_number};
 
 /// Adds a payload as its bytes, with these words.
@@ -115,6 +115,7 @@ fn push_says(
 pub(crate) fn push_record(
     alloc: Global,
     plan: &Plan,
+    seconds: &mut Seconds,
     number: u64,
     moment: u64,
     what: &Record,
@@ -126,7 +127,7 @@ pub(crate) fn push_record(
 {
     push_number(lines, b"record ", number)?;
     lines.extend_from_slice(b" at ")?;
-    push_millis(lines, moment)?;
+    seconds.push_millis(lines, moment)?;
     lines.extend_from_slice(b" ")?;
     push_says(alloc, plan, number, what, lines)
 }

@@ -13,6 +13,7 @@ use jr_record::Record;
 use jr_stream::End;
 use sbe_layout::Plan;
 use std::alloc::{AllocError, Global};
+use text_seconds::Seconds;
 
 /// How far a showing has come.
 #[derive(Drop)]
@@ -25,6 +26,8 @@ pub struct Shower {
     pub number: u64,
     /// Whether the start was reached.
     pub is_showing: bool,
+    /// The second of the last record that was shown, as text.
+    seconds: Seconds,
     /// The lines that wait to be pushed.
     pub lines: Vec<u8>,
 }
@@ -52,6 +55,7 @@ impl Shower {
             left: most,
             number: 1,
             is_showing: false,
+            seconds: Seconds::new(alloc),
             lines: Vec::new(alloc),
         }
     }
@@ -92,9 +96,10 @@ impl Shower {
         ensures style { self.new.style ≡ self.old.style }
         ensures showing { self.new.is_showing ≡ self.old.is_showing }
     {
+        let (seconds, lines) = (&mut self.seconds, &mut self.lines);
         match self.style {
-            Style::Text => push_record(alloc, plan, self.number, moment, what, &mut self.lines),
-            Style::Json => push_object(alloc, plan, self.number, moment, what, &mut self.lines),
+            Style::Text => push_record(alloc, plan, seconds, self.number, moment, what, lines),
+            Style::Json => push_object(alloc, plan, seconds, self.number, moment, what, lines),
         }
     }
 

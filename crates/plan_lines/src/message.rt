@@ -15,24 +15,24 @@ use sbe_prim::Order;
 use sbe_text::{Refusal, Spare, next_message};
 use sbe_value::Message;
 use std::alloc::{AllocError, Global};
-use text_words::{count_lines, push_decimal, push_hex};
+use text_words::{first_line, push_decimal, push_hex};
 
 /// The message that the lines of a text spell, with room of messages before it.
 ///
 /// # Errors
-/// `Left` with how many lines are left at the first that may not stand there, and `Memory`.
-pub(crate) fn message_of(
+/// `At` with the text from the first line on that may not stand there, and `Memory`.
+pub(crate) fn message_of<'a>(
     alloc: Global,
     plan: &Plan,
     spare: &mut Spare,
-    text: &[u8],
-) -> Result<Message, Refusal>
+    text: &'a [u8],
+) -> Result<Message, Refusal<'a>>
     ensures { Gives (λ m. m) result (read_alone plan.now text.now) }
 {
     let (message, rest) = next_message(alloc, spare, plan, text)?;
-    match count_lines(rest) {
-        0 => Ok(message),
-        left => Err(Refusal::Left(left)),
+    match first_line(rest) {
+        None => Ok(message),
+        Some(_) => Err(Refusal::At(rest)),
     }
 }
 

@@ -138,12 +138,15 @@ impl Place {
         ensures { Refuses plan.now self.now line wrong result }
     {
         match message_of(alloc, plan, &mut rooms.items, self.text.as_slice()) {
-            Err(Refusal::Left(left)) if left > 0 => Stop::Wrong {
-                line: self.line_of(left),
-                wrong: Wrong::Line,
+            Err(Refusal::At(left)) => match count_lines(left) {
+                0 => Stop::Wrong { line, wrong },
+                left => Stop::Wrong {
+                    line: self.line_of(left),
+                    wrong: Wrong::Line,
+                },
             },
             Err(Refusal::Memory) => Stop::Memory,
-            Ok(_) | Err(Refusal::Left(_)) => Stop::Wrong { line, wrong },
+            Ok(_) => Stop::Wrong { line, wrong },
         }
     }
 
@@ -189,9 +192,9 @@ impl Place {
     {
         let message = match message_of(alloc, plan, &mut rooms.items, self.text.as_slice()) {
             Ok(message) => message,
-            Err(Refusal::Left(left)) => {
+            Err(Refusal::At(left)) => {
                 return Err(Stop::Wrong {
-                    line: self.line_of(left),
+                    line: self.line_of(count_lines(left)),
                     wrong: Wrong::Line,
                 });
             }

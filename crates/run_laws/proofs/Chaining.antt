@@ -1,5 +1,5 @@
 -- Runs of one end, one behind another, are lives of the loop, one behind another.
-use Rattle.std.proofs.Common.{◌≡◌, inl, inr, ℕ, ◌+◌, ◌≤◌, ◌^◌, true, List, ◌∷◌, ◌++◌, map, length, Option, Some, refl, sym, ap, subst, ◌∙◌, arith, append_assoc}
+use Rattle.std.proofs.Common.{◌≡◌, inl, inr, ℕ, ◌+◌, ◌≤◌, ◌^◌, true, List, ◌∷◌, ◌++◌, map, length, Option, Some, refl, sym, ap, subst, ◌∙◌, arith, append_assoc, []}
 use Rattle.std.specs.Prelude.{flat_map, option_to_list, is_some}
 use Rattle.std.specs.List.{AllByRecursion, AllZip}
 use mathlib.Core.List.{IsPrefix}
@@ -49,9 +49,8 @@ use Rattle.run_laws.proofs.Telling.{same_image, in_tells}
 use Rattle.run_laws.proofs.Ordered.{begins_within}
 use Rattle.run_laws.proofs.Sending.{plan_of, keeps_outbox}
 use Rattle.run_laws.proofs.Bounded.{images_within}
-use Rattle.run_laws.proofs.Joined.{zip_append, all_carried, brought_all, brought_none}
+use Rattle.run_laws.proofs.Joined.{zip_append, all_carried, brought_all}
 use Rattle.run_laws.proofs.Merely.{image_left}
-use Rattle.run_laws.proofs.Ways.{Unlived}
 
 -- Lives that begin on such contents, and of which a stop may leave these records and this list. The outbox goes on from life to life, each keeps
 -- it by what it has of each sender in the end; each may turn, where the first awaits no number past the greatest and one more; their links
@@ -84,31 +83,32 @@ module _ {S K D N C : Type 0} (sees : Sees S K D N C) where
 
 module _ {S K D N C J : Type 0} (G : Ghosts J) (sees : Sees S K D N C) (Strange : List ℕ → Type 0) (own peer : Flow) (o : List OutboxRecord) (i : List InboxRecord) (payloads : AllByRecursion (λ (e : Entry). IsApplication e.payload) (entries o))
     (before after : SessionOutside S K D N C) (carried : List (Option Carried)) (outboxes inboxes : List ℕ → Type 0)
-    (out_at : IsAt sees outboxes before.out_disk) (in_at : IsAt sees inboxes before.in_disk) (told : is_some (sees.carried before.dialer) ≡ true)
+    (out_at : IsAt sees outboxes before.out_disk) (in_at : IsAt sees inboxes before.in_disk)
     (later : Comes Strange own peer (sees.may_leave after.out_disk) (sees.may_leave after.in_disk) carried o i) where
   abbrev pub came : List (Option Carried)
   came = brought_by (sees.carried before.dialer) (sees.carried after.dialer)
 
   -- no life was lived
-  pub unlived : Unlived sees before after → Comes Strange own peer outboxes inboxes (came ++ carried) o i
-  unlived kept = record {
+  pub unlived : IsKept sees.told sees.may_leave before.out_disk after.out_disk → IsKept sees.told sees.may_leave before.in_disk after.in_disk → came ≡ []
+      → Comes Strange own peer outboxes inboxes (came ++ carried) o i
+  unlived outbox inbox none = record {
     opened = later.opened;
     waiting = later.waiting;
     lives = later.lives;
-    out_was = kept_was sees outboxes before.out_disk after.out_disk (map record_of later.opened) out_at kept.outbox later.out_was;
-    in_was = kept_was sees inboxes before.in_disk after.in_disk (records_of_inbox later.waiting) in_at kept.inbox later.in_was;
+    out_was = kept_was sees outboxes before.out_disk after.out_disk (map record_of later.opened) out_at outbox later.out_was;
+    in_was = kept_was sees inboxes before.in_disk after.in_disk (records_of_inbox later.waiting) in_at inbox later.in_was;
     begins = later.begins;
     history = later.history;
     chained = later.chained;
     keeps = later.keeps;
     may_turn = later.may_turn;
     links = subst (λ (cs : List (Option Carried)). AllZip CarriedOn (cs ++ carried) (flat_map legs_in later.lives))
-        (sym (brought_none (sees.carried before.dialer) (sees.carried after.dialer) (ap sees.carried kept.dialer_is))) later.links;
+        (sym none) later.links;
     strange = later.strange;
   }
 
-  module _ (t : G.tells) (config : EndConfig) (senders : Senders) (status : Status) (lived : HasLivedOver G sees config senders before after status)
-      (own_is : config.own_flow ≡ own) (peer_is : config.peer_flow ≡ peer) (session : length config.session ≡ 16) (keepalive : config.keepalive ≤ 60000) (credentials : length config.credentials ≤ 2048)
+  module _ (told : is_some (sees.carried before.dialer) ≡ true) (t : G.tells) (config : EndConfig) (senders : Senders) (status : Status)
+      (lived : HasLivedOver G sees config senders before after status) (own_is : config.own_flow ≡ own) (peer_is : config.peer_flow ≡ peer) (session : length config.session ≡ 16) (keepalive : config.keepalive ≤ 60000) (credentials : length config.credentials ≤ 2048)
       (strange : (given : List ℕ) → Strange given → IsStrange config given) where
     abbrev v : LivedOver sees config senders before after lived.old lived.new lived.result
     v = lived.over

@@ -29,6 +29,7 @@ use Rattle.schema_toml.specs.declared.fault.ConfigFault.{ConfigFault}
 use Rattle.cmd_base.specs.Texts.{IsUnconfigured}
 use Rattle.cmd_base.specs.declared.status.Status.{Status}
 use Rattle.cmd_base.specs.declared.status.Status.TheVariants.{Done, Config, OutputFault, Memory}
+use Rattle.cmd_config.specs.Settings.{peer_flow}
 use Rattle.cmd_config.specs.declared.configuration.Link.{Link}
 use Rattle.cmd_config.specs.declared.configuration.Configuration.{Configuration}
 use Rattle.life_laws.specs.Plans.{Senders, submitting}
@@ -48,7 +49,7 @@ use Rattle.cmd_feed.specs.Outsides.{FeedSees, session_of}
 use Rattle.cmd_feed.specs.Steps.{RefusesOut, LivedNone, EndsBehindBoxes, RunsOverBoxes, EndsOverDisks, EndsFed, Steps as FedSteps}
 use Rattle.run_laws.specs.Several.{Run, IsEmptyJournal, IsAt, RunsOver, IsRun, WasRun}
 use Rattle.run_laws.specs.FedLives.{FedLife, life_begun, life_behind_boxes, life_over_disks, life_behind_config, fed_life}
-use Rattle.run_laws.specs.TimedRuns.{Served, served_of, served_in_life, served_behind_input, served_behind_config, served_in, served_fed, flows_in, ConfiguresLink, HasLink, EndRan}
+use Rattle.run_laws.specs.TimedRuns.{Served, Matching, served_of, served_in_life, served_behind_input, served_behind_config, served_in, served_fed, flows_in, ConfiguresLink, HasLink, EndRan}
 use Rattle.run_laws.specs.TimedLaws.{HasWhole, FinishHas}
 use Rattle.run_laws.specs.Done.{SomeDone, HasToFinish, IsLivedToFinish, DoneIsLived, DoneIsWhole}
 use Rattle.run_laws.proofs.Refusing.{some_of}
@@ -255,6 +256,11 @@ module _ {S K D N C J : Type 0} (G : Ghosts J) (sees : Sees S K D N C) (role : R
       let there : has_peer_finished closing ≡ true = (v.finished l.finished).1 (ap is_absent (receives l.configuration l.spelled) ∙ some) in
       finish_stays closing i (closed_on sees i (record before { out = l.begun }) after later v) there
 
+-- links of one session have one flow that is received
+same_received : (role : Role) (link mine : Link) → Matching link mine → flow_received role mine ≡ flow_received role link
+same_received role link mine m =
+    ap (λ (f : Flow). peer_flow role f mine.server_flow) m.client ∙ ap (λ (f : Flow). peer_flow role link.client_flow f) m.server
+
 module _ {S I K A D N C J : Type 0} (G : Ghosts J) (sees : FeedSees S I K A D N C) (role : Role) (link : Link) (e : EndRan G sees role link) where
   abbrev Noted : Type 0
   Noted = is_absent (flow_received role link) ≡ false → has_peer_finished e.inbox ≡ true
@@ -263,7 +269,7 @@ module _ {S I K A D N C J : Type 0} (G : Ghosts J) (sees : FeedSees S I K A D N 
   IsSpelled before = (c : Configuration) → IsConfigured role (sees.session.left before.config) c → flow_received role c.link ≡ flow_received role link
 
   spelled_so : (r : Run S K D N C) → ConfiguresLink sees.session role link r → IsSpelled r.before
-  spelled_so r k c spelled = let t = some_of (sees.session.left r.before.config) (HasLink role link) k in ap (flow_received role) (t.2 c (spelled t.0 t.1))
+  spelled_so r k c spelled = let t = some_of (sees.session.left r.before.config) (HasLink role link) k in same_received role link c.link (t.2 c (spelled t.0 t.1))
 
   by_done : (r : Run S K D N C) → Waits (sees.session.may_leave r.after.in_disk) e.inbox → IsSpelled r.before → IsRun G sees role r → r.status ≡ Done → Noted
   by_done r later spelled (inl steps) done = by_steps G sees.session role r.before r.after r.status done (λ served. Noted)

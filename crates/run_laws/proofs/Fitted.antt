@@ -88,6 +88,23 @@ natural_most : (least most : ℕ) (r : Read ℤ) (n : ℕ) → (r >>= between le
 natural_most least most (Ok z) n e = between_most least most z n e
 natural_most least most (Err fault) n e = absurd cc
 
+between_least : (least most : ℕ) (z : ℤ) (n : ℕ) → between least most z ≡ Ok n → least ≤ n
+between_least least most (pos k) n e = by_test (nat_le least k) (nat_le k most) refl e
+  where
+    by_test : (a b : Bool) → nat_le least k ≡ a → (if (a && b) then Ok k else Err (Range [])) ≡ Ok n → least ≤ n
+    by_test false b is f = absurd cc
+    by_test true false is f = absurd cc
+    by_test true true is f = let same : k ≡ n = cc in subst (λ (j : ℕ). least ≤ j) same (grind (arith, nat_tests))
+between_least least most (negsuc k) n e = absurd cc
+
+natural_least : (least most : ℕ) (r : Read ℤ) (n : ℕ) → (r >>= between least most) ≡ Ok n → least ≤ n
+natural_least least most (Ok z) n e = between_least least most z n e
+natural_least least most (Err fault) n e = absurd cc
+
+key_least : (key : List ℕ) (least most : ℕ) (o : Option Data) (n : ℕ) → required_of key (natural_of least most) o ≡ Ok n → least ≤ n
+key_least key least most None n e = absurd cc
+key_least key least most (Some d) n e = natural_least least most (number_of d) n (under_ok (Key key) (natural_of least most d) n e)
+
 key_most : (key : List ℕ) (least most : ℕ) (o : Option Data) (n : ℕ) → required_of key (natural_of least most) o ≡ Ok n → n ≤ most
 key_most key least most None n e = absurd cc
 key_most key least most (Some d) n e = natural_most least most (number_of d) n (under_ok (Key key) (natural_of least most d) n e)
@@ -118,13 +135,14 @@ link_fits purpose keys link e =
     let same : built ≡ link = cc in
     subst LinkFits same (record {
       session = key_sixteen (get (codes "session") keys) session.value session.is;
+      interval = key_least (codes "keepalive") 100 60000 (get (codes "keepalive") keys) keepalive.value keepalive.is;
       keepalive = key_most (codes "keepalive") 100 60000 (get (codes "keepalive") keys) keepalive.value keepalive.is;
       credentials = credentials_le keys credentials.value credentials.is;
     })
 
 -- whichever version it speaks
 versioned : (link : Link) (version : ℕ) → LinkFits link → LinkFits (record link { version = version })
-versioned link version f = record { session = f.session; keepalive = f.keepalive; credentials = f.credentials }
+versioned link version f = record { session = f.session; interval = f.interval; keepalive = f.keepalive; credentials = f.credentials }
 
 keys_fit : (purpose : Purpose) (keys : Data) (c : Configuration) → configuration_of purpose keys ≡ Ok c → LinkFits c.link
 keys_fit purpose keys c e =

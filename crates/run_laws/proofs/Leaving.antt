@@ -95,9 +95,9 @@ pub same_next : (e f : End) → Path e [] f → f.state.facts.recorded.inbox_nex
 same_next e f arrives = refl
 same_next e f (opens j r p) = same_next j f p ∙ r.next
 
-pub same_config : (e f : End) → Path e [] f → f.state.config ≡ e.state.config
-same_config e f arrives = refl
-same_config e f (opens j r p) = same_config j f p ∙ r.config
+pub same_peer : (e f : End) → Path e [] f → f.state.config.peer_flow ≡ e.state.config.peer_flow
+same_peer e f arrives = refl
+same_peer e f (opens j r p) = same_peer j f p ∙ r.config.peer
 
 -- ---- turns lead to one line alone
 

@@ -20,6 +20,7 @@ pub mod Reporting
 pub mod Gave
 pub mod Promised
 pub mod Sampled
+pub mod GoingOnSampled
 pub mod Spelled
 pub mod Acknowledged
 pub mod FedLaws

@@ -22,12 +22,12 @@ use Rattle.honest_turns.specs.Sides as at_turns
 use Rattle.honest_turns.specs.Lives.{InTime, no_more, initiator_alone, acceptor_alone, paired, End, side_of, end_behind, AgreeAt}
 use Rattle.honest_turns.proofs.Connecting.{behind_last}
 use Rattle.honest_turns.proofs.Resting.{kept, rest_holds}
-use Rattle.run_laws.specs.TimedRuns.{Served, EndRan, lives, legs_of}
-use Rattle.run_laws.specs.TimedLaws.{Matching, HasWhole, AreLinked}
+use Rattle.run_laws.specs.TimedRuns.{Served, Matching, EndRan, lives, legs_of}
+use Rattle.run_laws.specs.TimedLaws.{HasWhole, AreLinked}
 use Rattle.run_laws.specs.Resting.{MeetLast, WereQuiet, WereOver, RestIsWhole}
 use Rattle.run_laws.proofs.Counting.{SameLink, in_time_so}
 use Rattle.run_laws.proofs.Paths.{Path, both_hold}
-use Rattle.run_laws.proofs.Leaving.{LedTo, EndsIn, LeavesAt, Before, split, same_outbox, same_next, same_config, turns_same}
+use Rattle.run_laws.proofs.Leaving.{LedTo, EndsIn, LeavesAt, Before, split, same_outbox, same_next, same_peer, turns_same}
 use Rattle.run_laws.proofs.TimedChaining.{Found, Way}
 use Rattle.run_laws.proofs.TimedHolding.{unlived, starts, way_i, way_a, runs_hold_so, whole}
 
@@ -78,10 +78,11 @@ awaits_whole : (flow : Flow) (h : History) (i : List InboxRecord) (config : EndC
     → is_sequenced flow ≡ true → next_number i ≡ length writer.made + 1
 awaits_whole flow h i config mid behind t writer m enough path found peer has numbered =
     let k = kept (side_of mid t) m enough in
-    let same : config ≡ mid.state.config = sym found.config_is ∙ (same_config (end_behind mid t) behind path ∙ k.flow) in
+    let same : config.peer_flow ≡ mid.state.config.peer_flow =
+    sym found.config_is.peer ∙ (same_peer (end_behind mid t) behind path ∙ ap (λ (c : EndConfig). c.peer_flow) k.flow) in
     found.next
     ∙ (same_next (end_behind mid t) behind path
-    ∙ (k.awaits ∙ has (ap (λ (c : EndConfig). is_sequenced c.peer_flow) (sym same) ∙ (ap is_sequenced peer ∙ numbered))))
+    ∙ (k.awaits ∙ has (ap is_sequenced (sym same) ∙ (ap is_sequenced peer ∙ numbered))))
 
 -- the line on which the whole turns of a side end, by what is known of it
 line_led : (e : End) (t : TurnedLeg) (m : MakesTurns (side_of e t)) (x : Line) → LedTo e t x → x ≡ m.turns.last

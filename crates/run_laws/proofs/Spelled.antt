@@ -13,6 +13,7 @@ use Rattle.fixp_shake.specs.declared.config.Role.TheVariants.{Initiator, Accepto
 use Rattle.cmd_session.specs.Inputs.{configuration_at}
 use Rattle.run_laws.specs.Samples.{configured, config_text}
 use Rattle.run_laws.specs.DeskSamples.{with_desks, desks_text}
+use Rattle.run_laws.specs.TimedSamples.{later_configured, later_text}
 
 pub spelled_initiator : configuration_at Initiator config_text ≡ Ok configured
 unfolding encode scan_numeral chars is_utf8 by_index skip_ws skip_from hex_escape escape_char escape special body one_line quoted simple_key key_after underscore_fits prefixed_integer decimal_number plain_number number word_value word_len unquoted along_header along_dots at_key define after_element key_equals items members atom val header_key expression line lines skip_bom parse_document
@@ -25,3 +26,7 @@ spelled_acceptor = refl
 pub spelled_with_desks : configuration_at Acceptor desks_text ≡ Ok with_desks
 unfolding encode scan_numeral chars is_utf8 by_index skip_ws skip_from hex_escape escape_char escape special body one_line quoted simple_key key_after underscore_fits prefixed_integer decimal_number plain_number number word_value word_len unquoted along_header along_dots at_key define after_element key_equals items members atom val header_key expression line lines skip_bom parse_document
 spelled_with_desks = refl
+
+pub spelled_later : configuration_at Initiator later_text ≡ Ok later_configured
+unfolding encode scan_numeral chars is_utf8 by_index skip_ws skip_from hex_escape escape_char escape special body one_line quoted simple_key key_after underscore_fits prefixed_integer decimal_number plain_number number word_value word_len unquoted along_header along_dots at_key define after_element key_equals items members atom val header_key expression line lines skip_bom parse_document
+spelled_later = refl

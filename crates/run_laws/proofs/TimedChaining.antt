@@ -9,6 +9,7 @@ use Rattle.session_model.specs.Lives.{IsImage}
 use Rattle.session_model.proofs.Lists.{all_first, all_append, prefix_length}
 use Rattle.gate_turn.proofs.Histories.{begins_on, begins_self}
 use Rattle.fixp_msgs.specs.Payload.{IsApplication}
+use Rattle.fixp_msgs.specs.declared.flow.Flow.{Flow}
 use Rattle.fixp_shake.specs.declared.config.EndConfig.{EndConfig}
 use Rattle.fixp_shake.specs.declared.config.Role.{Role}
 use Rattle.fixp_machine.specs.Machine.{State, fresh}
@@ -23,6 +24,7 @@ use Rattle.jr_boxes.specs.Inboxes.{records_of_inbox, peer_last_in}
 use Rattle.jr_kept.specs.declared.inbox.Inbox.{Inbox}
 use Rattle.cmd_base.specs.declared.status.Status.{Status}
 use Rattle.conn_door.specs.declared.answer.ServeFault.{ServeFault}
+use Rattle.cmd_config.specs.Settings.{own_flow, peer_flow}
 use Rattle.cmd_config.specs.declared.configuration.Link.{Link}
 use Rattle.cmd_config.specs.declared.configuration.Configuration.{Configuration}
 use Rattle.conn_serve.specs.Connections.{turned, all_of, adds_of, refused_of_all}
@@ -44,6 +46,7 @@ use Rattle.run_laws.specs.Pieces.{LinkFits}
 use Rattle.run_laws.specs.Several.{Run, Flows, IsAt, RunsOver, IsRun, WasRun}
 use Rattle.run_laws.specs.FedLives.{fed_life}
 use Rattle.run_laws.proofs.Refusing.{some_of}
+use Rattle.run_laws.proofs.Fitted.{configurations_fit}
 use Rattle.cmd_session.proofs.Histories.{out_tells}
 use Rattle.run_laws.proofs.Telling.{same_image, in_tells}
 use Rattle.run_laws.proofs.Merely.{image_left}
@@ -52,9 +55,9 @@ use Rattle.run_laws.proofs.Fed.{over_before, by_fed_life}
 use Rattle.run_laws.proofs.Chaining.{told_was, kept_was}
 use Rattle.honest_turns.specs.Sides.{MakesTurns}
 use Rattle.honest_turns.specs.Lives.{End, end_behind, sides, end_after, EndInTime}
-use Rattle.honest_turns.specs.Sessions.{Reopens}
+use Rattle.honest_turns.specs.Sessions.{SameSession, Reopens}
 use Rattle.run_laws.specs.Served.{ClosesInTime}
-use Rattle.run_laws.specs.TimedRuns.{Served, served_of, served_in_life, served_behind_input, served_behind_config, served_in, served_fed, served_of_run, served_over, legs_of, ended_of, last_line, last_machine, HasLink, ConfiguresLink}
+use Rattle.run_laws.specs.TimedRuns.{Served, served_of, served_in_life, served_behind_input, served_behind_config, served_in, served_fed, served_of_run, served_over, legs_of, ended_of, last_line, last_machine, Matching, HasLink, ConfiguresLink}
 use Rattle.run_laws.proofs.Closing.{IsLast}
 use Rattle.run_laws.proofs.Keeping.{Stays, StaysBehind, stays_after, over, widen_all, over_after}
 use Rattle.run_laws.proofs.Counting.{SameLink, links_append}
@@ -63,10 +66,36 @@ use Rattle.run_laws.proofs.Living.{begins_records, Left, Legs, went_on}
 use Rattle.run_laws.proofs.Living as living
 use Rattle.run_laws.proofs.Leaving.{LedTo, EndsIn, LeavesAt, along_leaves, along_last}
 
+-- a link that CONFIG spells, of the session of this one
+pub record IsOf (link mine : Link) : Type 0 where
+  pub matches : Matching link mine
+  pub fits : LinkFits mine
+
+pub same_session : (role : Role) (link mine : Link) → IsOf link mine → SameSession (end_of role link) (end_of role mine)
+same_session role link mine is = record {
+  role = refl;
+  session = is.matches.session;
+  credentials = is.matches.credentials;
+  own = ap (λ (f : Flow). own_flow role f mine.server_flow) is.matches.client ∙ ap (λ (f : Flow). own_flow role link.client_flow f) is.matches.server;
+  peer = ap (λ (f : Flow). peer_flow role f mine.server_flow) is.matches.client ∙ ap (λ (f : Flow). peer_flow role link.client_flow f) is.matches.server;
+  interval = (is.fits.interval, is.fits.keepalive);
+}
+
+-- two configurations of the session of one
+of_one_session : (config c d : EndConfig) → SameSession config c → SameSession config d → SameSession c d
+of_one_session config c d x y = record {
+  role = y.role ∙ sym x.role;
+  session = y.session ∙ sym x.session;
+  credentials = y.credentials ∙ sym x.credentials;
+  own = y.own ∙ sym x.own;
+  peer = y.peer ∙ sym x.peer;
+  interval = y.interval;
+}
+
 -- what an end knows is what these journals hold, which the next life opens on, or which are left
 pub record Found (h : History) (config : EndConfig) (e : End) (opened : History) (waiting : List InboxRecord) : Type 0 where
   pub outbox : e.outbox ≡ h
-  pub config_is : e.state.config ≡ config
+  pub config_is : SameSession config e.state.config
   pub most : e.state.most ≡ 2 ^ 26
   pub next : next_number waiting ≡ e.state.facts.recorded.inbox_next
   pub within : e.state.facts.recorded.inbox_next ≤ 2 ^ 26 + 1
@@ -109,7 +138,7 @@ last_of : (a : History) (o : Option ℕ) (n : ℕ) → o ≡ Some n → IfSome o
 last_of a None n e k = absurd (cc e)
 last_of a (Some m) n e k = subst (λ (j : ℕ). IsLast a j) (same_Some m n e) k
 
-module _ {S K D N C J : Type 0} (G : Ghosts J) (told : G.tells) (sees : Sees S K D N C) (role : Role) (link : Link) (fits : LinkFits link) (h : History) (i : List InboxRecord) (entries : IsOutbox h.made)
+module _ {S K D N C J : Type 0} (G : Ghosts J) (told : G.tells) (sees : Sees S K D N C) (role : Role) (link : Link) (h : History) (i : List InboxRecord) (entries : IsOutbox h.made)
     (before after : SessionOutside S K D N C) (outboxes inboxes : List ℕ → Type 0) (lives : List Served)
     (out_at : IsAt sees outboxes before.out_disk) (in_at : IsAt sees inboxes before.in_disk)
     (later : Comes h i (end_of role link) (sees.may_leave after.out_disk) (sees.may_leave after.in_disk) lives) where
@@ -125,7 +154,7 @@ module _ {S K D N C J : Type 0} (G : Ghosts J) (told : G.tells) (sees : Sees S K
   }
 
   -- one was, with OUT as it had gone on
-  module _ (begun : K) (mine : Link) (same : mine ≡ link) (senders : Senders) (old new : Inbox J G) (result : Result (Unit {0}) ServeFault)
+  module _ (begun : K) (mine : Link) (same : IsOf link mine) (senders : Senders) (old new : Inbox J G) (result : Result (Unit {0}) ServeFault)
       (v : LivedOver sees (end_of role mine) senders (record before { out = begun }) after old new result) where
     abbrev config : EndConfig
     config = end_of role mine
@@ -143,7 +172,7 @@ module _ {S K D N C J : Type 0} (G : Ghosts J) (told : G.tells) (sees : Sees S K
     k = v.served.life
 
     fits_so : LinkFits mine
-    fits_so = subst LinkFits (sym same) fits
+    fits_so = same.fits
 
     -- what the next life found of both boxes
     out_image : IsImage (outbox_of v.closing) v.lost (outbox_of later.opened)
@@ -208,8 +237,8 @@ module _ {S K D N C J : Type 0} (G : Ghosts J) (told : G.tells) (sees : Sees S K
         makes : AllByRecursion MakesTurns (sides j ts)
         makes = widen_all mine_end h ts closing_left entries legs.makes
 
-        config_is : config ≡ end_of role link
-        config_is = ap (λ (l : Link). end_of role l) same
+        config_is : SameSession (end_of role link) config
+        config_is = same_session role link mine same
 
         opened_finish : IfSome m.facts.recorded.finish (λ n. n ≡ length h.made)
         opened_finish = by_mark v.opening.finished refl
@@ -222,7 +251,7 @@ module _ {S K D N C J : Type 0} (G : Ghosts J) (told : G.tells) (sees : Sees S K
         reopens = record {
           outbox = sym found.outbox;
           ready = record { awaits = stays.ready.awaits; range = stays.ready.range; entries = entries };
-          config = config_is ∙ sym found.config_is;
+          config = of_one_session (end_of role link) e.state.config config found.config_is config_is;
           most = sym found.most;
           next = v.holds.noticed.next ∙ found.next;
           last = v.holds.noticed.peer_last ∙ sym found.last;
@@ -243,7 +272,7 @@ module _ {S K D N C J : Type 0} (G : Ghosts J) (told : G.tells) (sees : Sees S K
         found_there : Found h (end_of role link) (over h closed) later.opened later.waiting
         found_there = record {
           outbox = refl;
-          config_is = kept.alike.config ∙ config_is;
+          config_is = subst (λ (c : EndConfig). SameSession (end_of role link) c) (sym kept.alike.config) config_is;
           most = kept.alike.most;
           next = ap next_number (sym legs.inbox) ∙ sym kept.stays.ready.awaits;
           within = let next = kept.stays.ready.range.next in let most = kept.alike.most in omega (arith, next, most);
@@ -293,21 +322,21 @@ module _ {S K D N C J : Type 0} (G : Ghosts J) (told : G.tells) (sees : Sees S K
       way = way;
     }
 
-  module _ (status : Status) (configured : (c : Configuration) → IsConfigured role (sees.left before.config) c → c.link ≡ link) where
+  module _ (status : Status) (configured : (c : Configuration) → IsConfigured role (sees.left before.config) c → IsOf link c.link) where
     abbrev Now : List Served → Type 0
     Now some = Comes h i (end_of role link) outboxes inboxes (some ++ lives)
 
-    by_life : (c : Configuration) → c.link ≡ link → (senders : Senders) → (l : LeftAll sees before after status ⊎ HasLivedOver G sees (end_of role c.link) senders before after status)
+    by_life : (c : Configuration) → IsOf link c.link → (senders : Senders) → (l : LeftAll sees before after status ⊎ HasLivedOver G sees (end_of role c.link) senders before after status)
         → Now (served_in_life G sees role before after status (end_of role c.link) senders l)
     by_life c same senders (inl left) = unlived (unbegun_kept sees before after status left)
     by_life c same senders (inr lived) = lived_on before.out c.link same senders lived.old lived.new lived.result lived.over
 
-    by_input : (c : Configuration) → c.link ≡ link → (l : StopsAtInput sees c.trade.senders before after status ⊎ Lived G sees c.trade.senders (end_of role c.link) before after status)
+    by_input : (c : Configuration) → IsOf link c.link → (l : StopsAtInput sees c.trade.senders before after status ⊎ Lived G sees c.trade.senders (end_of role c.link) before after status)
         → Now (served_behind_input G sees role before after status c l)
     by_input c same (inl refused) = unlived (input_kept sees before after status c.trade.senders refused)
     by_input c same (inr life) = by_life c same (submitting life.plans) life.lived
 
-    by_config : (c : Configuration) → c.link ≡ link → (l : EndsBehindConfig G sees role c before after status) → Now (served_behind_config G sees role before after status c l)
+    by_config : (c : Configuration) → IsOf link c.link → (l : EndsBehindConfig G sees role c before after status) → Now (served_behind_config G sees role before after status c l)
     by_config c same (inl refused) = unlived (boxes_kept sees before after status role c refused)
     by_config c same (inr (inl on)) = by_input c same on.1.ended
     by_config c same (inr (inr on)) = by_life c same (answerers c.trade) on.1.lived.lived
@@ -316,27 +345,27 @@ module _ {S K D N C J : Type 0} (G : Ghosts J) (told : G.tells) (sees : Sees S K
     by_steps (inl stopped) = unlived (config_kept sees before after status role stopped)
     by_steps (inr was) = by_config was.configuration (configured was.configuration was.spelled) was.ended
 
-module _ {S I K A D N C J : Type 0} (G : Ghosts J) (told : G.tells) (sees : FeedSees S I K A D N C) (role : Role) (link : Link) (fits : LinkFits link) (h : History) (i : List InboxRecord) (entries : IsOutbox h.made)
+module _ {S I K A D N C J : Type 0} (G : Ghosts J) (told : G.tells) (sees : FeedSees S I K A D N C) (role : Role) (link : Link) (h : History) (i : List InboxRecord) (entries : IsOutbox h.made)
     (outboxes inboxes : List ℕ → Type 0) (lives : List Served) where
   abbrev Later : SessionOutside S K D N C → Type 0
   Later after = Comes h i (end_of role link) (sees.session.may_leave after.out_disk) (sees.session.may_leave after.in_disk) lives
 
   abbrev IsSpelled : SessionOutside S K D N C → Type 0
-  IsSpelled before = (c : Configuration) → IsConfigured role (sees.session.left before.config) c → c.link ≡ link
+  IsSpelled before = (c : Configuration) → IsConfigured role (sees.session.left before.config) c → IsOf link c.link
 
   by_feeding : (before after : FeedOutside S I K A D N C) (status : Status) → ((d : D) → IsTrue (is_some (sees.session.told d))) → IsAt sees.session outboxes before.out_disk → IsAt sees.session inboxes before.in_disk → Later (session_of after)
       → IsSpelled (session_of before) → (s : FedSteps G sees role before after status)
       → Comes h i (end_of role link) outboxes inboxes (served_fed G sees role before after status (fed_life G sees role before after status s) ++ lives)
   by_feeding before after status tells out_at in_at later configured s = by_fed_life G sees role before after status tells
       (λ l. Comes h i (end_of role link) outboxes inboxes (served_fed G sees role before after status l ++ lives))
-      (λ kept. unlived G told sees.session role link fits h i entries (session_of before) (session_of after) outboxes inboxes lives out_at in_at later kept)
-      (λ l. lived_on G told sees.session role link fits h i entries (session_of before) (session_of after) outboxes inboxes lives out_at in_at later
+      (λ kept. unlived G told sees.session role link h i entries (session_of before) (session_of after) outboxes inboxes lives out_at in_at later kept)
+      (λ l. lived_on G told sees.session role link h i entries (session_of before) (session_of after) outboxes inboxes lives out_at in_at later
       l.begun l.configuration.link (configured l.configuration l.spelled) (submitting (fed_plans l.configuration.trade.senders l.lived.opening.made l.lived.gifts)) l.lived.old l.lived.new l.lived.result
       (over_before G sees role before after status tells l)) s
 
   by_run : (r : Run S K D N C) → IsAt sees.session outboxes r.before.out_disk → IsAt sees.session inboxes r.before.in_disk → Later r.after → IsSpelled r.before → (s : IsRun G sees role r)
       → Comes h i (end_of role link) outboxes inboxes (served_of_run G sees role r s ++ lives)
-  by_run r out_at in_at later configured (inl steps) = by_steps G told sees.session role link fits h i entries r.before r.after outboxes inboxes lives out_at in_at later r.status configured steps
+  by_run r out_at in_at later configured (inl steps) = by_steps G told sees.session role link h i entries r.before r.after outboxes inboxes lives out_at in_at later r.status configured steps
   by_run r out_at in_at later configured (inr fed) = by_feeding fed.before fed.after r.status fed.tells
       (subst (λ (b : SessionOutside S K D N C). IsAt sees.session outboxes b.out_disk) fed.begins out_at)
       (subst (λ (b : SessionOutside S K D N C). IsAt sees.session inboxes b.in_disk) fed.begins in_at)
@@ -344,10 +373,12 @@ module _ {S I K A D N C J : Type 0} (G : Ghosts J) (told : G.tells) (sees : Feed
       (subst IsSpelled fed.begins configured)
       fed.steps
 
-module _ {S I K A D N C J : Type 0} (G : Ghosts J) (told : G.tells) (sees : FeedSees S I K A D N C) (role : Role) (link : Link) (flows : Flows) (fits : LinkFits link) (h : History) (i : List InboxRecord) (entries : IsOutbox h.made)
+module _ {S I K A D N C J : Type 0} (G : Ghosts J) (told : G.tells) (sees : FeedSees S I K A D N C) (role : Role) (link : Link) (flows : Flows) (h : History) (i : List InboxRecord) (entries : IsOutbox h.made)
     (outbox inbox : List ℕ) (outbox_is : IsJournal outbox (records_of_history h)) (inbox_is : IsJournal inbox (records_of_inbox i)) where
-  spelled_so : (r : Run S K D N C) → ConfiguresLink sees.session role link r → (c : Configuration) → IsConfigured role (sees.session.left r.before.config) c → c.link ≡ link
-  spelled_so r k c spelled = let t = some_of (sees.session.left r.before.config) (HasLink role link) k in t.2 c (spelled t.0 t.1)
+  spelled_so : (r : Run S K D N C) → ConfiguresLink sees.session role link r → (c : Configuration) → IsConfigured role (sees.session.left r.before.config) c → IsOf link c.link
+  spelled_so r k c spelled =
+      let t = some_of (sees.session.left r.before.config) (HasLink role link) k in
+      record { matches = t.2 c (spelled t.0 t.1); fits = configurations_fit role t.0 c (spelled t.0 t.1) }
 
   pub comes : (runs : List (Run S K D N C)) (outboxes inboxes : List ℕ → Type 0) (o : RunsOver sees.session (WasRun G sees role flows) runs outboxes inboxes outbox inbox) → AllByRecursion (ConfiguresLink sees.session role link) runs
       → Comes h i (end_of role link) outboxes inboxes (served_over G sees role flows outbox inbox runs outboxes inboxes o)
@@ -360,6 +391,6 @@ module _ {S I K A D N C J : Type 0} (G : Ghosts J) (told : G.tells) (sees : Feed
     way = λ e found. record { behind = e; legs = []; links = tt; path = arrives; found = found; closes = λ _. tt; left = λ x f. absurd (cc f); over = λ s f. absurd (cc f) };
   }
   comes (r ∷ later) outboxes inboxes o configured =
-      by_run G told sees role link fits h i entries outboxes inboxes
+      by_run G told sees role link h i entries outboxes inboxes
       (served_over G sees role flows outbox inbox later (sees.session.may_leave r.after.out_disk) (sees.session.may_leave r.after.in_disk) o.3) r o.0 o.1
       (comes later (sees.session.may_leave r.after.out_disk) (sees.session.may_leave r.after.in_disk) o.3 configured.1) (spelled_so r configured.0) o.2.steps

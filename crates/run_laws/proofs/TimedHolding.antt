@@ -40,7 +40,7 @@ use Rattle.run_laws.specs.TimedLaws.{HasWhole, AreLinked, RunsEndInTime, FinishI
 use Rattle.run_laws.proofs.Closing.{IsLast}
 use Rattle.run_laws.proofs.Counting.{in_time_so}
 use Rattle.run_laws.proofs.Paths.{BothHold, both_hold}
-use Rattle.run_laws.proofs.TimedChaining.{Found, Way, Comes, comes}
+use Rattle.run_laws.proofs.TimedChaining.{same_session, Found, Way, Comes, comes}
 use Rattle.run_laws.proofs.Carrying.{linked_are_carried, runs_brought}
 
 abbrev nothing : History
@@ -75,7 +75,7 @@ module _ {S I K A D N C J : Type 0} (G : Ghosts J) (told : G.tells) (sees : Feed
   first = unlived G sees role link e
 
   came : Comes e.outbox e.inbox config IsEmptyJournal IsEmptyJournal (lives G sees role link e)
-  came = comes G told sees role link (flows_in link) e.fits e.outbox e.inbox (entries G sees role link e) e.ran.outbox e.ran.inbox e.ran.outbox_is e.ran.inbox_is e.runs IsEmptyJournal IsEmptyJournal e.ran.over e.configured
+  came = comes G told sees role link (flows_in link) e.outbox e.inbox (entries G sees role link e) e.ran.outbox e.ran.inbox e.ran.outbox_is e.ran.inbox_is e.runs IsEmptyJournal IsEmptyJournal e.ran.over e.configured
 
   none_opened : came.opened ≡ nothing
   none_opened =
@@ -86,7 +86,7 @@ module _ {S I K A D N C J : Type 0} (G : Ghosts J) (told : G.tells) (sees : Feed
   none_waiting = same_inbox came.waiting [] (at_most_one_verdict.one_list came.in_was.0 (records_of_inbox came.waiting) [] came.in_was.2 came.in_was.1)
 
   unlived_found : Found e.outbox config first nothing []
-  unlived_found = record { outbox = refl; config_is = refl; most = refl; next = refl; within = omega arith; last = refl; sent = omega arith; finish = tt }
+  unlived_found = record { outbox = refl; config_is = same_session role link link (record { matches = record { session = refl; credentials = refl; client = refl; server = refl }; fits = e.fits }); most = refl; next = refl; within = omega arith; last = refl; sent = omega arith; finish = tt }
 
   -- its way over all its lives
   pub way : Way e.outbox e.inbox config (lives G sees role link e) first
@@ -102,7 +102,7 @@ module _ {S I K A D N C J : Type 0} (G : Ghosts J) (told : G.tells) (sees : Feed
     credentials = l.matches.credentials;
     outward = l.matches.client;
     homeward = sym l.matches.server;
-    keepalive = (i.interval, i.fits.keepalive);
+    keepalive = (i.fits.interval, i.fits.keepalive);
   }
 
   pub way_i : Way i.outbox i.inbox (end_of Initiator li) (lives G sees Initiator li i) (unlived G sees Initiator li i)
@@ -166,9 +166,9 @@ awaits flow h g c d writer reader j inbox w r own peer knows ends there =
     record {
       finished = last.marked;
       next = λ numbered.
-          let sequenced : is_sequenced reader.state.config.peer_flow ≡ true = ap (λ (x : EndConfig). is_sequenced x.peer_flow) r.config_is ∙ (ap is_sequenced peer ∙ numbered) in
+          let sequenced : is_sequenced reader.state.config.peer_flow ≡ true = ap is_sequenced r.config_is.peer ∙ (ap is_sequenced peer ∙ numbered) in
           let behind : reader.state.facts.recorded.inbox_next ≡ n.0 + 1 = of_some (λ (k : ℕ). reader.state.facts.recorded.inbox_next ≡ k + 1) reader.state.facts.recorded.peer_last n.0 recorded (ends sequenced) in
-          let flows : is_sequenced writer.state.config.own_flow ≡ true = ap (λ (x : EndConfig). is_sequenced x.own_flow) w.config_is ∙ (ap is_sequenced own ∙ numbered) in
+          let flows : is_sequenced writer.state.config.own_flow ≡ true = ap is_sequenced w.config_is.own ∙ (ap is_sequenced own ∙ numbered) in
           let is : n.0 ≡ length h.made = told.2 ∙ ap (λ (b : Bool). if b then length h.made else 0) flows in
           let next : next_number inbox ≡ reader.state.facts.recorded.inbox_next = r.next in
           omega (arith, next, behind, is);

@@ -1,5 +1,5 @@
 -- The sample, computed.
-use Rattle.std.proofs.Common.{◌≡◌, [], ◌∷◌, ◌++◌, map, Ok, refl, sym, ap, ◌∙◌, arith}
+use Rattle.std.proofs.Common.{◌≡◌, [], ◌∷◌, ◌++◌, map, Ok, refl, sym, subst, ◌∙◌, arith}
 use Rattle.fixp_shake.specs.declared.config.Role.{Role}
 use Rattle.fixp_shake.specs.declared.config.Role.TheVariants.{Initiator, Acceptor}
 use Rattle.turn_laws.specs.Legs.{all_turns}
@@ -11,17 +11,19 @@ use Rattle.cmd_session.specs.Inputs.{configuration_at}
 use Rattle.run_laws.specs.Pieces.{LinkFits}
 use Rattle.run_laws.specs.Samples.{configured, config_text, fed_memory, with_one, nothing, runs_of_initiator, runs_of_acceptor}
 use Rattle.run_laws.proofs.Sampled.{leg_i, leg_a, ran_i, ran_a}
-use Rattle.run_laws.proofs.Spelled.{spelled_initiator, spelled_acceptor}
+use Rattle.run_laws.proofs.Spelled.{spelled_initiator, spelled_acceptor, spelled_later}
 use Rattle.honest_turns.specs.Links.{initiator_turns, acceptor_turns, OverOneLink}
 use Rattle.honest_turns.specs.Lives.{no_more, paired}
-use Rattle.run_laws.specs.TimedRuns.{EndRan, HasLink}
-use Rattle.run_laws.specs.TimedSamples.{RunInTime, RunsInTimeSample}
+use Rattle.run_laws.specs.TimedRuns.{Matching, EndRan, HasLink}
+use Rattle.run_laws.specs.TimedSamples.{RunInTime, RunsInTimeSample, later_configured, LaterSample}
 
 fits : LinkFits configured.link
-fits = record { session = refl; keepalive = omega arith; credentials = omega arith }
+fits = record { session = refl; interval = omega arith; keepalive = omega arith; credentials = omega arith }
 
 has_link : (role : Role) → configuration_at role config_text ≡ Ok configured → HasLink role configured.link config_text
-has_link role spelled c e = let same : c ≡ configured = cc (sym spelled ∙ e) in ap (λ (d : Configuration). d.link) same
+has_link role spelled c e =
+    let same : configured ≡ c = cc (sym spelled ∙ e) in
+    subst (λ (d : Configuration). Matching configured.link d.link) same (record { session = refl; credentials = refl; client = refl; server = refl })
 
 -- the initiator sends, the acceptor is given two bytes, and then its link fails
 over_link : OverOneLink leg_i leg_a
@@ -40,7 +42,6 @@ module _ {J : Type 0} {G : Ghosts J} (box : Inbox J G) (held : HoldsBox box [] [
     inbox = [];
     ran = ran_i box held config_text spelled_initiator;
     fits = fits;
-    interval = omega arith;
     configured = (has_link Initiator spelled_initiator, (has_link Initiator spelled_initiator, tt));
     few = omega arith;
   }
@@ -52,7 +53,6 @@ module _ {J : Type 0} {G : Ghosts J} (box : Inbox J G) (held : HoldsBox box [] [
     inbox = [];
     ran = ran_a box held config_text spelled_acceptor;
     fits = fits;
-    interval = omega arith;
     configured = (has_link Acceptor spelled_acceptor, (has_link Acceptor spelled_acceptor, tt));
     few = omega arith;
   }
@@ -72,3 +72,11 @@ module _ {J : Type 0} {G : Ghosts J} (box : Inbox J G) (held : HoldsBox box [] [
 
 pub runs_in_time_sample : {J : Type 0} {G : Ghosts J} (box : Inbox J G) → RunsInTimeSample box
 runs_in_time_sample box held = run_in_time box held
+
+pub later_sample : LaterSample
+later_sample = (
+  spelled_later,
+  λ c e.
+      let same : later_configured ≡ c = cc (sym spelled_later ∙ e) in
+      subst (λ (d : Configuration). Matching configured.link d.link) same (record { session = refl; credentials = refl; client = refl; server = refl }),
+)

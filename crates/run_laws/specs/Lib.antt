@@ -3,10 +3,12 @@ pub mod Several
 pub mod FedLives
 pub mod Linked
 pub mod Holding
+pub mod GoingOn
 pub mod Pieces
 pub mod Senders
 pub mod Promise
 pub mod Samples
+pub mod GoingOnSamples
 pub mod Standing
 pub mod FedLaws
 pub mod Outs

@@ -26,6 +26,7 @@ pub record BoxesTell : Type 0 where
 -- the session has 16 bytes, and the interval and the credentials fit the machine
 pub record LinkFits (l : Link) : Type 0 where
   pub session : length l.session ≡ 16
+  pub interval : 100 ≤ l.keepalive
   pub keepalive : l.keepalive ≤ 60000
   pub credentials : length l.credentials ≤ 2048
 

@@ -13,8 +13,8 @@ use Rattle.honest_ends.specs.Resting.{IsIdle}
 use Rattle.honest_turns.specs.Links.{OverOneLink}
 use Rattle.honest_turns.specs.Sides.{NothingLeft}
 use Rattle.honest_turns.specs.Lives.{InTime}
-use Rattle.run_laws.specs.TimedRuns.{Served, EndRan, lives, legs_of, last_line, last_machine}
-use Rattle.run_laws.specs.TimedLaws.{Matching, HasWhole}
+use Rattle.run_laws.specs.TimedRuns.{Served, Matching, EndRan, lives, legs_of, last_line, last_machine}
+use Rattle.run_laws.specs.TimedLaws.{HasWhole}
 
 -- The last connections of both ends lie over one link, and none of their turns was cut short; all connections before them are in the order of time
 pub record MeetLast (i a : List Served) : Type 0 where

@@ -12,14 +12,7 @@ use Rattle.cmd_config.specs.declared.configuration.Link.{Link}
 use Rattle.cmd_feed.specs.Outsides.{FeedSees}
 use Rattle.honest_turns.specs.Lives.{InTime}
 use Rattle.run_laws.specs.Served.{ClosesInTime}
-use Rattle.run_laws.specs.TimedRuns.{EndRan, lives, legs_of, ended_of}
-
--- the links of two ends of one session, which each sends what the other receives
-pub record Matching (i a : Link) : Type 0 where
-  pub session : a.session ≡ i.session
-  pub credentials : a.credentials ≡ i.credentials
-  pub client : a.client_flow ≡ i.client_flow
-  pub server : a.server_flow ≡ i.server_flow
+use Rattle.run_laws.specs.TimedRuns.{Matching, EndRan, lives, legs_of, ended_of}
 
 -- an inbox of this flow has all of an outbox: where the flow has numbers it awaits one past all of its entries, and where it is recoverable it
 -- has applied them all, in order

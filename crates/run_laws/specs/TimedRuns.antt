@@ -121,16 +121,24 @@ last_machine (s ∷ t ∷ later) = last_machine (t ∷ later)
 abbrev pub flows_in : Link → Flows
 flows_in link = record { client = link.client_flow; server = link.server_flow }
 
--- a CONFIG that spells a configuration for an end of this role spells one with this link
+-- two links of one session: its identifier, its credentials and its flows are the same. How often an end is to hear and to be heard, and the version of the session
+-- schema that it speaks, are its own
+pub record Matching (i a : Link) : Type 0 where
+  pub session : a.session ≡ i.session
+  pub credentials : a.credentials ≡ i.credentials
+  pub client : a.client_flow ≡ i.client_flow
+  pub server : a.server_flow ≡ i.server_flow
+
+-- a CONFIG that spells a configuration for an end of this role spells one with a link of the session of this one
 abbrev pub HasLink : Role → Link → List ℕ → Type 0
-HasLink role link text = (c : Configuration) → configuration_at role text ≡ Ok c → c.link ≡ link
+HasLink role link text = (c : Configuration) → configuration_at role text ≡ Ok c → Matching link c.link
 
 module _ {S K D N C : Type 0} where
   abbrev pub ConfiguresLink : Sees S K D N C → Role → Link → Run S K D N C → Type 0
   ConfiguresLink sees role link r = IsSomeAnd (sees.left r.before.config) (HasLink role link)
 
 module _ {S I K A D N C J : Type 0} where
-  -- All runs of an end, from two journals without records on, each by a CONFIG with this link, which is one that CONFIG may spell; behind them a
+  -- All runs of an end, from two journals without records on, each by a CONFIG with a link of the session of this one, which CONFIG may spell; behind them a
   -- stop may leave, or leaves, a journal of this history, of no more entries than an end takes, and one of this list
   pub record EndRan (G : Ghosts J) (sees : FeedSees S I K A D N C) (role : Role) (link : Link) : Type 0 where
     pub runs : List (Run S K D N C)
@@ -138,7 +146,6 @@ module _ {S I K A D N C J : Type 0} where
     pub inbox : List InboxRecord
     pub ran : HasRun G sees role (flows_in link) runs outbox inbox
     pub fits : LinkFits link
-    pub interval : 100 ≤ link.keepalive
     pub configured : AllByRecursion (ConfiguresLink sees.session role link) runs
     pub few : length outbox.made ≤ 2 ^ 26
 

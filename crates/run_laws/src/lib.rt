@@ -13,8 +13,9 @@ mod timed;
 pub use pieces::{boxes_tell, carried_are_linked, configurations_fit, images_within};
 pub use runs::{desks_complete, fresh_is_set_up, run_completes};
 pub use several::{
-    boxes_are_left, closings_stand, desks_hold, desks_sample, fed_hold, inputs_hold, none_is_lost,
-    out_tells, run_keeps, runs_hold, runs_sample, senders_hold,
+    boxes_are_left, closings_stand, desks_hold, desks_sample, fed_hold, going_on_sample,
+    inputs_hold, kept_between, none_is_lost, out_tells, run_keeps, runs_go_on, runs_hold,
+    runs_sample, senders_hold,
 };
 pub use timed::{
     done_is_whole, finish_is_whole, rest_is_whole, runs_end_in_time, runs_in_time_sample,

@@ -6,6 +6,8 @@ ghost use Rattle.cmd_feed.specs.Outsides.{feed_sees};
 ghost use Rattle.run_laws.specs.DeskSamples.{DesksSample};
 ghost use Rattle.run_laws.specs.Desks.{DesksHold};
 ghost use Rattle.run_laws.specs.FedLaws.{FedHold};
+ghost use Rattle.run_laws.specs.GoingOn.{KeptBetween, RunsGoOn};
+ghost use Rattle.run_laws.specs.GoingOnSamples.{GoingOnSample};
 ghost use Rattle.run_laws.specs.Holding.{BoxesAreLeft, NoneIsLost, RunsHold};
 ghost use Rattle.run_laws.specs.Outs.{OutTells};
 ghost use Rattle.run_laws.specs.Promise.{RunKeeps};
@@ -23,6 +25,22 @@ use jr_segments::SegJournal;
 /// its flow promises.
 pub fn runs_hold<S: Source, I: Source, K: Sink, A: Sink, D: Disk, N: Dialer, C: Clock>()
     ensures law { (keeps : Bool) → RunsHold ⟦<SegJournal<D> as Journal>⟧ (feed_sees (sees S.Source K.Sink D.Disk N.Dialer N.Link.Link C.Clock) keeps I.Source A.Sink) }
+{}
+
+/// Two ends ran, each any number of times, from whatever boxes and with whatever kept both journals between two runs: what the inbox of each adds is of the outbox
+/// of the other, by its flow; and what it held of that before, it holds.
+pub fn runs_go_on<S: Source, I: Source, K: Sink, A: Sink, D: Disk, N: Dialer, C: Clock>()
+    ensures law { (keeps : Bool) → RunsGoOn ⟦<SegJournal<D> as Journal>⟧ (feed_sees (sees S.Source K.Sink D.Disk N.Dialer N.Link.Link C.Clock) keeps I.Source A.Sink) }
+{}
+
+/// Two ends meet all premises of `runs_go_on` on runs, the outbox of one of which had an entry at first, and both journals of which were looked at before the run.
+pub fn going_on_sample<I: Journal>(empty: &Inbox<I>)
+    ensures law { GoingOnSample empty.now }
+{}
+
+/// What `journal`, `migrate` and a refused `format` keep of a disk is all that is asked of what stands between two runs.
+pub fn kept_between<D: Disk>()
+    ensures law { KeptBetween D.told D.may_leave }
 {}
 
 /// Behind any runs of an end, whatever a stop leaves of its disks has a list of records.

@@ -7,7 +7,7 @@ ghost use Rattle.run_laws.specs.Served.{ServedHolds};
 ghost use Rattle.run_laws.specs.TimedLaws.{FinishIsWhole, RunsEndInTime};
 ghost use Rattle.run_laws.specs.Resting.{RestIsWhole};
 ghost use Rattle.run_laws.specs.Done.{DoneIsLived, DoneIsWhole};
-ghost use Rattle.run_laws.specs.TimedSamples.{RunsInTimeSample};
+ghost use Rattle.run_laws.specs.TimedSamples.{LaterSample, RunsInTimeSample};
 
 use gw_links::{Clock, Dialer};
 use gw_outside::{Disk, Sink, Source};
@@ -46,7 +46,9 @@ pub fn rest_is_whole<S: Source, I: Source, K: Sink, A: Sink, D: Disk, N: Dialer,
     ensures law { (keeps : Bool) → RestIsWhole ⟦<SegJournal<D> as Journal>⟧ (feed_sees (sees S.Source K.Sink D.Disk N.Dialer N.Link.Link C.Clock) keeps I.Source A.Sink) }
 {}
 
-/// Two runs of each of two ends in memory, the second of either a next life, meet all premises of `runs_end_in_time` on runs.
+/// Two runs of each of two ends in memory, the second of either a next life, meet all premises of `runs_end_in_time` on runs; and so would a next CONFIG with another
+/// interval and version.
 pub fn runs_in_time_sample<I: Journal>(empty: &Inbox<I>)
     ensures law { RunsInTimeSample empty.now }
+    ensures later { LaterSample }
 {}

@@ -31,6 +31,12 @@ fn word_of(text: &[u8]) -> &[u8] {
     text.get(..at.unwrap_or(text.len())).unwrap_or(text)
 }
 
+/// What stands in front of the rest of a text.
+fn in_front<'a>(text: &'a [u8], rest: &[u8]) -> &'a [u8] {
+    let size = text.len().saturating_sub(rest.len());
+    text.get(..size).unwrap_or(text)
+}
+
 impl Strict {
     /// The strict lines of a text.
     pub fn of(alloc: Global, plan: &Plan, text: &[u8]) -> Result<Strict, AllocError> {
@@ -40,11 +46,11 @@ impl Strict {
         };
         let mut narrow = Narrow::new(alloc);
         let mut left = text;
+        let mut before = 0u64;
         for _ in 0..text.len() {
             if left.is_empty() {
                 break;
             }
-            let before = count_lines(text).saturating_sub(count_lines(left));
             let end = match narrow_message(alloc, plan, left, &mut narrow) {
                 Ok(rest) => Ok(rest),
                 Err(NarrowError::Mistake { line, .. }) => Err(line),
@@ -52,7 +58,10 @@ impl Strict {
             };
             strict.add(&narrow, before)?;
             match end {
-                Ok(rest) => left = rest,
+                Ok(rest) => {
+                    before = before.saturating_add(count_lines(in_front(left, rest)));
+                    left = rest;
+                }
                 Err(line) => {
                     strict.add_wrong(left, before, line)?;
                     return Ok(strict);

@@ -30,6 +30,9 @@ const APART: &str =
 /// Why it cannot where a flow differs.
 const OTHER_FLOW: &str = "server_flow is another one at the peer than in CONFIG";
 
+/// Why one is refused that gives other credentials.
+const OTHER_CREDENTIALS: &str = "its credentials are not those in CONFIG";
+
 /// The permission of all users to read a file.
 const READ_BY_ALL: u32 = 0o004;
 
@@ -430,15 +433,21 @@ impl<'a, R: Clock + Eprint + Files<File = File>> Teller<'a, R> {
         }
     }
 
+    /// Adds that another session was asked for.
+    fn push_other_session(&self, line: &mut String, session: &[u8; 16]) -> Result<(), AllocError> {
+        line.push_str("refused: it asks for session ")?;
+        push_session(line, session)?;
+        if let Some(configuration) = self.configuration() {
+            line.push_str(", and CONFIG has ")?;
+            push_session(line, &configuration.link.session)?;
+        }
+        Ok(())
+    }
+
     /// That the peer asked for another session.
     fn other_session(&self) -> Result<String, AllocError> {
         let mut line = self.of_peer()?;
-        line.push_str("refused: it asks for session ")?;
-        push_session(&mut line, &self.heed.get().asked_session)?;
-        if let Some(configuration) = self.configuration() {
-            line.push_str(", and CONFIG has ")?;
-            push_session(&mut line, &configuration.link.session)?;
-        }
+        self.push_other_session(&mut line, &self.heed.get().asked_session)?;
         Ok(line)
     }
 
@@ -465,7 +474,7 @@ impl<'a, R: Clock + Eprint + Files<File = File>> Teller<'a, R> {
     fn refuse_session(&self, m: &NegotiationReject<'_>) {
         match m.code {
             1 => self.warn(self.other_session()),
-            2 => self.warn(self.refused("its credentials are not those in CONFIG")),
+            2 => self.warn(self.refused(OTHER_CREDENTIALS)),
             3 => self.warn(self.refused_flow()),
             _ => {}
         }
@@ -496,9 +505,66 @@ impl<'a, R: Clock + Eprint + Files<File = File>> Teller<'a, R> {
             2 => self.say(self.refused("the session is not negotiated yet, and it may do so")),
             3 => self.warn(self.refused("the connection is established already")),
             5 => self.warn(self.refused_keepalive()),
-            6 => self.warn(self.refused("its credentials are not those in CONFIG")),
+            6 => self.warn(self.refused(OTHER_CREDENTIALS)),
             _ => {}
         }
+    }
+
+    /// The front of a line about a guest: the time, and its address.
+    fn of_guest(&self, peer: SocketAddr) -> Result<String, AllocError> {
+        let mut line = self.begun()?;
+        write!(line, "{peer} ")?;
+        Ok(line)
+    }
+
+    /// That a guest was rejected, which asked for this session where it is another one, and how many others were turned away.
+    fn rejected(
+        &self,
+        peer: SocketAddr,
+        asked: Option<[u8; 16]>,
+        others: u64,
+    ) -> Result<String, AllocError> {
+        let mut line = self.of_guest(peer)?;
+        match asked {
+            Some(session) => self.push_other_session(&mut line, &session)?,
+            None => {
+                line.push_str("refused: ")?;
+                line.push_str(OTHER_CREDENTIALS)?;
+            }
+        }
+        if others > 0 {
+            write!(line, "; others turned away: {others}")?;
+        }
+        Ok(line)
+    }
+
+    /// How many others were turned away.
+    fn turned_away(&self, others: u64) -> Result<String, AllocError> {
+        let mut line = self.begun()?;
+        write!(line, "others turned away: {others}")?;
+        Ok(line)
+    }
+
+    /// That a guest waits.
+    fn waits(&self, peer: SocketAddr, behind: SocketAddr) -> Result<String, AllocError> {
+        let mut line = self.of_guest(peer)?;
+        write!(
+            line,
+            "gives this session's credentials and waits: {behind} is connected"
+        )?;
+        Ok(line)
+    }
+
+    /// That a guest takes over.
+    fn takes_over(
+        &self,
+        peer: SocketAddr,
+        from: SocketAddr,
+        silent: u64,
+    ) -> Result<String, AllocError> {
+        let mut line = self.of_guest(peer)?;
+        write!(line, "takes over: {from} was silent for {silent} ms")?;
+        Ok(line)
     }
 
     /// That the connection ended so.
@@ -704,6 +770,16 @@ impl<R: Clock + Eprint + Files<File = File>> Ear for Teller<'_, R> {
             Heard::WentUnseen => self.lose_sight(),
             Heard::Line(line) => self.take_line(line),
             Heard::Reads => self.say(self.reading()),
+            Heard::Refused {
+                peer,
+                asked,
+                others,
+            } => self.warn(self.rejected(peer, asked, others)),
+            Heard::TurnedAway { others } => self.warn(self.turned_away(others)),
+            Heard::Waits { peer, behind } => self.warn(self.waits(peer, behind)),
+            Heard::TakesOver { peer, from, silent } => {
+                self.warn(self.takes_over(peer, from, silent));
+            }
             Heard::Over | Heard::MessageCame => {}
         }
     }

@@ -5,10 +5,12 @@ use crate::missing::push_missing;
 use crate::plans::{PlanLine, plan_line};
 use cmd_base::{Bad, JournalCause, Which};
 use cmd_config::{Purpose, Role, read_configuration};
+use conn_keys::Knowing;
 use gw_appended_files::AppendedFile;
 use gw_fed_files::ComingFile;
+use gw_porch::PortGuests;
 use gw_real::{FileDisk, FileSink, Kept, Named, Reason};
-use gw_sockets::{AcceptDialer, ConnectDialer, SocketReason};
+use gw_sockets::{ConnectDialer, SocketReason};
 use say_config::{Wanted, push_config_fault};
 use say_faults::{push_plan_fault, push_rejected};
 use schema_toml::ConfigFault;
@@ -166,9 +168,9 @@ impl<R> SaysWhy for FileDisk<'_, R> {
     }
 }
 
-impl<R: Net<Listener = TcpListener, Stream = TcpStream> + Clock> SaysWhy for AcceptDialer<'_, R> {
+impl<R, E> SaysWhy for Knowing<PortGuests<'_, R, E>> {
     fn push_why(&self, line: &mut String, name: Named<'_>) -> Result<bool, AllocError> {
-        let Some(reason) = self.reason() else {
+        let Some(reason) = self.guests().reason() else {
             return Ok(false);
         };
         push_dial(line, name, reason)?;

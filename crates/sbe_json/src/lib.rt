@@ -6,4 +6,4 @@ mod names;
 mod values;
 
 pub use fields::write_message;
-pub use values::text_of;
+pub use values::{text_of, write_text};

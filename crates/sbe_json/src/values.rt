@@ -1,6 +1,6 @@
 //! The values of elements.
 
-ghost use Rattle.std.specs.Prelude.{◌≡◌, ◌∷◌, ◌++◌, [], string_bytes, IfOk, OnOk};
+ghost use Rattle.std.specs.Prelude.{◌≡◌, ◌∷◌, ◌++◌, [], string_bytes, IfOk, IfSome, OnOk};
 ghost use Rattle.hex.specs.Hex.{encode_lower};
 ghost use Rattle.json.specs.Token as token;
 ghost use Rattle.sbe_json.specs.Fields.{is_wide, number_token, text_of};
@@ -9,6 +9,7 @@ use itoa::Buffer;
 use json::Writer;
 use sbe_prim::{Primitive, can_hold};
 use std::alloc::{AllocError, Global};
+use std::str::from_utf8;
 
 /// Bytes as a text: each is the character of its number.
 ///
@@ -22,6 +23,20 @@ pub fn text_of(alloc: Global, bytes: &[u8]) -> Result<String, AllocError>
         text.push(char::from(*byte))?;
     }
     Ok(text)
+}
+
+/// Bytes as a text, where all are characters of ASCII, which need no memory.
+#[tactic(auto, using(crate::proofs::Plain::ascii_encoded))]
+fn plain(bytes: &[u8]) -> Option<&str>
+    ensures { IfSome result (λ text. text.now ≡ text_of bytes.now) }
+{
+    if !bytes.is_ascii() {
+        return None;
+    }
+    match from_utf8(bytes) {
+        Ok(text) => Some(text),
+        Err(_) => None,
+    }
 }
 
 /// Whether many readers of JSON would not keep all bits of its numbers.
@@ -48,6 +63,9 @@ pub fn write_key(alloc: Global, writer: &mut Writer, name: &[u8]) -> Result<(), 
     ensures before { writer.new.before ≡ writer.old.before }
     ensures tokens { OnOk result (writer.new.tokens ≡ writer.old.tokens ++ token.key (text_of name.now) ∷ []) }
 {
+    if let Some(text) = plain(name) {
+        return writer.key(text);
+    }
     let text = text_of(alloc, name)?;
     writer.key(text.as_str())
 }
@@ -57,6 +75,9 @@ pub fn write_text(alloc: Global, writer: &mut Writer, bytes: &[u8]) -> Result<()
     ensures before { writer.new.before ≡ writer.old.before }
     ensures tokens { OnOk result (writer.new.tokens ≡ writer.old.tokens ++ token.string (text_of bytes.now) ∷ []) }
 {
+    if let Some(text) = plain(bytes) {
+        return writer.string(text);
+    }
     let text = text_of(alloc, bytes)?;
     writer.string(text.as_str())
 }

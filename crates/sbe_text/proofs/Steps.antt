@@ -1,7 +1,7 @@
 -- Reading a list part by part.
 use Rattle.std.proofs.Common.{◌≡◌, ℕ, Ok, Err, List, refl, ap, sym, ◌∙◌}
 use Rattle.sbe_text.specs.declared.error.Refusal.{Refusal}
-use Rattle.sbe_text.specs.declared.error.Refusal.TheVariants.{Left, Memory}
+use Rattle.sbe_text.specs.declared.error.Refusal.TheVariants.{At, Memory}
 use Rattle.sbe_text.specs.Read.{Read, next}
 use Rattle.sbe_text.specs.Answers.{Fails}
 
@@ -21,7 +21,7 @@ along_step f g cons read r v after e same =
 
 -- the refusal of a part is that of the whole
 pub along_fails : {A B : Type 0} (f : A → A) (r : Read B) (more : B → List (List ℕ) → Read A) (e : Refusal) (whole : Read A) → along f (next r more) ≡ whole → Fails e r → Fails e whole
-along_fails f r more (Left n) whole inv h = sym inv ∙ ap (λ q. along f (next q more)) h
+along_fails f r more (At n) whole inv h = sym inv ∙ ap (λ q. along f (next q more)) h
 along_fails f r more Memory whole inv h = tt
 
 pub along_same : {A : Type 0} (f : A → A) → ((x : A) → f x ≡ x) → (r : Read A) → along f r ≡ r

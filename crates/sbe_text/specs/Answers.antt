@@ -1,16 +1,17 @@
 -- How what a reader of the code answers is tied to what the definitions read.
-use Rattle.std.specs.Prelude.{◌≡◌, ⊤, ℕ, Result, Ok, Err}
+use Rattle.std.specs.Prelude.{◌≡◌, ⊤, ℕ, Result, Ok, Err, length}
 use Rattle.sbe_value.specs.declared.tree.Block.{Block}
 use Rattle.sbe_value.specs.declared.message.Message.{Message}
 use Rattle.sbe_grammar.specs.Reading.{Entry}
+use Rattle.text_words.specs.Lines.{lines_in}
 use Rattle.sbe_text.specs.declared.error.Refusal.{Refusal}
 use Rattle.sbe_text.specs.declared.error.Refusal.TheVariants as refusal
 use Rattle.sbe_text.specs.declared.error.TextError.{TextError}
 use Rattle.sbe_text.specs.declared.error.TextError.TheVariants.{Line, Memory}
 
--- so many lines are left at the line that is refused; nothing is said where memory ran out
+-- the lines of the text that is left at the line that is refused are as many as is told; nothing is said where memory ran out
 abbrev pub Fails : {B : Type 0} → Refusal → Result B ℕ → Type 0
-Fails (refusal.Left left) told = told ≡ Err left
+Fails (refusal.At left) told = told ≡ Err (length (lines_in left.now))
 Fails refusal.Memory told = ⊤
 
 -- what is answered, seen by `view`, is what is told, unless memory ran out

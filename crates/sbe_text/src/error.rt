@@ -15,27 +15,28 @@ pub enum TextError {
     Memory,
 }
 
-/// Why lines are not read on.
+/// Why lines are not read on. Nothing is counted until a line has to be named: who reads another form of the text next has no
+/// use for a number.
 #[derive(Clone, Copy)]
-pub enum Refusal {
-    /// So many lines are left, and the first of them is refused; none where the text ends too early.
-    Left(u64),
+pub enum Refusal<'a> {
+    /// The first line of this text is refused, which is left of the one that was read; it is empty where that ends too early.
+    At(&'a [u8]),
     /// There is not enough memory.
     Memory,
 }
 
-impl From<AllocError> for Refusal {
+impl<'a> From<AllocError> for Refusal<'a> {
     ghost from_gives = { λ _ e. e ≡ Memory };
 
-    fn from(_e: AllocError) -> Refusal {
+    fn from(_e: AllocError) -> Refusal<'a> {
         Refusal::Memory
     }
 }
 
-impl<T: Drop> From<AllocFailed<T>> for Refusal {
+impl<'a, T: Drop> From<AllocFailed<T>> for Refusal<'a> {
     ghost from_gives = { λ _ e. e ≡ Memory };
 
-    fn from(_e: AllocFailed<T>) -> Refusal {
+    fn from(_e: AllocFailed<T>) -> Refusal<'a> {
         Refusal::Memory
     }
 }

@@ -6,7 +6,6 @@ ghost use Rattle.std.specs.Option.{option_copied};
 ghost use Rattle.sbe_value.specs.Views.{groups_of, blocks_of};
 ghost use Rattle.sbe_layout.specs.Views.{head_of, plans_of};
 ghost use Rattle.sbe_grammar.specs.Fits.{Fits};
-ghost use Rattle.sbe_text.specs.declared.error.Refusal.TheVariants.{Left};
 ghost use Rattle.sbe_text.specs.Answers.{Gives, Tells, Numbers, entry_of};
 ghost use Rattle.text_words.specs.Lines.{lines_in};
 ghost use Rattle.sbe_text.specs.Read.{read_line, read_each};
@@ -42,7 +41,7 @@ fn parse(alloc: Global, plan: &Plan, lines: &[u8]) -> Result<Message, TextError>
     let mut spare = Spare::new(alloc);
     match read_whole(alloc, &mut spare, plan, lines) {
         Ok(message) => Ok(message),
-        Err(Refusal::Left(left)) => Err(refused_line(lines, left)),
+        Err(Refusal::At(left)) => Err(refused_line(lines, left)),
         Err(Refusal::Memory) => Err(TextError::Memory),
     }
 }
@@ -51,12 +50,12 @@ fn parse(alloc: Global, plan: &Plan, lines: &[u8]) -> Result<Message, TextError>
 /// are read one after another in this way.
 ///
 /// # Errors
-/// `Left` with how many lines are left at the first that is not as it has to be, and `Memory`.
+/// `At` with the text from the first line on that is not as it has to be, and `Memory`.
 pub fn first_message<'a>(
     alloc: Global,
     plan: &Plan,
     text: &'a [u8],
-) -> Result<(Message, &'a [u8]), Refusal>
+) -> Result<(Message, &'a [u8]), Refusal<'a>>
     ensures told { Gives (λ x. (x.0, lines_in x.1.now)) result (read_message plan.now.messages (lines_in text.now)) }
     ensures shorter { IfOk result (λ x. length (lines_in x.1.now) < length (lines_in text.now)) }
 {
@@ -73,44 +72,40 @@ pub fn next_message<'a>(
     spare: &mut Spare,
     plan: &Plan,
     text: &'a [u8],
-) -> Result<(Message, &'a [u8]), Refusal>
+) -> Result<(Message, &'a [u8]), Refusal<'a>>
     ensures told { Gives (λ x. (x.0, lines_in x.1.now)) result (read_message plan.now.messages (lines_in text.now)) }
     ensures shorter { IfOk result (λ x. length (lines_in x.1.now) < length (lines_in text.now)) }
 {
     read_message(alloc, spare, plan, text)
 }
 
-/// The number of the line of a text, from 1, at which so many lines are left.
+/// The number of the line of a text, from 1, at which this is left of it.
 // No memory holds a text whose lines cannot be numbered.
-pub fn refused_line(lines: &[u8], left: u64) -> TextError
-    ensures { Numbers result (length (lines_in lines.now) - left + 1) }
+pub fn refused_line(lines: &[u8], left: &[u8]) -> TextError
+    ensures { Numbers result (length (lines_in lines.now) - length (lines_in left.now) + 1) }
 {
-    match count_lines(lines).saturating_sub(left).checked_add(1) {
+    match count_lines(lines)
+        .saturating_sub(count_lines(left))
+        .checked_add(1)
+    {
         Some(number) => TextError::Line(number),
         None => TextError::Memory,
     }
 }
 
-// That the first line of a text is refused.
-fn refused(text: &[u8]) -> Refusal
-    ensures { result ≡ Left (length (lines_in text.now)) }
-{
-    Refusal::Left(count_lines(text))
-}
-
 // The message that a whole text spells.
-fn read_whole(
+fn read_whole<'a>(
     alloc: Global,
     spare: &mut Spare,
     plan: &Plan,
-    text: &[u8],
-) -> Result<Message, Refusal>
+    text: &'a [u8],
+) -> Result<Message, Refusal<'a>>
     ensures { Gives (λ m. m) result (alone (read_message plan.now.messages (lines_in text.now))) }
 {
     let (message, rest) = read_message(alloc, spare, plan, text)?;
     match first_line(rest) {
         None => Ok(message),
-        Some(_) => Err(refused(rest)),
+        Some(_) => Err(Refusal::At(rest)),
     }
 }
 
@@ -120,7 +115,7 @@ fn read_message<'a>(
     spare: &mut Spare,
     plan: &Plan,
     left: &'a [u8],
-) -> Result<(Message, &'a [u8]), Refusal>
+) -> Result<(Message, &'a [u8]), Refusal<'a>>
     ensures { Gives (λ x. (x.0, lines_in x.1.now)) result (read_message plan.now.messages (lines_in left.now)) }
 {
     let (layout, rest) = read_layout(&plan.messages, left)?;
@@ -139,15 +134,15 @@ fn read_message<'a>(
 pub fn read_layout<'p, 'a>(
     messages: &'p MessagePlans,
     left: &'a [u8],
-) -> Result<(&'p MessagePlan, &'a [u8]), Refusal>
+) -> Result<(&'p MessagePlan, &'a [u8]), Refusal<'a>>
     ensures { Gives (λ x. (x.0.now, lines_in x.1.now)) result (read_line (layout_on messages.now) (lines_in left.now)) }
 {
     let Some((line, rest)) = first_line(left) else {
-        return Err(refused(left));
+        return Err(Refusal::At(left));
     };
     match layout_on(messages, line) {
         Some(layout) => Ok((layout, rest)),
-        None => Err(refused(left)),
+        None => Err(Refusal::At(left)),
     }
 }
 
@@ -173,12 +168,12 @@ fn named<'p>(messages: &'p [MessagePlan], name: &[u8]) -> Option<&'p MessagePlan
 }
 
 /// The line `end`.
-pub fn read_end(left: &[u8]) -> Result<&[u8], Refusal>
+pub fn read_end<'a>(left: &'a [u8]) -> Result<&'a [u8], Refusal<'a>>
     ensures { Gives (λ rest. (codes "end", lines_in rest.now)) result (read_line (is_line (codes "end")) (lines_in left.now)) }
 {
     match first_line(left) {
         Some((line, rest)) if line == b"end".as_slice() => Ok(rest),
-        _ => Err(refused(left)),
+        _ => Err(Refusal::At(left)),
     }
 }
 
@@ -187,15 +182,15 @@ pub fn element<'a>(
     before: &[u8],
     name: &Bytes,
     left: &'a [u8],
-) -> Result<(&'a [u8], &'a [u8]), Refusal>
+) -> Result<(&'a [u8], &'a [u8]), Refusal<'a>>
     ensures { Gives (λ x. (x.0.now, lines_in x.1.now)) result (read_line (value_on before.now name.now) (lines_in left.now)) }
 {
     let Some((line, rest)) = first_line(left) else {
-        return Err(refused(left));
+        return Err(Refusal::At(left));
     };
     match value_on(before, name.as_slice(), line) {
         Some(value) => Ok((value, rest)),
-        None => Err(refused(left)),
+        None => Err(Refusal::At(left)),
     }
 }
 
@@ -204,13 +199,13 @@ fn read_item<'a>(
     before: &[u8],
     plan: &ItemPlan,
     left: &'a [u8],
-) -> Result<(Item, &'a [u8]), Refusal>
+) -> Result<(Item, &'a [u8]), Refusal<'a>>
     ensures { Gives (λ x. (x.0, lines_in x.1.now)) result (read_item before.now plan.now (lines_in left.now)) }
 {
     let (text, rest) = element(before, &plan.name, left)?;
     match value(alloc, plan, text)? {
         Some(item) => Ok((item, rest)),
-        None => Err(refused(left)),
+        None => Err(Refusal::At(left)),
     }
 }
 
@@ -220,7 +215,7 @@ fn read_items<'a>(
     before: &[u8],
     plans: &[ItemPlan],
     left: &'a [u8],
-) -> Result<(Vec<Item>, &'a [u8]), Refusal>
+) -> Result<(Vec<Item>, &'a [u8]), Refusal<'a>>
     ensures { Gives (λ x. (x.0.items, lines_in x.1.now)) result (read_each (read_item before.now) plans.now (lines_in left.now)) }
 {
     let mut items = spare.room(alloc, plans.len())?;
@@ -238,13 +233,13 @@ fn read_datum<'a>(
     before: &[u8],
     plan: &DataPlan,
     left: &'a [u8],
-) -> Result<(Datum, &'a [u8]), Refusal>
+) -> Result<(Datum, &'a [u8]), Refusal<'a>>
     ensures { Gives (λ x. (x.0, lines_in x.1.now)) result (read_datum before.now plan.now (lines_in left.now)) }
 {
     let (text, rest) = element(before, &plan.name, left)?;
     match datum(alloc, text)? {
         Some(datum) => Ok((datum, rest)),
-        None => Err(refused(left)),
+        None => Err(Refusal::At(left)),
     }
 }
 
@@ -253,7 +248,7 @@ fn read_data<'a>(
     before: &[u8],
     plans: &[DataPlan],
     left: &'a [u8],
-) -> Result<(Vec<Datum>, &'a [u8]), Refusal>
+) -> Result<(Vec<Datum>, &'a [u8]), Refusal<'a>>
     ensures { Gives (λ x. (x.0.items, lines_in x.1.now)) result (read_each (read_datum before.now) plans.now (lines_in left.now)) }
 {
     let mut data = Vec::with_capacity(alloc, plans.len())?;
@@ -274,7 +269,7 @@ fn read_block<'a>(
     before: &[u8],
     plan: &BlockPlan,
     left: &'a [u8],
-) -> Result<(Block, &'a [u8]), Refusal>
+) -> Result<(Block, &'a [u8]), Refusal<'a>>
     ensures { Gives (λ x. (entry_of x.0, lines_in x.1.now)) result (read_elements before.now plan.now.items (read_groups before.now plan.now.groups) plan.now.vars (lines_in left.now)) }
 {
     let (items, left) = read_items(alloc, spare, before, plan.items.as_slice(), left)?;
@@ -297,7 +292,7 @@ fn read_groups<'a>(
     before: &[u8],
     plans: &[GroupPlan],
     left: &'a [u8],
-) -> Result<(Vec<Group>, &'a [u8]), Refusal>
+) -> Result<(Vec<Group>, &'a [u8]), Refusal<'a>>
     ensures { Gives (λ x. (groups_of x.0.items, lines_in x.1.now)) result (read_groups before.now (plans_of plans.now) (lines_in left.now)) }
 {
     let mut groups = Vec::with_capacity(alloc, plans.len())?;
@@ -318,12 +313,12 @@ fn read_group<'a>(
     before: &[u8],
     plan: &GroupPlan,
     left: &'a [u8],
-) -> Result<(Group, &'a [u8]), Refusal>
+) -> Result<(Group, &'a [u8]), Refusal<'a>>
     ensures { Gives (λ x. (x.0, lines_in x.1.now)) result (read_group before.now (head_of plan.now) (λ path. read_groups path plan.now.block.groups) (lines_in left.now)) }
 {
     let (text, rest) = element(before, &plan.name, left)?;
     match entry_count(text) {
-        None => Err(refused(left)),
+        None => Err(Refusal::At(left)),
         Some(Count::Absent) => Ok((Group::Absent, rest)),
         Some(Count::Entries(count)) => {
             let (entries, rest) = read_entries(alloc, spare, before, plan, count, rest)?;
@@ -341,7 +336,7 @@ fn read_entries<'a>(
     plan: &GroupPlan,
     count: u128,
     left: &'a [u8],
-) -> Result<(Vec<Block>, &'a [u8]), Refusal>
+) -> Result<(Vec<Block>, &'a [u8]), Refusal<'a>>
     ensures { Gives (λ x. (blocks_of x.0.items, lines_in x.1.now)) result (read_entries before.now (head_of plan.now) (λ path. read_groups path plan.now.block.groups) count (lines_in left.now)) }
 {
     let mut entries = room_for(alloc, &plan.block, count)?;

@@ -1,6 +1,7 @@
 //! The files that the words of a session name, and what stands in them, for what is said of a run: no command is here.
 #![tactic(auto)]
 
+mod laws;
 mod outlook;
 mod place;
 mod session;
@@ -8,6 +9,7 @@ mod standard;
 mod text;
 mod walk;
 
+pub use laws::one_session;
 pub use outlook::Outlook;
 pub use place::{push_name, push_place};
 pub use session::{Session, named, role_of};

@@ -1,6 +1,6 @@
 //! The message at the front of a text that a person wrote: strict lines are read as they are, others are narrowed first.
 
-ghost use Rattle.std.specs.Prelude.{◌≡◌, ◌<◌, length, IfOk, IfSome};
+ghost use Rattle.std.specs.Prelude.{◌≡◌, ◌-◌, ◌<◌, length, IfOk, IfSome};
 ghost use Rattle.std.specs.Option.{option_map};
 ghost use Rattle.sbe_text.specs.Answers.{Gives};
 ghost use Rattle.text_words.specs.Lines.{lines_in};
@@ -12,15 +12,31 @@ use sbe_layout::Plan;
 use sbe_text::{Refusal, first_message};
 use sbe_value::Message;
 use std::alloc::Global;
-use text_words::count_lines;
+use text_words::first_line;
 
-// How many lines of a text are left at the line of this number.
-fn left_at(text: &[u8], number: Option<u64>) -> u64
-    ensures { result ≡ left_at (length (lines_in text.now)) number }
+// The text from its line of this number on.
+fn lines_from(text: &[u8], number: u64) -> &[u8]
+    ensures { length (lines_in result.now) ≡ length (lines_in text.now) - (number - 1) }
+{
+    let mut left = text;
+    let mut before = number.saturating_sub(1);
+    while before > 0 {
+        let Some((_, rest)) = first_line(left) else {
+            return left;
+        };
+        left = rest;
+        before -= 1;
+    }
+    left
+}
+
+// The text from its line of this number on; nothing of it where there is none.
+fn left_from(text: &[u8], number: Option<u64>) -> &[u8]
+    ensures { length (lines_in result.now) ≡ left_at (length (lines_in text.now)) number }
 {
     match number {
-        Some(number) => count_lines(text).saturating_sub(number.saturating_sub(1)),
-        None => 0,
+        Some(number) => lines_from(text, number),
+        None => &[],
     }
 }
 
@@ -31,14 +47,14 @@ fn wide_message<'a>(
     plan: &Plan,
     text: &'a [u8],
     narrow: &mut Narrow,
-) -> Result<Option<(Message, &'a [u8])>, Refusal>
+) -> Result<Option<(Message, &'a [u8])>, Refusal<'a>>
     ensures told { Gives (option_map (λ x. (x.0, lines_in x.1.now))) result (wide_front plan.now (lines_in text.now)) }
     ensures shorter { IfOk result (λ read. IfSome read (λ x. length (lines_in x.1.now) < length (lines_in text.now))) }
 {
     let rest = match narrow_message(alloc, plan, text, narrow) {
         Ok(rest) => rest,
         Err(NarrowError::Mistake { line, .. }) => {
-            return Err(Refusal::Left(left_at(text, Some(line))));
+            return Err(Refusal::At(lines_from(text, line)));
         }
         Err(NarrowError::Memory) => return Err(Refusal::Memory),
     };
@@ -47,7 +63,7 @@ fn wide_message<'a>(
     }
     match first_message(alloc, plan, narrow.text.as_slice()) {
         Ok((message, _)) => Ok(Some((message, rest))),
-        Err(Refusal::Left(left)) => Err(Refusal::Left(left_at(text, narrow.number_at(left)))),
+        Err(Refusal::At(left)) => Err(Refusal::At(left_from(text, narrow.number_at(left)))),
         Err(Refusal::Memory) => Err(Refusal::Memory),
     }
 }
@@ -56,19 +72,19 @@ fn wide_message<'a>(
 /// wider ones are read. `None` where no line of the text has more than blanks and a comment.
 ///
 /// # Errors
-/// `Left` with how many lines are left at the first that is not as it has to be, of the text as it was written, and `Memory`.
+/// `At` with the text from the first line on that is not as it has to be, as it was written, and `Memory`.
 pub fn front_message<'a>(
     alloc: Global,
     plan: &Plan,
     text: &'a [u8],
     narrow: &mut Narrow,
-) -> Result<Option<(Message, &'a [u8])>, Refusal>
+) -> Result<Option<(Message, &'a [u8])>, Refusal<'a>>
     ensures told { Gives (option_map (λ x. (x.0, lines_in x.1.now))) result (front_of plan.now (lines_in text.now)) }
     ensures shorter { IfOk result (λ read. IfSome read (λ x. length (lines_in x.1.now) < length (lines_in text.now))) }
 {
     match first_message(alloc, plan, text) {
         Ok(read) => Ok(Some(read)),
-        Err(Refusal::Left(_)) => wide_message(alloc, plan, text, narrow),
+        Err(Refusal::At(_)) => wide_message(alloc, plan, text, narrow),
         Err(Refusal::Memory) => Err(Refusal::Memory),
     }
 }

@@ -14,7 +14,7 @@ use crate::path::meaning_of;
 use crate::value::{strict_value, write_strict};
 use sbe_layout::{MessagePlan, MessagePlans, Plan};
 use std::alloc::{AllocError, Global};
-use text_words::first_line;
+use text_words::{count_lines, first_line};
 
 /// The strict lines of a message, and room for those of the next.
 #[derive(Drop)]
@@ -113,11 +113,14 @@ impl Narrow {
         self.numbers.clear();
     }
 
-    // The number of the line that the one came from at which so many are left.
-    pub(crate) fn number_at(&self, left: u64) -> Option<u64>
-        ensures { result ≡ slice_get self.now.numbers.items (length self.now.numbers.items - left) }
+    // The number of the line that the one came from at which this is left of the lines.
+    pub(crate) fn number_at(&self, left: &[u8]) -> Option<u64>
+        ensures { result ≡ slice_get self.now.numbers.items (length self.now.numbers.items - length (lines_in left.now)) }
     {
-        let at = self.numbers.len().saturating_sub(left as usize);
+        let at = self
+            .numbers
+            .len()
+            .saturating_sub(count_lines(left) as usize);
         self.numbers.as_slice().get(at).copied()
     }
 

@@ -7,6 +7,7 @@ use Rattle.sofh_frame.specs.Splits.{frames_of}
 use Rattle.sofh_frame.proofs.SplitLemmas.{frames_of-none}
 use Rattle.session_model.specs.Journal.{Entry, entries}
 use Rattle.session_model.specs.Inbox.{InboxRecord, next_number}
+use Rattle.session_model.specs.Guarantee.{OneEnd}
 use Rattle.session_model.proofs.Lists.{all_first, all_second}
 use Rattle.fixp_msgs.specs.Payload.{IsApplication}
 use Rattle.fixp_msgs.specs.declared.flow.Flow.{Flow}
@@ -26,16 +27,17 @@ use Rattle.connection_laws.proofs.Written.{written_is_legal}
 use Rattle.turn_laws.specs.Came.{came, AreFirstOf}
 use Rattle.stranger_laws.specs.Opening.{opens, NoneIs, IsStrange}
 use Rattle.stranger_laws.proofs.Given.{none_came, no_frame_is_strange}
-use Rattle.two_ends.specs.Meeting.{Run, heard_in, TookWhole, ReadsFrom, LinkedByBytes, runs_on, last_run, runs_of, MayRefuse, MayLive}
+use Rattle.two_ends.specs.GoingOn.{Boxes, new_boxes}
+use Rattle.two_ends.specs.Meeting.{Run, heard_in, TookWhole, ReadsFrom, LinkedByBytes, runs_on, last_run, runs_of, MayRefuse, MayLive, TwoEndsFrom}
 use Rattle.two_ends.specs.Meeting
-use Rattle.two_ends.proofs.Sessions.{session_of_ends, ends_hold}
+use Rattle.two_ends.proofs.Sessions.{session_of_ends, ends_hold, ends_go_on}
 use Rattle.turn_laws.specs.Legs.{TurnedLeg, IsTimely, calls_on, AreTurnsOf, given_on, sent_on, course_on, leg_of}
 use Rattle.turn_laws.specs.Lives.{AllAreTurns, legs_of, state_after, inbox_after}
 use Rattle.turn_laws.proofs.Running.{leg_stands, turns_run, all_run}
 use Rattle.turn_laws.proofs.Sent.{sent_are_written}
 use Rattle.turn_laws.specs.LoopLives.{RefusedLeg, LoopLife, refused_leg, machine_life, IsRefusedOn, MayTurn, last_leg, legs_in}
-use Rattle.two_ends.specs.Loops.{ReadsOf, IsStrangeTo, LinkedLinks, configs_of, machine_end, no_more, left_alone, right_alone, paired}
-use Rattle.two_ends.specs.LoopLaws.{LoopsAreEnds, LoopsAreASession, LoopsHold}
+use Rattle.two_ends.specs.Loops.{ReadsOf, IsStrangeTo, LinkedLinks, configs_of, TwoLoopsFrom, machine_end, no_more, left_alone, right_alone, paired}
+use Rattle.two_ends.specs.LoopLaws.{LoopsAreEnds, LoopsAreASession, LoopsHold, LoopsGoOn}
 use Rattle.turn_laws.proofs.Given.{given_are_bytes, given_came, calls_fit}
 use Rattle.two_ends.proofs.Whole.{sent_are_whole}
 
@@ -173,8 +175,8 @@ all_runs Strange own peer (l ∷ later) all strange =
     zip_append Strange (runs_of (machine_life l)) (flat_map runs_of (map machine_life later)) (legs_in l) (flat_map legs_in later)
     (is_life Strange own peer l all.0 (λ given k. (strange given k).0)).runs (all_runs Strange own peer later all.1 (λ given k. (strange given k).1))
 
-pub loops_are_ends : LoopsAreEnds
-loops_are_ends a b l = record {
+loops_from : (from_a from_b : Boxes) (a b : OneEnd Flow LoopLife) → TwoLoopsFrom from_a from_b a b → TwoEndsFrom from_a from_b (machine_end a) (machine_end b)
+loops_from from_a from_b a b l = record {
   lives_a = all_live a.flow b.flow a.lives l.lives_a;
   lives_b = all_live b.flow a.flow b.lives l.lives_b;
   chained_a = l.chained_a;
@@ -185,8 +187,14 @@ loops_are_ends a b l = record {
       (all_runs (IsStrangeTo (configs_of a.lives)) a.flow b.flow a.lives l.lives_a (λ given k. k)) (all_runs (IsStrangeTo (configs_of b.lives)) b.flow a.flow b.lives l.lives_b (λ given k. k)) l.linked;
 }
 
+pub loops_are_ends : LoopsAreEnds
+loops_are_ends a b l = loops_from new_boxes new_boxes a b l
+
 pub loops_are_a_session : LoopsAreASession
 loops_are_a_session a b l = session_of_ends (machine_end a) (machine_end b) (loops_are_ends a b l)
 
 pub loops_hold : LoopsHold
 loops_hold a b l = ends_hold (machine_end a) (machine_end b) (loops_are_ends a b l)
+
+pub loops_go_on : LoopsGoOn
+loops_go_on from_a from_b a b l = ends_go_on from_a from_b (machine_end a) (machine_end b) (loops_from from_a from_b a b l)

@@ -2,6 +2,7 @@ pub mod Cutting
 pub mod Refused
 pub mod Deaf
 pub mod Heard
+pub mod GoingOn
 pub mod Sessions
 pub mod Sampled
 pub mod Whole

@@ -1,5 +1,5 @@
--- Connections that are linked by their bytes are linked, and so two ends are a session.
-use Rattle.std.proofs.Common.{◌≡◌, ℕ, Bool, List, [], ◌∷◌, ◌++◌, map, Option, Some, None, IfSome, refl, sym, ap, subst, ◌∙◌, append-nil}
+-- Connections that are linked by their bytes are linked, and so two ends are a session; and each inbox goes on from what it held.
+use Rattle.std.proofs.Common.{◌≡◌, ℕ, Bool, List, [], ◌∷◌, ◌++◌, map, length, Option, Some, None, IfSome, refl, sym, ap, subst, ◌∙◌, append-nil}
 use Rattle.std.specs.Prelude.{flat_map}
 use Rattle.std.specs.List.{AllByRecursion}
 use Rattle.std.proofs.lemmas.List.{map-append}
@@ -7,11 +7,15 @@ use Rattle.sofh_frame.specs.Splits.{frames_of}
 use Rattle.session_model.specs.Journal.{Entry, entries}
 use Rattle.session_model.specs.Inbox.{InboxRecord}
 use Rattle.session_model.specs.Events.{Event}
-use Rattle.session_model.specs.Lives.{Served, served_on, Life, KeepsConnections, KeepsOutbox, KeepsContract, TakenFrom, Linked}
+use Rattle.session_model.specs.Events.{TrueOfJournal}
+use Rattle.session_model.specs.Lives.{Served, served_on, Life, KeepsConnections, KeepsOutbox, KeepsContract, Chained, accepted_of, written_of, connections_of, TakenFrom, Linked}
 use Rattle.session_model.specs.Lives
 use Rattle.session_model.proofs.Lists.{prefix_trans, all_append}
+use Rattle.session_model.proofs.Carried.{linked_carries, linked_turned, carried_fronts, carried_true, carried_rising, fronts_begin}
+use Rattle.session_model.proofs.Chains.{Processed, read_processed, wrote_true, wrote_rising, handshakes_of, begins_of}
 use Rattle.session_model.specs.Growth as model
-use Rattle.session_model.specs.Guarantee.{OneEnd, Session}
+use Rattle.session_model.specs.Growth.{GrownThrough}
+use Rattle.session_model.specs.Guarantee.{OneEnd, CarriedFrom, Session}
 use Rattle.session_model.proofs.Guarantees.{session_turns_round, recoverable_guarantee, idempotent_guarantee, unsequenced_guarantee, no_flow_guarantee}
 use Rattle.fixp_msgs.specs.declared.flow.Flow.{Flow}
 use Rattle.fixp_msgs.specs.declared.flow.Flow.TheVariants as flows
@@ -29,7 +33,9 @@ use Rattle.stranger_laws.specs.Opening.{opens, NoneIs}
 use Rattle.stranger_laws.proofs.Deaf.{stranger_is_deaf}
 use Rattle.two_ends.specs.Hearing.{TakesFrom}
 use Rattle.turn_laws.specs.MachineLives.{Refusal, IsRefusedAt, refused_of, Refused, MachineLife, served_with, life_in}
-use Rattle.two_ends.specs.Meeting.{Run, course_in, calls_behind, heard_in, accepted_in, connection_in, MayBegin, ReadsFrom, no_more, left_alone, right_alone, paired, LinksHold, runs_on, last_run, runs_of, MayRefuse, MayLive, end_in, SessionOfEnds, Holds, EndsHold}
+use Rattle.two_ends.specs.GoingOn.{Boxes, new_boxes, HoldsOn}
+use Rattle.two_ends.specs.Meeting.{Run, course_in, calls_behind, heard_in, accepted_in, connection_in, MayBegin, ReadsFrom, no_more, left_alone, right_alone, paired, LinksHold, runs_on, last_run, runs_of, MayRefuse, MayLive, TwoEndsFrom, end_in, SessionOfEnds, Holds, EndsHold, EndsGoOn}
+use Rattle.two_ends.proofs.GoingOn.{applies_on, settles_on, delivers_on, takes_none}
 use Rattle.turn_laws.proofs.Going.{after_append, may_append}
 use Rattle.two_ends.proofs.Cutting.{written_is_read}
 use Rattle.two_ends.proofs.Heard.{events_begin, heard_from}
@@ -180,8 +186,16 @@ contracts : (own peer : Flow) (plan : ℕ → List (List ℕ) → List (List ℕ
 contracts own peer plan [] all outboxes = tt
 contracts own peer plan (l ∷ later) all outboxes = (record { connections = keeps own peer l all.0; outbox = outboxes.0 }, contracts own peer plan later all.1 outboxes.1)
 
-pub session_of_ends : SessionOfEnds
-session_of_ends a b e = record {
+-- two ends, whose journals held this at first, in the session model's words
+pub record SessionFrom (from_a from_b : Boxes) (a b : OneEnd model.Flow Life) : Type 0 where
+  chained_a : Chained from_a.outbox from_a.inbox a.lives a.outbox a.inbox
+  chained_b : Chained from_b.outbox from_b.inbox b.lives b.outbox b.inbox
+  contract_a : AllByRecursion (KeepsContract a.flow b.flow a.plan) a.lives
+  contract_b : AllByRecursion (KeepsContract b.flow a.flow b.plan) b.lives
+  linked : Linked (connections_of a.lives) (connections_of b.lives)
+
+session_from : (from_a from_b : Boxes) (a b : OneEnd Flow MachineLife) → TwoEndsFrom from_a from_b a b → SessionFrom from_a from_b (end_in a) (end_in b)
+session_from from_a from_b a b e = record {
   chained_a = e.chained_a;
   chained_b = e.chained_b;
   contract_a = contracts a.flow b.flow a.plan a.lives e.lives_a e.outboxes_a;
@@ -191,6 +205,20 @@ session_of_ends a b e = record {
       (subst (λ cs. Linked (map connection_in (flat_map runs_of a.lives)) cs) (connections_of_all b.lives)
       (links_hold (flat_map runs_of a.lives) (flat_map runs_of b.lives) (may_begin a.flow b.flow a.lives e.lives_a) (may_begin b.flow a.flow b.lives e.lives_b) e.linked));
 }
+
+turned_round : (from_a from_b : Boxes) (a b : OneEnd model.Flow Life) → SessionFrom from_a from_b a b → SessionFrom from_b from_a b a
+turned_round from_a from_b a b s = record {
+  chained_a = s.chained_b;
+  chained_b = s.chained_a;
+  contract_a = s.contract_b;
+  contract_b = s.contract_a;
+  linked = linked_turned (connections_of a.lives) (connections_of b.lives) s.linked;
+}
+
+pub session_of_ends : SessionOfEnds
+session_of_ends a b e =
+    let s = session_from new_boxes new_boxes a b e in
+    record { chained_a = s.chained_a; chained_b = s.chained_b; contract_a = s.contract_a; contract_b = s.contract_b; linked = s.linked }
 
 -- by the guarantee of the sender's flow
 holds : (flow : Flow) (a b : OneEnd model.Flow Life) → a.flow ≡ model_flow flow → Session a b → Holds flow (entries a.outbox) b.inbox
@@ -204,4 +232,54 @@ ends_hold a b e =
     let s = session_of_ends a b e in (
       holds a.flow (end_in a) (end_in b) refl s,
       holds b.flow (end_in b) (end_in a) refl (session_turns_round (end_in a) (end_in b) s),
+    )
+
+-- What b processed of what a wrote leads its inbox on from what it held
+module _ (from_a from_b : Boxes) (a b : OneEnd model.Flow Life) (s : SessionFrom from_a from_b a b) where
+  abbrev read : Processed a.flow b.lives from_b.inbox b.inbox
+  read = read_processed b.flow a.flow b.plan b.lives from_b.outbox b.outbox from_b.inbox b.inbox s.contract_b s.chained_b
+
+  abbrev wrote : List (List Event)
+  wrote = written_of (connections_of a.lives)
+
+  abbrev accepted : List (List Event)
+  accepted = accepted_of (connections_of b.lives)
+
+  carried : CarriedFrom wrote read.events
+  carried = carried_fronts wrote accepted read.events (linked_carries (connections_of a.lives) (connections_of b.lives) s.linked) read.fronts
+
+  -- where a's flow has numbers all of it is true of a's outbox
+  read_true : AllByRecursion (TrueOfJournal (entries a.outbox) None) wrote → AllByRecursion (TrueOfJournal (entries a.outbox) None) read.events
+  read_true all =
+      carried_true (entries a.outbox) wrote read.events carried (handshakes_of a.flow b.flow a.plan a.lives s.contract_a)
+      (fronts_begin read.events accepted read.fronts (begins_of b.flow a.flow b.plan b.lives s.contract_b)) all
+
+  module _ (kind : model.Flow) (is : a.flow ≡ kind) where
+    contract_of : AllByRecursion (KeepsContract kind b.flow a.plan) a.lives
+    contract_of = subst (λ f. AllByRecursion (KeepsContract f b.flow a.plan) a.lives) is s.contract_a
+
+    grown_of : GrownThrough kind read.events from_b.inbox b.inbox
+    grown_of = subst (λ f. GrownThrough f read.events from_b.inbox b.inbox) is read.grown
+
+  pub goes_on : (flow : Flow) → a.flow ≡ model_flow flow → HoldsOn flow (entries from_a.outbox) (entries a.outbox) from_b.inbox b.inbox
+  goes_on flows.Recoverable is =
+      applies_on (entries a.outbox) read.events from_b.inbox b.inbox
+      (read_true (wrote_true model.recoverable b.flow a.plan a.lives from_a.outbox a.outbox from_a.inbox a.inbox (λ _ _ _ w. w) (contract_of model.recoverable is) s.chained_a))
+      (grown_of model.recoverable is)
+  goes_on flows.Idempotent is =
+      settles_on (entries a.outbox) read.events from_b.inbox b.inbox
+      (read_true (wrote_true model.idempotent b.flow a.plan a.lives from_a.outbox a.outbox from_a.inbox a.inbox (λ _ _ _ w. w) (contract_of model.idempotent is) s.chained_a))
+      (grown_of model.idempotent is)
+  goes_on flows.Unsequenced is =
+      delivers_on (entries from_a.outbox) (entries a.outbox) read.events from_b.inbox b.inbox
+      (carried_rising (entries a.outbox) wrote read.events carried (length (entries from_a.outbox))
+      (wrote_rising b.flow a.plan a.lives from_a.outbox a.outbox from_a.inbox a.inbox (contract_of model.unsequenced is) s.chained_a))
+      (grown_of model.unsequenced is)
+  goes_on flows.None is = takes_none read.events from_b.inbox b.inbox (grown_of model.no_flow is)
+
+pub ends_go_on : EndsGoOn
+ends_go_on from_a from_b a b e =
+    let s = session_from from_a from_b a b e in (
+      goes_on from_a from_b (end_in a) (end_in b) s a.flow refl,
+      goes_on from_b from_a (end_in b) (end_in a) (turned_round from_a from_b (end_in a) (end_in b) s) b.flow refl,
     )

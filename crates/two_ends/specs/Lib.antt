@@ -1,6 +1,7 @@
 pub mod Reading
 pub mod Refusing
 pub mod Hearing
+pub mod GoingOn
 pub mod Meeting
 pub mod Samples
 pub mod Loops

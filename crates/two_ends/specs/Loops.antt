@@ -10,6 +10,7 @@ use Rattle.turn_laws.specs.MachineLives.{MachineLife, life_in}
 use Rattle.turn_laws.specs.LoopLives.{LoopLife, machine_life, legs_in, MayTurn}
 use Rattle.turn_laws.specs.Legs.{TurnedLeg, given_on, sent_on}
 use Rattle.stranger_laws.specs.Opening.{IsStrange}
+use Rattle.two_ends.specs.GoingOn.{Boxes, new_boxes}
 
 -- the lives of an end that runs the loop, as those of the session model
 abbrev pub lives_of : List LoopLife → List Life
@@ -38,16 +39,20 @@ pub data LinkedLinks (configs_a configs_b : List EndConfig) : List TurnedLeg →
 abbrev pub configs_of : List LoopLife → List EndConfig
 configs_of lives = map (λ (l : LoopLife). l.state.config) lives
 
--- Two ends that run the loop: the flow that one sends the other receives; the lives of each are chained from empty journals, may
+-- Two ends that run the loop, whose journals held this at first: the flow that one sends the other receives; the lives of each are chained from those, may
 -- leave these now, and keep their outboxes; and their connections are linked by what went over their links
-pub record TwoLoops (a b : OneEnd Flow LoopLife) : Type 0 where
+pub record TwoLoopsFrom (from_a from_b : Boxes) (a b : OneEnd Flow LoopLife) : Type 0 where
   pub lives_a : AllByRecursion (MayTurn a.flow b.flow) a.lives
   pub lives_b : AllByRecursion (MayTurn b.flow a.flow) b.lives
-  pub chained_a : Chained [] [] (lives_of a.lives) a.outbox a.inbox
-  pub chained_b : Chained [] [] (lives_of b.lives) b.outbox b.inbox
+  pub chained_a : Chained from_a.outbox from_a.inbox (lives_of a.lives) a.outbox a.inbox
+  pub chained_b : Chained from_b.outbox from_b.inbox (lives_of b.lives) b.outbox b.inbox
   pub outboxes_a : AllByRecursion (KeepsOutbox a.plan) (lives_of a.lives)
   pub outboxes_b : AllByRecursion (KeepsOutbox b.plan) (lives_of b.lives)
   pub linked : LinkedLinks (configs_of a.lives) (configs_of b.lives) (flat_map legs_in a.lives) (flat_map legs_in b.lives)
+
+-- and so from empty journals on
+abbrev pub TwoLoops : (a b : OneEnd Flow LoopLife) → Type 0
+TwoLoops a b = TwoLoopsFrom new_boxes new_boxes a b
 
 -- an end that runs the loop, as one of the machine
 abbrev pub machine_end : OneEnd Flow LoopLife → OneEnd Flow MachineLife

@@ -22,6 +22,7 @@ use Rattle.connection_laws.specs.Living.{Leg, course_of, MayRun, AllMayRun, stat
 use Rattle.turn_laws.specs.Came.{came}
 use Rattle.turn_laws.specs.MachineLives.{Refusal, IsRefusedAt, Refused, MachineLife, life_in}
 use Rattle.stranger_laws.specs.Opening.{opens, NoneIs}
+use Rattle.two_ends.specs.GoingOn.{Boxes, new_boxes, HoldsOn}
 use Rattle.two_ends.specs.Hearing.{CameFrom}
 
 -- One connection of the machine: over an outbox with these entries it begins in this state, over this inbox. Where a call of the
@@ -117,16 +118,20 @@ pub record MayLive (own peer : Flow) (l : MachineLife) : Type 0 where
   pub legs : AllMayRun (entries l.closing_outbox) l.state l.inbox l.legs
   pub last : IfSome l.last (MayRefuse (entries l.closing_outbox) (state_behind l.state l.inbox l.legs) (inbox_behind l.state l.inbox l.legs))
 
--- Two ends of the machine: the flow that one sends the other receives; the lives of each are chained from empty journals, may
+-- Two ends of the machine, whose journals held this at first: the flow that one sends the other receives; the lives of each are chained from those, may
 -- leave these now, and keep their outboxes; and their connections are linked by bytes
-pub record TwoEnds (a b : OneEnd Flow MachineLife) : Type 0 where
+pub record TwoEndsFrom (from_a from_b : Boxes) (a b : OneEnd Flow MachineLife) : Type 0 where
   pub lives_a : AllByRecursion (MayLive a.flow b.flow) a.lives
   pub lives_b : AllByRecursion (MayLive b.flow a.flow) b.lives
-  pub chained_a : Chained [] [] (map life_in a.lives) a.outbox a.inbox
-  pub chained_b : Chained [] [] (map life_in b.lives) b.outbox b.inbox
+  pub chained_a : Chained from_a.outbox from_a.inbox (map life_in a.lives) a.outbox a.inbox
+  pub chained_b : Chained from_b.outbox from_b.inbox (map life_in b.lives) b.outbox b.inbox
   pub outboxes_a : AllByRecursion (KeepsOutbox a.plan) (map life_in a.lives)
   pub outboxes_b : AllByRecursion (KeepsOutbox b.plan) (map life_in b.lives)
   pub linked : LinkedByBytes (flat_map runs_of a.lives) (flat_map runs_of b.lives)
+
+-- and so from empty journals on
+abbrev pub TwoEnds : (a b : OneEnd Flow MachineLife) → Type 0
+TwoEnds a b = TwoEndsFrom new_boxes new_boxes a b
 
 -- an end of the machine in the session model's words
 abbrev pub end_in : OneEnd Flow MachineLife → OneEnd model.Flow Life
@@ -146,3 +151,14 @@ Holds flows.None outbox inbox = (applied inbox ≡ []) × (skips inbox ≡ [])
 -- so each inbox holds of the other's outbox what the session guarantee says
 abbrev pub EndsHold : Type 0
 EndsHold = (a b : OneEnd Flow MachineLife) → TwoEnds a b → Holds a.flow (entries a.outbox) b.inbox × Holds b.flow (entries b.outbox) a.inbox
+
+-- and each inbox comes to hold of it, behind what it held at first, what goes on from that
+abbrev pub EndsGoOn : Type 0
+EndsGoOn = (from_a from_b : Boxes) (a b : OneEnd Flow MachineLife) → TwoEndsFrom from_a from_b a b
+    → HoldsOn a.flow (entries from_a.outbox) (entries a.outbox) from_b.inbox b.inbox
+    × HoldsOn b.flow (entries from_b.outbox) (entries b.outbox) from_a.inbox a.inbox
+
+-- an inbox that held of the other's outbox what the session guarantee says, and went on so, still does
+abbrev pub HoldingGoesOn : Type 0
+HoldingGoesOn = (flow : Flow) (begun h : List Entry) (held inbox : List InboxRecord) → IsPrefix begun h
+    → Holds flow begun held → HoldsOn flow begun h held inbox → Holds flow h inbox

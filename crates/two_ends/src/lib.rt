@@ -17,8 +17,8 @@ pub use driving::{
     turn_goes_on,
 };
 pub use hearing::linked_bytes;
-pub use loops::{loops_are_a_session, loops_are_ends, loops_hold, sent_are_whole};
-pub use meeting::{ends_hold, links_hold, session_of_ends};
+pub use loops::{loops_are_a_session, loops_are_ends, loops_go_on, loops_hold, sent_are_whole};
+pub use meeting::{ends_go_on, ends_hold, links_hold, session_of_ends};
 pub use reading::{all_is_read, event_is_carried, written_is_read};
 pub use refusing::{closing_is_deaf, nothing_more, refusal_ends};
 pub use samples::{handshake_sample, port_sample, turns_sample};

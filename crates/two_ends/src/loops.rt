@@ -1,6 +1,6 @@
 //! What went over the links of two ends, and what these hold of each other.
 
-ghost use Rattle.two_ends.specs.LoopLaws.{SentAreWhole, LoopsAreEnds, LoopsAreASession, LoopsHold};
+ghost use Rattle.two_ends.specs.LoopLaws.{SentAreWhole, LoopsAreEnds, LoopsAreASession, LoopsHold, LoopsGoOn};
 
 /// The frames that are said to be taken whole are those whose bytes the link took.
 pub fn sent_are_whole()
@@ -20,4 +20,9 @@ pub fn loops_are_a_session()
 /// Each inbox holds of the other's outbox what the session guarantee says, by the kind of that end's flow.
 pub fn loops_hold()
     ensures law { LoopsHold }
+{}
+
+/// Where their journals held something at first, each inbox comes to hold of the other's outbox, behind what it held, what goes on from that.
+pub fn loops_go_on()
+    ensures law { LoopsGoOn }
 {}

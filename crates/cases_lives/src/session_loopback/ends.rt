@@ -5,10 +5,13 @@ ghost use Rattle.std.specs.Prelude.{◌≡◌, false};
 use cases_made::{Disks, fresh_disks, records};
 use cmd_base::Status;
 use cmd_session::{Role, SessionOutside, run_session};
+use conn_keys::{Keys, Knowing};
 use gw_fakes::{MemDisk, MemSink, MemSource};
 use gw_links::{Clock as LinkClock, Dialer};
 use gw_outside::{Bytes, Disk, Sink, Source};
-use gw_sockets::{AcceptDialer, ConnectDialer, MachineClock};
+use gw_porch::PortGuests;
+use gw_sockets::{ConnectDialer, MachineClock};
+use gw_watch::NoEar;
 use jr_record::Record;
 use std::alloc::{AllocError, Global};
 use std::net::{Net, TcpListener, TcpStream};
@@ -27,6 +30,14 @@ const ROOM: usize = 1 << 16;
 
 /// How many bytes a source gives at once.
 const PIECE: usize = 4096;
+
+/// The heartbeat interval of both ends, in milliseconds.
+const INTERVAL: u32 = 1000;
+
+/// The session of both ends.
+const SESSION: [u8; 16] = [
+    0x00, 0x11, 0x22, 0x33, 0x44, 0x55, 0x66, 0x77, 0x88, 0x99, 0xaa, 0xbb, 0xcc, 0xdd, 0xee, 0xff,
+];
 
 /// The configuration of both ends.
 const CONFIG: &[u8] = b"session = \"00112233-4455-6677-8899-aabbccddeeff\"
@@ -195,12 +206,22 @@ fn run_end<N: Dialer + Drop, R: Threads + Wait + Sync + Clock>(
     left_by(alloc, status, disks)
 }
 
+/// The keys of the session, which has no credentials.
+fn keys(alloc: Global) -> Keys {
+    Keys {
+        session: SESSION,
+        credentials: Bytes::new(alloc),
+    }
+}
+
 /// Runs `accept`.
 pub fn acceptor<R: Threads + Wait + Sync + Net<Listener = TcpListener, Stream = TcpStream> + Clock>(
     rt: &R,
     alloc: Global,
 ) -> Option<Ended> {
-    let dialer = AcceptDialer::new(rt, alloc, ADDRESS, MOST);
+    let ear = NoEar;
+    let guests = PortGuests::new(rt, alloc, &ear, ADDRESS, keys(alloc), INTERVAL);
+    let dialer = Knowing::new(guests, keys(alloc), MOST);
     run_end(rt, alloc, Role::Acceptor, dialer)
 }
 

@@ -3,12 +3,15 @@
 ghost use Rattle.std.specs.Prelude.{◌≡◌, false, IfOk};
 ghost use Rattle.std.specs.List.{All};
 ghost use Rattle.gw_link_fakes.specs.Tapes.{IsUnused};
+ghost use Rattle.gw_guest_fakes.specs.Guests.{IsFresh};
 
 use crate::runs::disks::{Disks, add_journals, add_out};
 use cases_words::{bytes, digits};
 use cmd_base::Status;
 use cmd_session::{Role, SessionOutside, run_session};
+use conn_keys::{Keys, Knowing};
 use gw_fakes::{MemDisk, MemSink, MemSource};
+use gw_guest_fakes::{MemGuest, MemGuests};
 use gw_link_fakes::{MemClock, MemDialer, MemTape};
 use gw_links::{Clock, Dialer};
 use gw_outside::{Bytes, Disk, Sink, Source};
@@ -17,7 +20,7 @@ use std::sync::Wait;
 use std::thread::Threads;
 
 /// What a case tells of a life: the role, CONFIG, INPUT with `_` for a blank and `;` for a line's end (`-` for no bytes), and the
-/// bytes that each link gives, in hexadecimal.
+/// bytes that each link gives, in hexadecimal. To an acceptor guests come; one with `?` in front is a stranger, who is no connection.
 #[derive(Clone, Copy)]
 pub struct Life<'a> {
     pub role: Role,
@@ -86,6 +89,46 @@ fn tapes_of(alloc: Global, words: &str) -> Result<Vec<MemTape>, AllocError>
     Ok(tapes)
 }
 
+/// Whether the guest of a word is a stranger.
+fn is_stranger(word: &str) -> bool {
+    word.as_bytes().first() == Some(&b'?')
+}
+
+/// A guest of each word.
+fn guests_of(alloc: Global, words: &str) -> Result<Vec<MemGuest>, AllocError>
+    ensures fresh { IfOk result (λ guests. All IsFresh guests.items) }
+{
+    let mut guests = Vec::new(alloc);
+    for word in words.split_whitespace() {
+        let given = bytes(alloc, word.trim_start_matches('?'))?;
+        guests.push(MemGuest::new(alloc, given.as_slice(), 4096, false)?)?;
+    }
+    Ok(guests)
+}
+
+/// How many guests of these words are no strangers.
+fn connections(words: &str) -> u64 {
+    let mut count: u64 = 0;
+    for word in words.split_whitespace() {
+        if !is_stranger(word) {
+            count = count.saturating_add(1);
+        }
+    }
+    count
+}
+
+/// A dialer over the guests of these words, of whom each gives the keys that is no stranger.
+fn door_of(alloc: Global, words: &str) -> Result<Knowing<MemGuests>, AllocError>
+    ensures { IfOk result (λ d. d.guests.is_lent ≡ false) }
+{
+    let keys = Keys {
+        session: [0x11; 16],
+        credentials: Bytes::new(alloc),
+    };
+    let guests = MemGuests::new(alloc, guests_of(alloc, words)?)?;
+    Ok(Knowing::new(guests, keys, connections(words)))
+}
+
 /// Runs a session over these devices.
 fn end_of<
     S: Source + Drop,
@@ -132,27 +175,39 @@ fn add_sent(
     Ok(())
 }
 
-/// Adds the status, OUT, and what the links were sent.
-fn add_end(
-    alloc: Global,
-    text: &mut String,
-    ended: &Ended<MemSink, MemDisk, MemDialer>,
-    tapes: &str,
-) -> Result<(), AllocError> {
-    let (code, status) = (ended.status.code(), &ended.status);
-    write!(text, "status {code} {status:?}\n")?;
-    add_out(text, &ended.out)?;
-    add_sent(alloc, text, &ended.dialer, tapes)
+/// Adds what the links that came back were sent, in hexadecimal, and what came of the guests that were turned away.
+fn add_guests(alloc: Global, text: &mut String, guests: &MemGuests) -> Result<(), AllocError> {
+    for guest in guests.came_back() {
+        let sent = digits(alloc, guest.tape().taken())?;
+        write!(text, "sent {sent}\n")?;
+    }
+    for guest in guests.turned_away() {
+        let (given, sent) = (guest.tape().given().len(), guest.tape().taken().len());
+        write!(
+            text,
+            "turned away: {given} bytes taken of it, {sent} sent\n"
+        )?;
+    }
+    Ok(())
 }
 
-/// Runs a life over devices in memory.
-fn lived<R: Threads + Wait + Sync>(
+/// Adds the status and OUT.
+fn add_end<N>(text: &mut String, ended: &Ended<MemSink, MemDisk, N>) -> Result<(), AllocError> {
+    let (code, status) = (ended.status.code(), &ended.status);
+    write!(text, "status {code} {status:?}\n")?;
+    add_out(text, &ended.out)
+}
+
+/// Runs a life over devices in memory and this dialer.
+fn lived<N: Dialer + Drop, R: Threads + Wait + Sync>(
     rt: &R,
     alloc: Global,
     life: Life<'_>,
     disks: Disks,
-) -> Result<Ended<MemSink, MemDisk, MemDialer>, AllocError> {
-    let tapes = tapes_of(alloc, life.tapes)?;
+    dialer: N,
+) -> Result<Ended<MemSink, MemDisk, N>, AllocError>
+    requires { N.lent dialer ≡ false }
+{
     let Streams { config, input, out } = streams_of(alloc, life)?;
     let outside = SessionOutside {
         config,
@@ -160,10 +215,23 @@ fn lived<R: Threads + Wait + Sync>(
         out,
         out_disk: disks.outbox,
         in_disk: disks.inbox,
-        dialer: MemDialer::without_faults(alloc, tapes),
+        dialer,
         clock: MemClock::new(0),
     };
     Ok(end_of(rt, alloc, life.role, outside))
+}
+
+/// Adds the journals on the disks of a life that ended, which come back.
+fn add_left<N: Drop>(
+    alloc: Global,
+    text: &mut String,
+    ended: Ended<MemSink, MemDisk, N>,
+) -> Result<Disks, AllocError> {
+    let disks = Disks {
+        outbox: ended.out_disk,
+        inbox: ended.in_disk,
+    };
+    add_journals(alloc, text, disks)
 }
 
 /// Runs a life on these disks, which come back, and adds its status, OUT, what the links were sent, and the journals.
@@ -174,11 +242,19 @@ pub fn add_life<R: Threads + Wait + Sync>(
     life: Life<'_>,
     disks: Disks,
 ) -> Result<Disks, AllocError> {
-    let ended = lived(rt, alloc, life, disks)?;
-    add_end(alloc, text, &ended, life.tapes)?;
-    let disks = Disks {
-        outbox: ended.out_disk,
-        inbox: ended.in_disk,
-    };
-    add_journals(alloc, text, disks)
+    match life.role {
+        Role::Initiator => {
+            let dialer = MemDialer::without_faults(alloc, tapes_of(alloc, life.tapes)?);
+            let ended = lived(rt, alloc, life, disks, dialer)?;
+            add_end(text, &ended)?;
+            add_sent(alloc, text, &ended.dialer, life.tapes)?;
+            add_left(alloc, text, ended)
+        }
+        Role::Acceptor => {
+            let ended = lived(rt, alloc, life, disks, door_of(alloc, life.tapes)?)?;
+            add_end(text, &ended)?;
+            add_guests(alloc, text, ended.dialer.guests())?;
+            add_left(alloc, text, ended)
+        }
+    }
 }

@@ -2,8 +2,10 @@
 
 ghost use Rattle.std.specs.Prelude.{◌≡◌, false};
 
-use gw_links::{Dialer, Next};
-use gw_sockets::{AcceptDialer, ConnectDialer, SocketReason};
+use crate::sockets::door::{NEGOTIATE, door_at};
+use gw_links::{Dialer, Link, Next};
+use gw_sockets::{ConnectDialer, SocketReason};
+use gw_watch::NoEar;
 use std::alloc::{AllocError, Global};
 use std::net::{Net, TcpListener, TcpStream};
 use std::sync::atomic::AtomicBool;
@@ -37,7 +39,7 @@ fn fails<N: Dialer>(dialer: &mut N) -> bool
 pub fn no_addresses<R: Net<Listener = TcpListener, Stream = TcpStream> + Clock + AllocGlobal>(
     rt: &R,
 ) -> Result<String, AllocError> {
-    let alloc = rt.alloc();
+    let (alloc, ear) = (rt.alloc(), NoEar);
     let mut shown = format!(in alloc; "addresses:")?;
     for text in [
         "localhost:45618",
@@ -46,29 +48,28 @@ pub fn no_addresses<R: Net<Listener = TcpListener, Stream = TcpStream> + Clock +
         " 127.0.0.1:45618",
         "1.2.3:4",
     ] {
-        let mut accepting = AcceptDialer::new(rt, alloc, text, 1);
+        let mut accepting = door_at(rt, alloc, &ear, text, 1);
         let mut connecting = ConnectDialer::new(rt, alloc, text, 1);
         let both = fails(&mut accepting) && fails(&mut connecting);
         shown.push_str(format!(in alloc; " {both}")?.as_str())?;
     }
-    let mut dialer = AcceptDialer::new(rt, alloc, "127.0.0.1", 1);
+    let mut dialer = door_at(rt, alloc, &ear, "127.0.0.1", 1);
     let _ = fails(&mut dialer);
-    format!(in alloc; "{shown}, {}", text_of(alloc, dialer.reason())?)
+    format!(in alloc; "{shown}, {}", text_of(alloc, dialer.guests().reason())?)
 }
 
 /// A second listener at one address: each of its calls fails.
 pub fn in_use<R: Net<Listener = TcpListener, Stream = TcpStream> + Clock + AllocGlobal>(
     rt: &R,
 ) -> Result<String, AllocError> {
-    let alloc = rt.alloc();
-    let mut first = AcceptDialer::new(rt, alloc, "127.0.0.1:45624", 1);
-    let _ = first.listen();
-    let mut second = AcceptDialer::new(rt, alloc, "127.0.0.1:45624", 1);
+    let (alloc, ear) = (rt.alloc(), NoEar);
+    let _first = door_at(rt, alloc, &ear, "127.0.0.1:45624", 1);
+    let mut second = door_at(rt, alloc, &ear, "127.0.0.1:45624", 1);
     let once = fails(&mut second);
     let again = fails(&mut second);
     format!(in alloc;
         "in use: {once} {again}, {}",
-        text_of(alloc, second.reason())?
+        text_of(alloc, second.guests().reason())?
     )
 }
 
@@ -82,13 +83,14 @@ pub fn refused<R: Net<Listener = TcpListener, Stream = TcpStream> + Clock + Allo
     format!(in alloc; "refused: {fault}, {}", text_of(alloc, dialer.reason())?)
 }
 
-/// Whether a dialer has no connection left.
+/// Whether a dialer has no connection left; over one the keys are given.
 fn is_over<N: Dialer>(dialer: &mut N) -> bool
     requires { N.lent dialer.old ≡ false }
     ensures { N.lent dialer.new ≡ false }
 {
     match dialer.next(&AtomicBool::new(false)) {
-        Ok(Next::Link(link)) => {
+        Ok(Next::Link(mut link)) => {
+            let _ = link.send(&NEGOTIATE);
             dialer.back(link);
             false
         }
@@ -102,9 +104,8 @@ fn is_over<N: Dialer>(dialer: &mut N) -> bool
 pub fn over<R: Net<Listener = TcpListener, Stream = TcpStream> + Clock + AllocGlobal>(
     rt: &R,
 ) -> Result<String, AllocError> {
-    let alloc = rt.alloc();
-    let mut accepting = AcceptDialer::new(rt, alloc, "127.0.0.1:45626", 2);
-    let _ = accepting.listen();
+    let (alloc, ear) = (rt.alloc(), NoEar);
+    let mut accepting = door_at(rt, alloc, &ear, "127.0.0.1:45626", 2);
     let mut connecting = ConnectDialer::new(rt, alloc, "127.0.0.1:45626", 2);
     let first = [is_over(&mut connecting), is_over(&mut accepting)];
     let second = [is_over(&mut connecting), is_over(&mut accepting)];

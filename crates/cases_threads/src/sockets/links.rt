@@ -3,10 +3,13 @@
 ghost use Rattle.std.specs.Prelude.{◌≡◌, ◌<◌, false, length, IfOk};
 ghost use Rattle.gw_links.specs.Links.{IsWithin};
 
+use crate::sockets::door::{NEGOTIATE, door_at};
 use cases_words::digits;
 use gw_links::{Dialer, Got, Link, Next};
 use gw_outside::Failed;
-use gw_sockets::{AcceptDialer, ConnectDialer, SocketLink};
+use gw_porch::PortLink;
+use gw_sockets::{ConnectDialer, SocketLink};
+use gw_watch::NoEar;
 use std::alloc::{AllocError, Global};
 use std::net::{Net, TcpListener, TcpStream};
 use std::sync::atomic::AtomicBool;
@@ -33,17 +36,21 @@ fn next_of<N: Dialer>(dialer: &mut N) -> Option<N::Link>
     }
 }
 
-/// The two ends of a new connection at a port.
-fn ends<R: Net<Listener = TcpListener, Stream = TcpStream> + Clock>(
-    rt: &R,
+/// The two ends of a new connection at a port, over which the keys were given and taken.
+fn ends<'a, R: Net<Listener = TcpListener, Stream = TcpStream> + Clock>(
+    rt: &'a R,
     alloc: Global,
-    address: &str,
-) -> Option<(SocketLink, SocketLink)> {
-    let mut accepting = AcceptDialer::new(rt, alloc, address, 1);
-    let _ = accepting.listen();
+    ear: &'a NoEar,
+    address: &'a str,
+) -> Option<(SocketLink, PortLink<'a, R, NoEar>)> {
+    let mut accepting = door_at(rt, alloc, ear, address, 1);
     let mut connecting = ConnectDialer::new(rt, alloc, address, 1);
-    let near = next_of(&mut connecting)?;
-    let far = next_of(&mut accepting)?;
+    let mut near = next_of(&mut connecting)?;
+    let _ = near.send(&NEGOTIATE);
+    // Behind a send one receive does not wait.
+    let _ = near.recv(&mut [0; 8], PATIENCE);
+    let mut far = next_of(&mut accepting)?;
+    let _ = receive(&mut far, &mut [0; 41]);
     Some((near, far))
 }
 
@@ -76,7 +83,8 @@ pub fn exchange<R: Net<Listener = TcpListener, Stream = TcpStream> + Clock + All
     rt: &R,
 ) -> Result<String, AllocError> {
     let alloc = rt.alloc();
-    let Some((mut near, mut far)) = ends(rt, alloc, "127.0.0.1:45618") else {
+    let ear = NoEar;
+    let Some((mut near, mut far)) = ends(rt, alloc, &ear, "127.0.0.1:45618") else {
         return format!(in alloc; "exchange: no connection");
     };
     let there = near.send(&[1, 2, 3]);
@@ -127,7 +135,8 @@ pub fn full_socket<R: Net<Listener = TcpListener, Stream = TcpStream> + Clock + 
     rt: &R,
 ) -> Result<String, AllocError> {
     let alloc = rt.alloc();
-    let Some((mut near, mut far)) = ends(rt, alloc, "127.0.0.1:45619") else {
+    let ear = NoEar;
+    let Some((mut near, mut far)) = ends(rt, alloc, &ear, "127.0.0.1:45619") else {
         return format!(in alloc; "full: no connection");
     };
     let taken = filled(&mut near);
@@ -142,7 +151,8 @@ pub fn broken<R: Net<Listener = TcpListener, Stream = TcpStream> + Clock + Alloc
     rt: &R,
 ) -> Result<String, AllocError> {
     let alloc = rt.alloc();
-    let Some((mut near, far)) = ends(rt, alloc, "127.0.0.1:45620") else {
+    let ear = NoEar;
+    let Some((mut near, far)) = ends(rt, alloc, &ear, "127.0.0.1:45620") else {
         return format!(in alloc; "broken: no connection");
     };
     let sent = near.send(&[1, 2, 3]);
@@ -167,7 +177,8 @@ pub fn waits<R: Net<Listener = TcpListener, Stream = TcpStream> + Clock + AllocG
     rt: &R,
 ) -> Result<String, AllocError> {
     let alloc = rt.alloc();
-    let Some((mut near, _far)) = ends(rt, alloc, "127.0.0.1:45621") else {
+    let ear = NoEar;
+    let Some((mut near, _far)) = ends(rt, alloc, &ear, "127.0.0.1:45621") else {
         return format!(in alloc; "waits: no connection");
     };
     let start = moment(rt);

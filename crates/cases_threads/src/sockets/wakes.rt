@@ -2,9 +2,11 @@
 
 ghost use Rattle.std.specs.Prelude.{◌≡◌, false};
 
+use crate::sockets::door::{NEGOTIATE, door_at};
 use crate::sockets::links::{PATIENCE, moment};
 use gw_links::{Dialer, Link, Next, Wake};
-use gw_sockets::{AcceptDialer, ConnectDialer};
+use gw_sockets::ConnectDialer;
+use gw_watch::NoEar;
 use std::alloc::AllocError;
 use std::net::{Net, TcpListener, TcpStream};
 use std::sync::atomic::AtomicBool;
@@ -74,6 +76,7 @@ fn seen_at_both<N: Dialer, M: Dialer, R: Clock>(
 {
     match near.next(&AtomicBool::new(false)) {
         Ok(Next::Link(mut link)) => {
+            let _ = link.send(&NEGOTIATE);
             let here = seen(rt, &mut link, near_waker);
             let there = seen_there(rt, far, far_waker);
             near.back(link);
@@ -89,10 +92,9 @@ fn seen_at_both<N: Dialer, M: Dialer, R: Clock>(
 pub fn wakes<R: Net<Listener = TcpListener, Stream = TcpStream> + Clock + AllocGlobal>(
     rt: &R,
 ) -> Result<String, AllocError> {
-    let alloc = rt.alloc();
+    let (alloc, ear) = (rt.alloc(), NoEar);
     let address = "127.0.0.1:45627";
-    let mut accepting = AcceptDialer::new(rt, alloc, address, 2);
-    let _ = accepting.listen();
+    let mut accepting = door_at(rt, alloc, &ear, address, 2);
     let mut connecting = ConnectDialer::new(rt, alloc, address, 2);
     let here = connecting.waker();
     let there = accepting.waker();

@@ -1,5 +1,6 @@
-use Rattle.std.proofs.Common.{◌≢◌, [], None, rules, arith}
+use Rattle.std.proofs.Common.{◌≢◌, [], None, length, rules, arith}
 use Rattle.std.proofs.lemmas.Grind.{common_steps}
+use Rattle.text_words.specs.Lines.{lines_in}
 use Rattle.text_words.proofs.Feeds.{lines_within}
 use Rattle.cmd_codec.proofs.Steps.{made-more, made-none, written-none}
 use Rattle.cmd_codec.proofs.writing.make_front.Goals as goal
@@ -18,4 +19,4 @@ pub returns-in-Err-Line : goal.returns-in-Err-Line
 returns-in-Err-Line c =
     let some : c.loop-frames.left.now ≢ [] = first_of (search rules, grind (arith, common_steps)) in
     rw c.in-Err-Line.field-0-is (
-    made-none c.args.plan.now c.args.text.now c.loop-frames.left.now c.loop-frames.number c.loop-frames.frames.items c.in-Err-Line.lines c.loop-frames.invariant some (rw c.in-Err-Line.field-0-is at c.in-Err-Line.ensures))
+    made-none c.args.plan.now c.args.text.now c.loop-frames.left.now c.loop-frames.number c.loop-frames.frames.items (length (lines_in c.in-Err-Line.at.now)) c.loop-frames.invariant some (rw c.in-Err-Line.field-0-is at c.in-Err-Line.ensures))

@@ -1,0 +1,3 @@
+pub mod Words
+pub mod Samples
+pub mod Seen
