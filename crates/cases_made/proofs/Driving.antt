@@ -137,14 +137,14 @@ module _ {J : Type 0} {G : Ghosts J} where
   rests m p box some l = record { over = λ _. some; time = l.time; sent = l.sent; credentials = l.credentials; seen = l.seen; agrees = l.agrees }
 
   -- a turn moves the place by the bytes of at most 256 frames
-  worked_place : (tells : Type 0) (now : ℕ) (eager : Bool) (old new : EndAt J G) (result : Result TurnEnd TurnFault) → Exchanged tells now eager old new result → old.line.per_turn ≤ 256 → new.line.place ≤ old.line.place + 4195840
-  worked_place tells now eager old new result (inl w) number =
+  worked_place : (tells : Type 0) (losses losses' now : ℕ) (eager : Bool) (old new : EndAt J G) (result : Result TurnEnd TurnFault) → Exchanged tells losses losses' now eager old new result → old.line.per_turn ≤ 256 → new.line.place ≤ old.line.place + 4195840
+  worked_place tells losses losses' now eager old new result (inl w) number =
       omega (arith, ap (λ (x : Line). x.place) w.line, w.served.place, frames_place w.work.now _ w.work.frames w.served.frames, w.served.few, number)
-  worked_place tells now eager old new result (inr z) number = omega (arith, ap (λ (x : Line). x.place) z.line)
+  worked_place tells losses losses' now eager old new result (inr z) number = omega (arith, ap (λ (x : Line). x.place) z.line)
 
-  pub turn_place : (tells : Type 0) (now : ℕ) (eager : Bool) (old new : EndAt J G) (result : Result TurnEnd TurnFault) → DidTurn tells now eager old new result → old.line.per_turn ≤ 256 → new.line.place ≤ old.line.place + 4195840
-  turn_place tells now eager old new result (inl x) number = omega (arith, ap (λ (y : Line). y.place) x.sent.line)
-  turn_place tells now eager old new result (inr y) number = worked_place tells now eager (record old { line = line_ticked old.line now }) new result y.exchanged number
+  pub turn_place : (tells : Type 0) (losses losses' now : ℕ) (eager : Bool) (old new : EndAt J G) (result : Result TurnEnd TurnFault) → DidTurn tells losses losses' now eager old new result → old.line.per_turn ≤ 256 → new.line.place ≤ old.line.place + 4195840
+  turn_place tells losses losses' now eager old new result (inl x) number = omega (arith, ap (λ (y : Line). y.place) x.sent.line)
+  turn_place tells losses losses' now eager old new result (inr y) number = worked_place tells losses losses' now eager (record old { line = line_ticked old.line now }) new result y.exchanged number
 
   -- where it stands behind a turn
   pub stands_behind : (r : Result TurnEnd TurnFault) (new : Line) (most : ℕ) (p : Part) (box : Inbox J G) → OnOk r (new.place ≤ most) → (r ≡ Ok ends.Go → GoesOn new.machine) → OnOk r (Leaves new.machine p box)

@@ -1,6 +1,7 @@
 -- A turn's receive, work and sending, put together.
 use Rattle.std.proofs.Common.{◌≡◌, inl, inr, ⊎_elim, ◌+◌, ◌<◌, ℕ, Bool, true, false, List, [], ◌++◌, ◌≤◌, length, Option, Some, None, Result, Ok, Err, refl, sym, ap, subst, ◌∙◌, arith, append-nil, true≢false}
 use Rattle.std.specs.Prelude.{IsSome, ◌⊎◌, ◌==◌, ◌&&◌, ◌||◌, not, nat_le, OnOk, IfOk, IfErr}
+use Rattle.gw_outside.specs.Faults.{HasRisen}
 use Rattle.gw_links.specs.Links.{LinkTold, Carried, Moved}
 use Rattle.gw_links.specs.declared.link.Got.{Got}
 use Rattle.gw_links.proofs.Moving.{moved_more}
@@ -30,6 +31,10 @@ use Rattle.conn_loop.proofs.Working.{seen_same}
 use Rattle.conn_loop.specs.Turned.{received_by, ServedFrames, DidWork, Exchanged, CutWork, DidTurn, CutTurn, Leaves}
 use Rattle.conn_steps.specs.Ends.{taking_end}
 use Rattle.conn_loop.specs.Live.{EndAt}
+
+-- a count of faults that rose behind some of them
+pub risen_since : (old mid new : ℕ) → old ≤ mid → HasRisen mid new → HasRisen old new
+risen_since old mid new few risen = omega (arith, few, risen)
 
 -- a turn that answers that the connection goes on left it open
 pub goes_on : (o : Option Ending) → ends.Go ≡ answer_of o → o ≡ None
@@ -115,12 +120,12 @@ looked_on l n waits p q r is config most least = record {
 }
 
 module _ {J : Type 0} {G : Ghosts J} where
-  pub did_work : (tells : Type 0) (now : ℕ) (eager : Bool) (old new : EndAt J G) (told_between : Option LinkTold) (carried_between : Option Carried) (r mid : Line) (result : Result TurnEnd TurnFault) (got : Option Got)
+  pub did_work : (tells : Type 0) (losses between losses' : ℕ) (now : ℕ) (eager : Bool) (old new : EndAt J G) (told_between : Option LinkTold) (carried_between : Option Carried) (r mid : Line) (result : Result TurnEnd TurnFault) (got : Option Got)
       → ReceivedOnce eager old.told told_between old.carried carried_between old.line r got
       → ServedFrames tells now old.seen new.seen (taking_end r old.box old.news) (taking_end mid new.box new.news)
-      → SentOnce told_between new.told carried_between new.carried mid new.line result
-      → DidWork tells now eager old new result
-  did_work tells now eager old new told_between carried_between r mid result got x y z =
+      → losses ≤ between → SentOnce between losses' told_between new.told carried_between new.carried mid new.line result
+      → DidWork tells losses losses' now eager old new result
+  did_work tells losses between losses' now eager old new told_between carried_between r mid result got x y few z =
       let w : Work = record y.work { got = got; received = x.received; sent = z.sent; lost = z.lost } in
       let s : Served old.seen new.seen (received_by old.line w) mid y.work = subst (λ (k : Line). Served old.seen new.seen k mid y.work) x.line y.served in
       record {
@@ -157,6 +162,7 @@ module _ {J : Type 0} {G : Ghosts J} where
         whole = z.whole;
         full = z.full;
         answer = z.answer;
+        cause = λ e. risen_since losses between losses' few (z.cause e);
         kept = z.kept;
         line = z.line;
         gains = subst (λ (k : Line). Gains old.box new.box (added now k y.work.frames)) x.line y.gains;
@@ -181,28 +187,28 @@ module _ {J : Type 0} {G : Ghosts J} where
   cut_none now eager old new told carried seen line box news =
       inl (refl, λ i. record { told = told i; carried = carried i; seen = seen i; line = line i; box = box i; news = news i })
 
-  pub only_sent : (tells : Type 0) (now n : ℕ) (eager : Bool) (old new : EndAt J G) (l : Line) (result : Result TurnEnd TurnFault) → now ≡ n → l ≡ line_ticked old.line now
-      → (receives old.line ≡ false) ⊎ IsSome l.machine.ending → SentOnce old.told new.told old.carried new.carried l new.line result
-      → new.box ≡ old.box → new.news ≡ old.news → new.seen ≡ old.seen → DidTurn tells n eager old new result
-  only_sent tells now n eager old new l result is ticks why sent box news seen = inl (record {
+  pub only_sent : (tells : Type 0) (losses losses' : ℕ) (now n : ℕ) (eager : Bool) (old new : EndAt J G) (l : Line) (result : Result TurnEnd TurnFault) → now ≡ n → l ≡ line_ticked old.line now
+      → (receives old.line ≡ false) ⊎ IsSome l.machine.ending → SentOnce losses losses' old.told new.told old.carried new.carried l new.line result
+      → new.box ≡ old.box → new.news ≡ old.news → new.seen ≡ old.seen → DidTurn tells losses losses' n eager old new result
+  only_sent tells losses losses' now n eager old new l result is ticks why sent box news seen = inl (record {
     why = subst (λ (k : ℕ). (receives old.line ≡ false) ⊎ IsSome (line_ticked old.line k).machine.ending) is
         (subst (λ (x : Line). (receives old.line ≡ false) ⊎ IsSome x.machine.ending) ticks why);
-    sent = subst (λ (k : ℕ). SentOnce old.told new.told old.carried new.carried (line_ticked old.line k) new.line result) is
-        (subst (λ (x : Line). SentOnce old.told new.told old.carried new.carried x new.line result) ticks sent);
+    sent = subst (λ (k : ℕ). SentOnce losses losses' old.told new.told old.carried new.carried (line_ticked old.line k) new.line result) is
+        (subst (λ (x : Line). SentOnce losses losses' old.told new.told old.carried new.carried x new.line result) ticks sent);
     same_box = box;
     same_news = news;
     same_seen = seen;
   })
 
-  pub did_more : (tells : Type 0) (now n : ℕ) (eager : Bool) (old new : EndAt J G) (l : Line) (news : List NewsItem) (result : Result TurnEnd TurnFault) → now ≡ n → l ≡ line_ticked old.line now
-      → receives old.line ≡ true → l.machine.ending ≡ None → news ≡ old.news → Exchanged tells now eager (record old { line = l; news = news }) new result
-      → DidTurn tells n eager old new result
-  did_more tells now n eager old new l news result is ticks little goes none x = inr (record {
+  pub did_more : (tells : Type 0) (losses losses' : ℕ) (now n : ℕ) (eager : Bool) (old new : EndAt J G) (l : Line) (news : List NewsItem) (result : Result TurnEnd TurnFault) → now ≡ n → l ≡ line_ticked old.line now
+      → receives old.line ≡ true → l.machine.ending ≡ None → news ≡ old.news → Exchanged tells losses losses' now eager (record old { line = l; news = news }) new result
+      → DidTurn tells losses losses' n eager old new result
+  did_more tells losses losses' now n eager old new l news result is ticks little goes none x = inr (record {
     little = little;
     unended = subst (λ (k : ℕ). (line_ticked old.line k).machine.ending ≡ None) is (subst (λ (y : Line). y.machine.ending ≡ None) ticks goes);
-    exchanged = subst (λ (k : ℕ). Exchanged tells k eager (record old { line = line_ticked old.line k }) new result) is
-        (subst (λ (y : Line). Exchanged tells now eager (record old { line = y }) new result) ticks
-        (subst (λ (ns : List NewsItem). Exchanged tells now eager (record old { line = l; news = ns }) new result) none x));
+    exchanged = subst (λ (k : ℕ). Exchanged tells losses losses' k eager (record old { line = line_ticked old.line k }) new result) is
+        (subst (λ (y : Line). Exchanged tells losses losses' now eager (record old { line = y }) new result) ticks
+        (subst (λ (ns : List NewsItem). Exchanged tells losses losses' now eager (record old { line = l; news = ns }) new result) none x));
   })
 
   pub cut_as : (now n : ℕ) (eager : Bool) (old new : EndAt J G) (l : Line) (news : List NewsItem) (r : Result TurnEnd TurnFault) → now ≡ n → l ≡ line_ticked old.line now

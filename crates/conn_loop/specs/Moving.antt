@@ -2,6 +2,7 @@
 use Rattle.std.specs.Prelude.{◌≡◌, ℕ, ◌+◌, ◌/◌, ◌<◌, ◌==◌, ◌||◌, min, if◌then◌else◌, Bool, false, List, [], ◌++◌, length, Option, Some, None, is_some, IfSome, Result, Ok, Err, true}
 use mathlib.Core.List.{IsPrefix}
 use Rattle.sofh_frame.specs.Framing.{IsBytes, first_of}
+use Rattle.gw_outside.specs.Faults.{HasRisen}
 use Rattle.gw_links.specs.declared.link.Got.{Got}
 use Rattle.gw_links.specs.Links.{LinkTold, Carried, Moved}
 use Rattle.fixp_replies.specs.declared.act.Ending.TheVariants as endings
@@ -45,9 +46,9 @@ abbrev pub IsLossOf : State → State → Result TurnEnd TurnFault → Type 0
 IsLossOf old new (Ok end) = (end ≡ answer_of new.ending) × (old.ending ≡ None → new.ending ≡ Some endings.LinkEnded → ⊥)
 IsLossOf old new (Err fault) = (fault ≡ faults.Link) × (old.ending ≡ None) × (new.ending ≡ Some endings.LinkEnded)
 
--- a front of what was unsent was sent: as much as the link took, or, where it failed, some front. Where it failed, the answer is that
--- of a loss, and else how the connection then stands
-pub record SentOnce (told told' : Option LinkTold) (carried carried' : Option Carried) (old new : Line) (result : Result TurnEnd TurnFault) : Type 0 where
+-- a front of what was unsent was sent: as much as the link took, or, where it failed, some front. Where it failed, its count of faults rose, and the
+-- answer is that of a loss; and else it is how the connection then stands
+pub record SentOnce (losses losses' : ℕ) (told told' : Option LinkTold) (carried carried' : Option Carried) (old new : Line) (result : Result TurnEnd TurnFault) : Type 0 where
   pub sent : List ℕ
   pub lost : Bool
   pub front : IsPrefix sent old.machine.unsent
@@ -55,5 +56,6 @@ pub record SentOnce (told told' : Option LinkTold) (carried carried' : Option Ca
   pub whole : lost ≡ false → old.machine.unsent ≡ sent ++ new.machine.unsent
   pub full : lost ≡ false → 0 < length new.machine.unsent → IfSome told' (λ t. t.room ≡ 0)
   pub answer : lost ≡ true → IsLossOf old.machine new.machine result
+  pub cause : lost ≡ true → HasRisen losses losses'
   pub kept : lost ≡ false → result ≡ Ok (answer_of new.machine.ending)
   pub moved : Moved told told' carried carried' [] sent

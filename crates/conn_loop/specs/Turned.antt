@@ -2,6 +2,7 @@
 use Rattle.std.specs.Prelude.{◌≡◌, ◌⊎◌, ℕ, ◌+◌, ◌<◌, ◌≤◌, ◌||◌, Bool, false, List, [], ◌∷◌, ◌++◌, length, Option, None, IsSome, IfSome, ◌^◌, true, Result, Ok}
 use mathlib.Core.List.{IsPrefix}
 use Rattle.sofh_frame.specs.Framing.{IsBytes}
+use Rattle.gw_outside.specs.Faults.{HasRisen}
 use Rattle.gw_links.specs.declared.link.Got.{Got}
 use Rattle.gw_links.specs.Links.{Moved}
 use Rattle.session_model.specs.Inbox.{InboxRecord}
@@ -67,9 +68,9 @@ module _ {J : Type 0} {G : Ghosts J} where
     pub news_are : news' ≡ news ++ (told now l frames ++ told_of now (lines_after now l frames) refusal)
 
   -- behind its tick a turn received, its frames were served, and what was to be sent was sent; what was sent of an outbox whose disk tells
-  -- its content is what was seen of it. Where its link failed as it sent, it answers as that says: the fault, where nothing had ended the
-  -- connection before; and else how the connection then stands
-  pub record DidWork (tells : Type 0) (now : ℕ) (eager : Bool) (old new : EndAt J G) (result : Result TurnEnd TurnFault) : Type 0 where
+  -- its content is what was seen of it. Where its link failed as it sent, the link's count of faults rose, and it answers as that says: the fault,
+  -- where nothing had ended the connection before; and else how the connection then stands
+  pub record DidWork (tells : Type 0) (losses losses' : ℕ) (now : ℕ) (eager : Bool) (old new : EndAt J G) (result : Result TurnEnd TurnFault) : Type 0 where
     pub work : Work
     pub faithful : tells → IsFaithful (works work)
     pub at : work.now ≡ now
@@ -81,24 +82,26 @@ module _ {J : Type 0} {G : Ghosts J} where
     pub whole : work.lost ≡ false → behind.machine.unsent ≡ work.sent ++ new.line.machine.unsent
     pub full : work.lost ≡ false → 0 < length new.line.machine.unsent → IfSome new.told (λ t. t.room ≡ 0)
     pub answer : work.lost ≡ true → IsLossOf behind.machine new.line.machine result
+    pub cause : work.lost ≡ true → HasRisen losses losses'
     pub kept : work.lost ≡ false → result ≡ Ok (answer_of new.line.machine.ending)
     pub line : new.line ≡ line_sent behind work.sent work.lost
     pub gains : Gains old.box new.box (added now (received_by old.line work) work.frames)
     pub news_are : new.news ≡ old.news ++ told now (received_by old.line work) work.frames
     pub moved : Moved old.told new.told old.carried new.carried work.received work.sent
 
-  -- the link of a turn failed as it received: the turn answers the fault, unless both finishes were exchanged
-  pub record LostLink (old new : EndAt J G) (result : Result TurnEnd TurnFault) : Type 0 where
+  -- the link of a turn failed as it received, and its count of faults rose: the turn answers the fault, unless both finishes were exchanged
+  pub record LostLink (losses losses' : ℕ) (old new : EndAt J G) (result : Result TurnEnd TurnFault) : Type 0 where
     pub line : new.line ≡ record old.line { machine = run old.line.machine (link_end ∷ []) }
     pub answer : IsLossOf old.line.machine new.line.machine result
+    pub cause : HasRisen losses losses'
     pub moved : Moved old.told new.told old.carried new.carried [] []
     pub same_box : new.box ≡ old.box
     pub same_news : new.news ≡ old.news
     pub same_seen : new.seen ≡ old.seen
 
   -- behind its tick a turn did its work, or its link failed as it received
-  abbrev pub Exchanged : (tells : Type 0) (now : ℕ) (eager : Bool) (old new : EndAt J G) (result : Result TurnEnd TurnFault) → Type 0
-  Exchanged tells now eager old new result = DidWork tells now eager old new result ⊎ LostLink old new result
+  abbrev pub Exchanged : (tells : Type 0) (losses losses' : ℕ) (now : ℕ) (eager : Bool) (old new : EndAt J G) (result : Result TurnEnd TurnFault) → Type 0
+  Exchanged tells losses losses' now eager old new result = DidWork tells losses losses' now eager old new result ⊎ LostLink losses losses' old new result
 
   -- behind its tick a turn received once, and then it was cut short behind frames; it sent nothing
   pub record CutWork (now : ℕ) (eager : Bool) (old new : EndAt J G) (fault : TurnFault) : Type 0 where
@@ -109,22 +112,22 @@ module _ {J : Type 0} {G : Ghosts J} where
 
   -- A turn only sent: more was unsent at its start than an end receives beside, or its tick ended the connection. The inbox, the pass and the news are as
   -- they were, and it answers as what it sent says
-  pub record OnlySent (now : ℕ) (old new : EndAt J G) (result : Result TurnEnd TurnFault) : Type 0 where
+  pub record OnlySent (losses losses' : ℕ) (now : ℕ) (old new : EndAt J G) (result : Result TurnEnd TurnFault) : Type 0 where
     pub why : (receives old.line ≡ false) ⊎ IsSome (run old.line.machine (first_calls now)).ending
-    pub sent : SentOnce old.told new.told old.carried new.carried (line_ticked old.line now) new.line result
+    pub sent : SentOnce losses losses' old.told new.told old.carried new.carried (line_ticked old.line now) new.line result
     pub same_box : new.box ≡ old.box
     pub same_news : new.news ≡ old.news
     pub same_seen : new.seen ≡ old.seen
 
   -- no more was unsent than an end receives beside, and its tick left the connection open: it did more
-  pub record DidMore (tells : Type 0) (now : ℕ) (eager : Bool) (old new : EndAt J G) (result : Result TurnEnd TurnFault) : Type 0 where
+  pub record DidMore (tells : Type 0) (losses losses' : ℕ) (now : ℕ) (eager : Bool) (old new : EndAt J G) (result : Result TurnEnd TurnFault) : Type 0 where
     pub little : receives old.line ≡ true
     pub unended : (run old.line.machine (first_calls now)).ending ≡ None
-    pub exchanged : Exchanged tells now eager (record old { line = line_ticked old.line now }) new result
+    pub exchanged : Exchanged tells losses losses' now eager (record old { line = line_ticked old.line now }) new result
 
-  -- what a turn did that was not cut short: it only sent, or it did more
-  abbrev pub DidTurn : (tells : Type 0) (now : ℕ) (eager : Bool) (old new : EndAt J G) (result : Result TurnEnd TurnFault) → Type 0
-  DidTurn tells now eager old new result = OnlySent now old new result ⊎ DidMore tells now eager old new result
+  -- what a turn did that was not cut short, over a link that counted so many faults before and behind it: it only sent, or it did more
+  abbrev pub DidTurn : (tells : Type 0) (losses losses' : ℕ) (now : ℕ) (eager : Bool) (old new : EndAt J G) (result : Result TurnEnd TurnFault) → Type 0
+  DidTurn tells losses losses' now eager old new result = OnlySent losses losses' now old new result ⊎ DidMore tells losses losses' now eager old new result
 
   -- a turn had no memory to begin, and all is as it was
   abbrev pub NotBegun : (old new : EndAt J G) → TurnFault → Type 0

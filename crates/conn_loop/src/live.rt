@@ -103,8 +103,8 @@ impl<O: Journal, I: Journal, C: Clock> LiveEnd<O, I, C> {
         ensures own { IsPassAt gate.now (pass_of self.new) }
         ensures stays { Stays C.Clock self.old self.new }
         ensures looked { HasLooked (line_in self.old).machine (pass_in self.old) (pass_in self.new) result }
-        ensures did { OnOk result (DidTurn O.tells (max (C.last (clock_in self.new)) (line_in self.old).machine.moment) L.eager (in_turn (L.told link.old) (L.carried link.old) self.old []) (in_turn (L.told link.new) (L.carried link.new) self.new (items_of news.new)) result) }
-        ensures lost { result ≡ Err faults.Link → DidTurn O.tells (max (C.last (clock_in self.new)) (line_in self.old).machine.moment) L.eager (in_turn (L.told link.old) (L.carried link.old) self.old []) (in_turn (L.told link.new) (L.carried link.new) self.new (items_of news.new)) result }
+        ensures did { OnOk result (DidTurn O.tells (L.faults link.old) (L.faults link.new) (max (C.last (clock_in self.new)) (line_in self.old).machine.moment) L.eager (in_turn (L.told link.old) (L.carried link.old) self.old []) (in_turn (L.told link.new) (L.carried link.new) self.new (items_of news.new)) result) }
+        ensures lost { result ≡ Err faults.Link → DidTurn O.tells (L.faults link.old) (L.faults link.new) (max (C.last (clock_in self.new)) (line_in self.old).machine.moment) L.eager (in_turn (L.told link.old) (L.carried link.old) self.old []) (in_turn (L.told link.new) (L.carried link.new) self.new (items_of news.new)) result }
         ensures cut { IfErr result (λ fault. (fault ≡ faults.Link → ⊥) → CutTurn (max (C.last (clock_in self.new)) (line_in self.old).machine.moment) L.eager (in_turn (L.told link.old) (L.carried link.old) self.old []) (in_turn (L.told link.new) (L.carried link.new) self.new (items_of news.new)) fault) }
         ensures limit { max (C.last (clock_in self.new)) (line_in self.old).machine.moment < 2 ^ 44 }
         ensures answer { IfOk result (λ end. end ≡ answer_of (line_in self.new).machine.ending) }

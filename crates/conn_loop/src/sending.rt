@@ -53,7 +53,7 @@ impl Conn {
     #[tactic(auto, using(crate::proofs::Machine::taken_drained))]
     pub(crate) fn send<L: Link>(&mut self, link: &mut L) -> Result<TurnEnd, TurnFault>
         requires { (line_of self.old).machine.begun ≡ true }
-        ensures sent { SentOnce (L.told link.old) (L.told link.new) (L.carried link.old) (L.carried link.new) (line_of self.old) (line_of self.new) result }
+        ensures sent { SentOnce (L.faults link.old) (L.faults link.new) (L.told link.old) (L.told link.new) (L.carried link.old) (L.carried link.new) (line_of self.old) (line_of self.new) result }
         ensures answer { IsLossOf (line_of self.old).machine (line_of self.new).machine result }
         ensures keeps { KeepsAll (line_of self.old).machine (line_of self.new).machine (line_of self.old).machine.moment }
         ensures facts { (line_of self.new).machine.facts ≡ (line_of self.old).machine.facts }

@@ -1,10 +1,10 @@
 -- An end that is driven: where it stands behind a call, and who has its passes.
-use Rattle.std.proofs.Common.{◌≡◌, Vec, Global, inl, inr, ℕ, zero, suc, ◌+◌, ◌*◌, ◌<◌, ◌≤◌, ◌^◌, true, false, Bool, if◌then◌else◌, [], ◌∷◌, List, length, Option, Some, None, Result, Ok, Err, refl, sym, ap, subst, ◌∙◌, arith}
+use Rattle.std.proofs.Common.{◌≡◌, Vec, Global, inl, inr, ℕ, zero, suc, ◌+◌, ◌*◌, ◌==◌, ◌<◌, ◌≤◌, ◌^◌, true, false, Bool, if◌then◌else◌, [], ◌∷◌, List, length, Option, Some, None, Result, Ok, Err, refl, sym, ap, subst, ◌∙◌, arith, true≢false}
 use Rattle.std.specs.Prelude.{⊤, ◌⊎◌, All, vec_len, slice_index_or, OnOk, IfOk, IfErr, IfSome, IsSome, is_some}
 use Rattle.std.specs.Result.{result_ok}
 use Rattle.session_model.specs.Journal.{History, BeginsHistory}
 use Rattle.session_model.proofs.Lists.{prefix_length}
-use Rattle.std.proofs.lemmas.Bool.{false≢true}
+use Rattle.std.proofs.lemmas.Bool.{eqb-true, false≢true}
 use Rattle.fixp_replies.specs.declared.act.Ending.{Ending}
 use Rattle.fixp_replies.specs.Events.{link_ending}
 use Rattle.fixp_machine.specs.Machine.{State, around, step, taken, fresh}
@@ -35,6 +35,7 @@ use Rattle.conn_loop.specs.declared.conn.Conn.{Conn}
 use Rattle.conn_loop.specs.Conn.{line_of, new_line, line_begun, line_cut, answer_of, GoesOn, HasSeen}
 use Rattle.conn_loop.specs.Live.{EndAt}
 use Rattle.conn_loop.specs.Turned.{DidTurn, Exchanged, Leaves, NotBegun}
+use Rattle.turn_laws.specs.Legs.{is_lost}
 use Rattle.turn_laws.specs.Turned.{WasTurn, WasCut}
 use Rattle.fixp_shake.specs.declared.config.EndConfig.{EndConfig}
 use Rattle.conn_loop.proofs.Working.{seen_same}
@@ -42,6 +43,8 @@ use Rattle.fixp_replies.specs.declared.facts.EndState.{EndState}
 use Rattle.jr_dated.specs.declared.faults.FetchFault.TheVariants as fetch
 use Rattle.jr_boxes.specs.declared.faults.SubmitFault.{SubmitFault}
 use Rattle.jr_boxes.specs.declared.faults.SubmitFault.TheVariants as submit
+use Rattle.jr_boxes.specs.declared.faults.CloseFault.{CloseFault}
+use Rattle.jr_boxes.specs.declared.faults.CloseFault.TheVariants as closing
 use Rattle.gate_staff.specs.declared.business.ResumeFault.{ResumeFault}
 use Rattle.gate_staff.specs.declared.business.ResumeFault.TheVariants as resuming
 use Rattle.order_staff.specs.declared.posts.Posts.{Posts}
@@ -52,7 +55,7 @@ use Rattle.order_staff.specs.Staffs.{count_of, posts_of, HasStaff, IsSeatedAt, M
 use Rattle.gw_rehearse.specs.declared.standing.Standing.{Standing}
 use Rattle.gw_rehearse.specs.declared.standing.Standing.TheVariants as standings
 use Rattle.gw_rehearse.specs.Driven.{IsMadeOf}
-use Rattle.gw_rehearse.specs.Standing.{standing_of, refused_by, resumed_by, is_given, is_failed, KeepsPasses, UsesFirst, CanTurn, Rests, Stands, WasMade}
+use Rattle.gw_rehearse.specs.Standing.{standing_of, sent_by, refused_by, marked_by, resumed_by, is_given, is_failed, KeepsPasses, UsesFirst, CanTurn, Rests, Stands, WasMade, WasWhole}
 
 -- ---- the place
 
@@ -88,10 +91,35 @@ conn_made {E} config state next sent r o is made next_is sent_is = subst (λ (x 
     of_result (Ok conn) made = record { state = state; next_is = next_is; sent_is = sent_is; line = made }
     of_result (Err e) made = tt
 
+-- an end that was neither given up nor failed has all sent
+pub all_sent : (s : Standing) (all : Bool) (unsent : List ℕ) → all ≡ (length unsent == 0) → is_given (sent_by all s) ≡ false → is_failed (sent_by all s) ≡ false → unsent ≡ []
+all_sent s true unsent is given failed = none_of unsent (eqb-true (length unsent) 0 (sym is))
+  where
+    none_of : (bytes : List ℕ) → length bytes ≡ 0 → bytes ≡ []
+    none_of [] e = refl
+    none_of (b ∷ bytes) e = absurd (omega (arith, e))
+all_sent standings.Over false unsent is given failed = absurd (true≢false given)
+all_sent standings.Open false unsent is given failed = absurd (true≢false given)
+all_sent standings.Failed false unsent is given failed = absurd (true≢false failed)
+all_sent standings.GivenUp false unsent is given failed = absurd (true≢false given)
+
 -- what holds of a fault makes another hold
 pub err_then : {T E : Type 0} {P Q : E → Type 0} (r : Result T E) → ((e : E) → P e → Q e) → IfErr r P → IfErr r Q
 err_then (Ok x) f p = tt
 err_then (Err e) f p = f e p
+
+-- what was sent is seen by a pass that has found more
+seen_found : (m : State) (p q : Part) → BeginsHistory p.seen q.seen → HasSeen m p → HasSeen m q
+seen_found m p q begins h = record {
+  entries = let e = h.entries in let l = prefix_length p.seen.made q.seen.made begins.made in omega (arith, e, l);
+  finish = by_finish m.facts.recorded.finish h.finish;
+}
+  where
+    by_finish : (o : Option ℕ) → IfSome o (λ n. (p.seen.finished ≡ true) × (length p.seen.made ≡ n)) → IfSome o (λ n. (q.seen.finished ≡ true) × (length q.seen.made ≡ n))
+    by_finish None known = tt
+    by_finish (Some n) known =
+        let same : p.seen ≡ q.seen = begins.alone known.0 in
+        (ap (λ (x : History). x.finished) (sym same) ∙ known.0, ap (λ (x : History). length x.made) (sym same) ∙ known.1)
 
 module _ {J : Type 0} {G : Ghosts J} where
   -- ---- where an end stands
@@ -110,32 +138,37 @@ module _ {J : Type 0} {G : Ghosts J} where
   rests m p box some l = record { over = λ _. some; time = l.time; sent = l.sent; credentials = l.credentials; seen = l.seen; agrees = l.agrees }
 
   -- a turn moves the place by the bytes of at most 256 frames
-  worked_place : (tells : Type 0) (now : ℕ) (eager : Bool) (old new : EndAt J G) (result : Result TurnEnd TurnFault) → Exchanged tells now eager old new result → old.line.per_turn ≤ 256 → new.line.place ≤ old.line.place + 4195840
-  worked_place tells now eager old new result (inl w) number =
+  worked_place : (tells : Type 0) (losses losses' now : ℕ) (eager : Bool) (old new : EndAt J G) (result : Result TurnEnd TurnFault) → Exchanged tells losses losses' now eager old new result → old.line.per_turn ≤ 256 → new.line.place ≤ old.line.place + 4195840
+  worked_place tells losses losses' now eager old new result (inl w) number =
       omega (arith, ap (λ (x : Line). x.place) w.line, w.served.place, frames_place w.work.now _ w.work.frames w.served.frames, w.served.few, number)
-  worked_place tells now eager old new result (inr z) number = omega (arith, ap (λ (x : Line). x.place) z.line)
+  worked_place tells losses losses' now eager old new result (inr z) number = omega (arith, ap (λ (x : Line). x.place) z.line)
 
-  pub turn_place : (tells : Type 0) (now : ℕ) (eager : Bool) (old new : EndAt J G) (result : Result TurnEnd TurnFault) → DidTurn tells now eager old new result → old.line.per_turn ≤ 256 → new.line.place ≤ old.line.place + 4195840
-  turn_place tells now eager old new result (inl x) number = omega (arith, ap (λ (y : Line). y.place) x.sent.line)
-  turn_place tells now eager old new result (inr y) number = worked_place tells now eager (record old { line = line_ticked old.line now }) new result y.exchanged number
+  pub turn_place : (tells : Type 0) (losses losses' now : ℕ) (eager : Bool) (old new : EndAt J G) (result : Result TurnEnd TurnFault) → DidTurn tells losses losses' now eager old new result → old.line.per_turn ≤ 256 → new.line.place ≤ old.line.place + 4195840
+  turn_place tells losses losses' now eager old new result (inl x) number = omega (arith, ap (λ (y : Line). y.place) x.sent.line)
+  turn_place tells losses losses' now eager old new result (inr y) number = worked_place tells losses losses' now eager (record old { line = line_ticked old.line now }) new result y.exchanged number
 
   -- a turn over an outbox whose disk tells its content sent what was seen of that
   pub told_turn : (tells : Type 0) (eager : Bool) (before after : ℕ) (old new : EndAt J G) → WasTurn tells eager before after old new → tells → WasTurn ⊤ eager before after old new
   told_turn tells eager before after old new w told =
       record { turn = w.turn; made = w.made; timely = w.timely; faithful = λ _. w.faithful told; gains = w.gains; news_are = w.news_are }
 
+  pub told_whole : (tells risen : Type 0) (eager : Bool) (before after : ℕ) (old new : EndAt J G) → (was : WasTurn tells eager before after old new) × (is_lost was.turn ≡ true → risen) → tells
+      → WasWhole risen eager before after old new
+  unfolding told_turn
+  told_whole tells risen eager before after old new w told = (told_turn tells eager before after old new w.0 told, w.1)
+
   -- what it was, by what it answered
-  pub made_behind : (r : Result TurnEnd TurnFault) (s : Standing) (eager : Bool) (before after : ℕ) (old new : EndAt J G) → s ≡ standing_of r → OnOk r (WasTurn ⊤ eager before after old new)
-      → (r ≡ Err faults.Link → WasTurn ⊤ eager before after old new) → IfErr r (λ fault. (fault ≡ faults.Link → ⊥) → NotBegun old new fault ⊎ WasCut eager before after old new fault)
-      → WasMade s eager before after old new
-  made_behind r s eager before after old new is ok lost cut = subst (λ (x : Standing). WasMade x eager before after old new) (sym is) (by_answer r ok lost cut)
+  pub made_behind : (r : Result TurnEnd TurnFault) (s : Standing) (risen : Type 0) (eager : Bool) (before after : ℕ) (old new : EndAt J G) → s ≡ standing_of r → OnOk r (WasWhole risen eager before after old new)
+      → (r ≡ Err faults.Link → WasWhole risen eager before after old new) → IfErr r (λ fault. (fault ≡ faults.Link → ⊥) → NotBegun old new fault ⊎ WasCut eager before after old new fault)
+      → WasMade s risen eager before after old new
+  made_behind r s risen eager before after old new is ok lost cut = subst (λ (x : Standing). WasMade x risen eager before after old new) (sym is) (by_answer r ok lost cut)
     where
       begun : (fault : TurnFault) → (fault ≡ faults.Memory → ⊥) → NotBegun old new fault ⊎ WasCut eager before after old new fault → (f : TurnFault) × WasCut eager before after old new f
       begun fault other (inl none) = absurd (other none.0)
       begun fault other (inr w) = (fault, w)
 
-      by_answer : (r : Result TurnEnd TurnFault) → OnOk r (WasTurn ⊤ eager before after old new) → (r ≡ Err faults.Link → WasTurn ⊤ eager before after old new)
-          → IfErr r (λ fault. (fault ≡ faults.Link → ⊥) → NotBegun old new fault ⊎ WasCut eager before after old new fault) → WasMade (standing_of r) eager before after old new
+      by_answer : (r : Result TurnEnd TurnFault) → OnOk r (WasWhole risen eager before after old new) → (r ≡ Err faults.Link → WasWhole risen eager before after old new)
+          → IfErr r (λ fault. (fault ≡ faults.Link → ⊥) → NotBegun old new fault ⊎ WasCut eager before after old new fault) → WasMade (standing_of r) risen eager before after old new
       by_answer (Ok ends.Go) ok lost cut = ok
       by_answer (Ok (ends.Ended ending)) ok lost cut = ok
       by_answer (Err faults.Link) ok lost cut = lost refl
@@ -159,12 +192,38 @@ module _ {J : Type 0} {G : Ghosts J} where
   stands_behind (Err (faults.Full entries bytes)) new most p box place goes leaves lost answer ended = record { turns = λ e. cc; begins = λ e. cc }
   stands_behind (Err faults.Memory) new most p box place goes leaves lost answer ended = record { turns = λ e. cc; begins = λ e. cc }
 
+  -- once it is known whether all that it wrote was taken
+  pub sent_stands : (s : Standing) (all : Bool) (l : Line) (most : ℕ) (p : Part) (box : Inbox J G) → Stands s l most p box → Stands (sent_by all s) l most p box
+  sent_stands s true l most p box h = h
+  sent_stands standings.Over false l most p box h = record { turns = λ e. cc; begins = λ e. cc }
+  sent_stands standings.Open false l most p box h = record { turns = λ e. cc; begins = λ e. cc }
+  sent_stands standings.Failed false l most p box h = h
+  sent_stands standings.GivenUp false l most p box h = h
+
+  pub sent_made : (s then_is : Standing) (all : Bool) (risen : Type 0) (eager : Bool) (before after : ℕ) (old new : EndAt J G) → then_is ≡ sent_by all s → WasMade s risen eager before after old new
+      → WasMade then_is risen eager before after old new
+  sent_made s then_is all risen eager before after old new is h = subst (λ (x : Standing). WasMade x risen eager before after old new) (sym is) (by_case s all h)
+    where
+      by_case : (x : Standing) (b : Bool) → WasMade x risen eager before after old new → WasMade (sent_by b x) risen eager before after old new
+      by_case x true h = h
+      by_case standings.Over false h = tt
+      by_case standings.Open false h = tt
+      by_case standings.Failed false h = h
+      by_case standings.GivenUp false h = tt
+
   -- the same with another bound and of a pass that knows the same
   pub stands_at : (s : Standing) (l : Line) (most more : ℕ) (p q : Part) (box : Inbox J G) → most ≤ more → q ≡ p → Stands s l most p box → Stands s l more q box
   stands_at s l most more p q box least same h = subst (λ (x : Part). Stands s l more x box) (sym same) (record {
     turns = λ e. let c = h.turns e in record { goes = c.goes; place = let b = c.place in omega (arith, b, least); seen = c.seen; agrees = c.agrees };
     begins = h.begins;
   })
+
+  -- of a pass that has found more
+  pub found_stands : (s : Standing) (l : Line) (most : ℕ) (p q : Part) (box : Inbox J G) → BeginsHistory p.seen q.seen → Stands s l most p box → Stands s l most q box
+  found_stands s l most p q box begins h = record {
+    turns = λ e. let c = h.turns e in record { goes = c.goes; place = c.place; seen = seen_found l.machine p q begins c.seen; agrees = c.agrees };
+    begins = λ e. let r = h.begins e in record { over = r.over; time = r.time; sent = r.sent; credentials = r.credentials; seen = seen_found l.machine p q begins r.seen; agrees = r.agrees };
+  }
 
   -- a connection that begins can turn
   pub begun_stands : (l new : Line) (now : ℕ) (p : Part) (box : Inbox J G) → new ≡ line_begun l now → GoesOn new.machine → new.machine.facts.recorded ≡ l.machine.facts.recorded → new.machine.config ≡ l.machine.config
@@ -272,6 +331,21 @@ refused_follows s new (Err submit.Fault) is whole sound = inr (sound, whole, inl
 refused_follows s new (Err submit.Broken) is whole sound = inr (sound, whole, inl is)
 refused_follows s new (Err (submit.Full entries bytes)) is whole sound = inr (sound, whole, inr is)
 refused_follows s new (Err submit.Memory) is whole sound = inr (sound, whole, inr is)
+
+pub marked_follows : (s new : Standing) (r : Result (Unit {0}) CloseFault) → new ≡ marked_by s r → is_failed s ≡ false → is_given s ≡ false → Follows s new
+marked_follows s new (Ok _) is whole sound = inl is
+marked_follows s new (Err closing.Closed) is whole sound = inl is
+marked_follows s new (Err closing.Fault) is whole sound = inr (sound, whole, inl is)
+marked_follows s new (Err closing.Broken) is whole sound = inr (sound, whole, inl is)
+marked_follows s new (Err closing.Memory) is whole sound = inr (sound, whole, inr is)
+
+-- an end that was to see the mark, and has neither failed nor was given up, has seen it
+pub marked_seen : (s new : Standing) (r : Result (Unit {0}) CloseFault) (finished : Bool) → new ≡ marked_by s r → OnOk r (finished ≡ true) → (r ≡ Err closing.Closed → finished ≡ true) → is_given new ≡ false → is_failed new ≡ false → finished ≡ true
+marked_seen s new (Ok _) finished is ok stood given failed = ok
+marked_seen s new (Err closing.Closed) finished is ok stood given failed = stood refl
+marked_seen s new (Err closing.Fault) finished is ok stood given failed = absurd (true≢false (sym (ap is_failed is) ∙ failed))
+marked_seen s new (Err closing.Broken) finished is ok stood given failed = absurd (true≢false (sym (ap is_failed is) ∙ failed))
+marked_seen s new (Err closing.Memory) finished is ok stood given failed = absurd (true≢false (sym (ap is_given is) ∙ given))
 
 -- who took their place does not leave a connection
 pub resumed_closed : (r : Result (Unit {0}) ResumeFault) → resumed_by r ≡ standings.Open → ⊥

@@ -3,6 +3,7 @@ mod Messages
 mod Sent
 mod Opening
 mod Stories
+mod Making
 mod Together
 mod Closing
 mod Arriving

@@ -12,9 +12,10 @@ use Rattle.fixp_shake.specs.declared.config.EndConfig.{EndConfig}
 use Rattle.jr_kept.specs.Inbox.{HoldsBox, SameContent, next_of}
 use Rattle.gate_turn.specs.Places.{known}
 use Rattle.gate_turn.specs.Views.{Part}
+use Rattle.gate_turn.proofs.Histories.{begins_on}
 use Rattle.connection_laws.specs.Ranges.{IsInTime, IsInRange}
 use Rattle.conn_turns.specs.Lines.{Line}
-use Rattle.conn_turns.specs.Turns.{cut_short}
+use Rattle.conn_turns.specs.Turns.{Turn, cut_short}
 use Rattle.conn_turns.specs.declared.answer.TurnFault.{TurnFault}
 use Rattle.conn_steps.specs.Taking.{refused_by}
 use Rattle.conn_steps.proofs.Either.{either_box}
@@ -22,10 +23,10 @@ use Rattle.conn_turns.specs.declared.news.NewsItem.{NewsItem}
 use Rattle.conn_loop.specs.Conn.{line_of, line_begun, line_cut, Looks}
 use Rattle.conn_loop.specs.Live.{live_end}
 use Rattle.turn_laws.specs.Standing.{Has}
-use Rattle.turn_laws.specs.Legs.{TurnedLeg, given_in, sent_in}
+use Rattle.turn_laws.specs.Legs.{AreTurns, TurnedLeg, first_line, given_in, sent_in}
 use Rattle.turn_laws.specs.Turns.{line_received, adds_in, adds_cut}
 use Rattle.turn_laws.proofs.Tailing.{left_is}
-use Rattle.two_ends.specs.Driving.{EndNow, Beginning, Awaits, begun_leg, with_turn, Between, During}
+use Rattle.two_ends.specs.Driving.{EndNow, Beginning, Awaits, machine_behind, begun_leg, with_turn, Between, During}
 use Rattle.turn_laws.specs.Legs.{cut_leg}
 use Rattle.two_ends.specs.Stories.{IsOver}
 use Rattle.two_ends.proofs.Going.{leg_begins, turn_goes_on, leg_ends, cut_ends, life_ends, life_fails}
@@ -78,18 +79,19 @@ begun b legs e e' now gate time going line pass box k =
       },
     )
 
-module _ (b : Beginning) (past : List TurnedLeg) (leg : TurnedLeg) (e e' : DrivenEnd) (eager : Bool) (before after : ℕ) (told told' : Option LinkTold) (carried carried' : Option Carried) (news : List NewsItem) (awaits : Awaits b)
+module _ (b : Beginning) (past : List TurnedLeg) (leg : TurnedLeg) (e e' : DrivenEnd) (risen : Type 0) (eager : Bool) (before after : ℕ) (told told' : Option LinkTold) (carried carried' : Option Carried) (news : List NewsItem) (awaits : Awaits b)
     (gate : e'.gate ≡ e.gate) (going : e.standing ≡ standings.Open) (unended : (line_of e.conn).machine.ending ≡ None) (looks : Looks (known e.pass) (known e'.pass)) (k : RunsOver b past leg e) where
   -- the turn, by where it left the end
   abbrev pub Made : Standing → Type 0
-  Made s = WasMade s eager before after (live_end told carried (known e.pass).seen (line_of e.conn) e.inbox []) (live_end told' carried' (known e'.pass).seen (line_of e'.conn) e'.inbox news)
+  Made s = WasMade s risen eager before after (live_end told carried (known e.pass).seen (line_of e.conn) e.inbox []) (live_end told' carried' (known e'.pass).seen (line_of e'.conn) e'.inbox news)
 
   uncut : leg.cut ≡ None
   uncut = (k.whole (ap is_failed going)).1
 
   -- it goes on by a whole one
   whole_turned : is_failed e'.standing ≡ false → Made standings.Open → TurnedOn b past leg e' told told'
-  whole_turned whole w =
+  whole_turned whole made =
+      let w = made.0 in
       let inbox : List InboxRecord = k.inbox ++ adds_in (line_of e.conn) w.turn in
       let later : TurnedLeg = with_turn leg w.turn in
       let at : During b past later (now_of e' inbox) = turn_goes_on b past leg (now_of e k.inbox) (now_of e' inbox) w.turn awaits (k.during going) unended looks.seen.made w.made.is (w.faithful tt) w.timely refl in
@@ -238,21 +240,48 @@ ended_one b past leg e awaits sound k = record { opens = k.opens; inbox = k.inbo
 
 -- ---- what a turn applied, answered
 
--- an end of which nothing changed but who sends, its news and where it stands
-module _ (e e' : DrivenEnd) (same : e' ≡ record e { staff = e'.staff; news = e'.news; standing = e'.standing }) where
+-- turns of what a pass had seen are so of what it has found behind them
+turns_find : (before after later : History) (old new : Line) (t : Turn) (ts : List Turn) → BeginsHistory after later → AreTurns before after old new (t ∷ ts) → AreTurns before later old new (t ∷ ts)
+turns_find before after later old new t [] finds k =
+    (k.0, k.1, k.2, k.3, later, begins_on k.2 k.4 later k.5 (subst (λ (h : History). BeginsHistory h later) k.6.1 finds), (k.6.0, refl))
+turns_find before after later old new t (u ∷ ts) finds k = (k.0, k.1, k.2, k.3, k.4, k.5, turns_find k.4 after later k.1 new u ts finds k.6)
+
+finds_from : (before after later : History) (old new : Line) (ts : List Turn) → BeginsHistory after later → AreTurns before after old new ts → (first : History) × AreTurns first later old new ts
+finds_from before after later old new [] finds k = (later, (k.0, refl))
+finds_from before after later old new (t ∷ ts) finds k = (before, turns_find before after later old new t ts finds k)
+
+-- an outbox that begins with what a pass has found begins with what it had seen
+pub has_less : (h : List Entry) (seen found : History) → BeginsHistory seen found → Has h found → Has h seen
+has_less h seen found finds has = record { begins = prefix_trans seen.made found.made h finds.made has.begins; few = has.few }
+
+-- an end whose pass has found more, between two turns and between two connections
+pub during_finds : (b : Beginning) (past : List TurnedLeg) (leg : TurnedLeg) (e : EndNow) (found : History) → BeginsHistory e.seen found → During b past leg e → During b past leg (record e { seen = found })
+during_finds b past leg e found finds k h has =
+    let d = k h (has_less h e.seen found finds has) in
+    let f = finds_from d.before e.seen found (first_line leg.per_turn (machine_behind b past) leg.moment) e.line leg.turns finds d.made in
+    record { behind = d.behind; before = f.0; made = f.1; faithful = d.faithful; uncut = d.uncut; in_time = d.in_time; inbox = d.inbox }
+
+pub between_finds : (b : Beginning) (legs : List TurnedLeg) (e : EndNow) (found : History) → BeginsHistory e.seen found → Between b legs e → Between b legs (record e { seen = found })
+between_finds b legs e found finds k h has =
+    let r = k h (has_less h e.seen found finds has) in
+    record { made = r.made; next = r.next; inbox = r.inbox }
+
+-- an end of which nothing changed but who sends, what its pass has seen, its news and where it stands
+module _ (e e' : DrivenEnd) (same : e' ≡ record e { staff = e'.staff; pass = e'.pass; news = e'.news; standing = e'.standing }) (seen : BeginsHistory (known e.pass).seen (known e'.pass).seen) where
   gate_same : e'.gate ≡ e.gate
   gate_same = ap (λ (x : DrivenEnd). x.gate) same
 
   inbox_same : e'.inbox ≡ e.inbox
   inbox_same = ap (λ (x : DrivenEnd). x.inbox) same
 
-  pass_same : e'.pass ≡ e.pass
-  pass_same = ap (λ (x : DrivenEnd). x.pass) same
+  now_found : (i : List InboxRecord) → record (now_of e i) { seen = (known e'.pass).seen } ≡ now_of e' i
+  now_found i = ap (λ c. record { line = line_of c; seen = (known e'.pass).seen; inbox = i }) (sym (ap (λ (x : DrivenEnd). x.conn) same))
 
-  now_same : (i : List InboxRecord) → now_of e i ≡ now_of e' i
-  now_same i =
-      ap (λ c. record { line = line_of c; seen = (known e.pass).seen; inbox = i }) (sym (ap (λ (x : DrivenEnd). x.conn) same))
-      ∙ ap (λ p. record { line = line_of e'.conn; seen = (known p).seen; inbox = i }) (sym pass_same)
+  during_then : (b : Beginning) (past : List TurnedLeg) (leg : TurnedLeg) (i : List InboxRecord) → During b past leg (now_of e i) → During b past leg (now_of e' i)
+  during_then b past leg i k = subst (λ (x : EndNow). During b past leg x) (now_found i) (during_finds b past leg (now_of e i) (known e'.pass).seen seen k)
+
+  between_then : (b : Beginning) (legs : List TurnedLeg) (i : List InboxRecord) → Between b legs (now_of e i) → Between b legs (now_of e' i)
+  between_then b legs i k = subst (λ (x : EndNow). Between b legs x) (now_found i) (between_finds b legs (now_of e i) (known e'.pass).seen seen k)
 
   -- where it stands as it did
   stood_runs : (b : Beginning) (past : List TurnedLeg) (leg : TurnedLeg) → e'.standing ≡ e.standing → RunsOver b past leg e → RunsOver b past leg e'
@@ -262,9 +291,28 @@ module _ (e e' : DrivenEnd) (same : e' ≡ record e { staff = e'.staff; news = e
     refused = k.refused;
     holds = subst (λ box. HoldsBox box k.inbox k.refused) (sym inbox_same) k.holds;
     whole = λ whole. k.whole (ap is_failed (sym stood) ∙ whole);
-    failed = λ failed closing has. k.failed (sym stood ∙ failed) closing (subst (λ p. Has (entries closing) (known p).seen) pass_same has);
-    during = λ going. subst (λ (x : EndNow). During b past leg x) (now_same k.inbox) (k.during (sym stood ∙ going));
-    between = λ over. subst (λ (x : EndNow). Between b (past ++ leg ∷ []) x) (now_same k.inbox) (k.between (sym stood ∙ over));
+    failed = λ failed closing has. k.failed (sym stood ∙ failed) closing (has_less (entries closing) (known e.pass).seen (known e'.pass).seen seen has);
+    during = λ going. during_then b past leg k.inbox (k.during (sym stood ∙ going));
+    between = λ over. between_then b (past ++ leg ∷ []) k.inbox (k.between (sym stood ∙ over));
+  }
+
+  stood_stands : (b : Beginning) (legs : List TurnedLeg) → e'.standing ≡ e.standing → StandsBehind b legs e → StandsBehind b legs e'
+  stood_stands b legs stood k = record {
+    over = stood ∙ k.over;
+    opens = opens_same b e e' gate_same k.opens;
+    inbox = k.inbox;
+    holds = subst (λ box. HoldsBox box k.inbox []) (sym inbox_same) k.holds;
+    between = between_then b legs k.inbox k.between;
+  }
+
+  -- whatever became of it, a life that was over is
+  ended_then : (b : Beginning) (legs : List TurnedLeg) → IsEnded b legs e → IsEnded b legs e'
+  ended_then b legs o = record {
+    opens = opens_same b e e' gate_same o.opens;
+    inbox = o.inbox;
+    refused = o.refused;
+    holds = subst (λ box. HoldsBox box o.inbox o.refused) (sym inbox_same) o.holds;
+    over = λ closing has. o.over closing (has_less (entries closing) (known e.pass).seen (known e'.pass).seen seen has);
   }
 
   -- where it failed, its life is over
@@ -277,7 +325,7 @@ module _ (e e' : DrivenEnd) (same : e' ≡ record e { staff = e'.staff; news = e
         refused = o.refused;
         holds = subst (λ box. HoldsBox box o.inbox o.refused) (sym inbox_same) o.holds;
         whole = λ whole. absurd (unfailed e'.standing whole is);
-        failed = λ failed closing has. o.over closing (subst (λ p. Has (entries closing) (known p).seen) pass_same has);
+        failed = λ failed closing has. o.over closing (has_less (entries closing) (known e.pass).seen (known e'.pass).seen seen has);
         during = λ going. absurd (unfailed e'.standing (ap is_failed going) is);
         between = λ over. absurd (unfailed e'.standing (ap is_failed over) is);
       }
@@ -286,12 +334,28 @@ pub answered_runs : (b : Beginning) (past : List TurnedLeg) (leg : TurnedLeg) (e
 answered_runs b past leg e e' answered awaits sound k = by_standing answered.stands
   where
     by_failing : is_given e.standing ≡ false → (e'.standing ≡ standings.Failed) ⊎ (e'.standing ≡ standings.GivenUp) → RunsOver b past leg e'
-    by_failing was (inl failed) = refused_runs e e' answered.same b past leg awaits was failed k
+    by_failing was (inl failed) = refused_runs e e' answered.same answered.seen b past leg awaits was failed k
     by_failing was (inr given) = absurd (true≢false (sym (ap is_given given) ∙ sound))
 
     by_standing : (e'.standing ≡ e.standing) ⊎ ((is_given e.standing ≡ false) × (is_failed e.standing ≡ false) × ((e'.standing ≡ standings.Failed) ⊎ (e'.standing ≡ standings.GivenUp))) → RunsOver b past leg e'
-    by_standing (inl stood) = stood_runs e e' answered.same b past leg stood k
+    by_standing (inl stood) = stood_runs e e' answered.same answered.seen b past leg stood k
     by_standing (inr went) = by_failing went.0 went.2
+
+-- between two connections
+pub answered_between : (b : Beginning) (legs : List TurnedLeg) (e e' : DrivenEnd) → IsAnswered e e' → e'.standing ≡ standings.Over → StandsBehind b legs e → StandsBehind b legs e'
+answered_between b legs e e' answered over k = stood_stands e e' answered.same answered.seen b legs (over ∙ sym k.over) k
+
+pub answered_ended : (b : Beginning) (legs : List TurnedLeg) (e e' : DrivenEnd) → IsAnswered e e' → IsEnded b legs e → IsEnded b legs e'
+answered_ended b legs e e' answered o = ended_then e e' answered.same answered.seen b legs o
+
+-- where the next connection may begin behind it, it might before
+pub answered_over : (e e' : DrivenEnd) → IsAnswered e e' → e'.standing ≡ standings.Over → e.standing ≡ standings.Over
+answered_over e e' answered over = by_standing answered.stands
+  where
+    by_standing : (e'.standing ≡ e.standing) ⊎ ((is_given e.standing ≡ false) × (is_failed e.standing ≡ false) × ((e'.standing ≡ standings.Failed) ⊎ (e'.standing ≡ standings.GivenUp))) → e.standing ≡ standings.Over
+    by_standing (inl stood) = sym stood ∙ over
+    by_standing (inr (sound, whole, inl failed)) = let x : standings.Failed ≡ standings.Over = sym failed ∙ over in absurd (cc x)
+    by_standing (inr (sound, whole, inr given)) = let x : standings.GivenUp ≡ standings.Over = sym given ∙ over in absurd (cc x)
 
 -- it was given up before only if it is so behind
 pub answered_sound : (e e' : DrivenEnd) → IsAnswered e e' → is_given e'.standing ≡ false → is_given e.standing ≡ false

@@ -2,10 +2,11 @@
 use Rattle.std.proofs.Common.{◌≡◌, ℕ, true, false, ◌||◌, if◌then◌else◌, Bool, List, [], ◌∷◌, ◌++◌, Option, Some, None, refl, sym, ap, subst, ◌∙◌, append-nil, append_assoc, true≢false}
 use Rattle.std.specs.List.{AllZip}
 use Rattle.std.proofs.Math.Logic.{∥∥₁_map, ∥∥₁_elim, ∥∥₁_prop}
-use Rattle.session_model.specs.Journal.{entries}
+use Rattle.session_model.specs.Journal.{BeginsHistory, entries}
 use Rattle.session_model.specs.Inbox.{InboxRecord}
 use Rattle.jr_kept.specs.Inbox.{HoldsBox}
 use Rattle.gate_turn.specs.Places.{known}
+use Rattle.gate_turn.proofs.Histories.{begins_self}
 use Rattle.conn_loop.specs.Conn.{line_of}
 use Rattle.std.proofs.lemmas.List.Elements.{AllZip-push}
 use Rattle.fixp_msgs.specs.declared.flow.Flow.{Flow}
@@ -21,10 +22,10 @@ use Rattle.gw_rehearse.specs.declared.end.DrivenEnd.{DrivenEnd}
 use Rattle.gw_rehearse.specs.declared.standing.Standing.{Standing}
 use Rattle.gw_rehearse.specs.declared.standing.Standing.TheVariants as standings
 use Rattle.gw_rehearse.specs.Standing.{is_given, is_going, is_failed}
-use Rattle.gw_rehearse.specs.Driven.{now_of, StandsBehind, RunsOver, TurnsOn, BeginsOn, beginning_on}
+use Rattle.gw_rehearse.specs.Driven.{FindsMore, now_of, StandsBehind, RunsOver, TurnsOn, BeginsOn, beginning_on}
 use Rattle.cmd_script.specs.declared.script.Script.{Script}
 use Rattle.gw_rehearse.specs.Together.{GoesOnBehind, IsPairOf, Together, is_lost, PairNow, StaysSound}
-use Rattle.gw_rehearse.proofs.Stories.{opens_same, ended_over, ended_none, ended_one}
+use Rattle.gw_rehearse.proofs.Stories.{opens_same, ended_over, ended_none, ended_one, has_less, during_finds, between_finds}
 
 pub neither : (a b : Bool) → (a || b) ≡ false → (a ≡ false) × (b ≡ false)
 neither true b e = absurd (true≢false e)
@@ -60,26 +61,44 @@ pub paired_more : (ls ms ks ns : List TurnedLeg) (a b : TurnedLeg) → AllZip Re
 paired_more ls ms ks ns a b all one = subst (λ (xs : List TurnedLeg). AllZip ReadEachOther xs (ks ++ (ns ++ b ∷ []))) (append_assoc ls ms (a ∷ []))
     (subst (λ (ys : List TurnedLeg). AllZip ReadEachOther ((ls ++ ms) ++ a ∷ []) ys) (append_assoc ks ns (b ∷ [])) (AllZip-push ReadEachOther (ls ++ ms) (ks ++ ns) a b all one))
 
--- an end whose connection, pass and inbox are the same
+-- an end whose connection and inbox are the same, and whose pass has seen no less
 record SameEnd (e e' : DrivenEnd) : Type 0 where
   standing : e'.standing ≡ e.standing
   conn : e'.conn ≡ e.conn
-  pass : e'.pass ≡ e.pass
   inbox : e'.inbox ≡ e.inbox
   gate : e'.gate ≡ e.gate
+  seen : BeginsHistory (known e.pass).seen (known e'.pass).seen
 
-same_of : (e e' : DrivenEnd) → e' ≡ record e { staff = e'.staff } → SameEnd e e'
-same_of e e' same = record {
-  standing = ap (λ (x : DrivenEnd). x.standing) same;
-  conn = ap (λ (x : DrivenEnd). x.conn) same;
-  pass = ap (λ (x : DrivenEnd). x.pass) same;
-  inbox = ap (λ (x : DrivenEnd). x.inbox) same;
-  gate = ap (λ (x : DrivenEnd). x.gate) same;
+same_of : (e e' : DrivenEnd) → FindsMore e e' → SameEnd e e'
+same_of e e' finds = record {
+  standing = ap (λ (x : DrivenEnd). x.standing) finds.same;
+  conn = ap (λ (x : DrivenEnd). x.conn) finds.same;
+  inbox = ap (λ (x : DrivenEnd). x.inbox) finds.same;
+  gate = ap (λ (x : DrivenEnd). x.gate) finds.same;
+  seen = finds.seen;
 }
 
-now_same : (e e' : DrivenEnd) (i : List InboxRecord) → SameEnd e e' → now_of e i ≡ now_of e' i
-now_same e e' i s =
-    ap (λ c. record { line = line_of c; seen = (known e.pass).seen; inbox = i }) (sym s.conn) ∙ ap (λ p. record { line = line_of e'.conn; seen = (known p).seen; inbox = i }) (sym s.pass)
+-- where its pass is as it was
+pub finds_none : (e e' : DrivenEnd) → e' ≡ record e { staff = e'.staff } → FindsMore e e'
+finds_none e e' same =
+    let pass : e'.pass ≡ e.pass = ap (λ (x : DrivenEnd). x.pass) same in
+    record {
+      same = same ∙ ap (λ p. record e { staff = e'.staff; pass = p }) (sym pass);
+      seen = subst (λ p. BeginsHistory (known e.pass).seen (known p).seen) (sym pass) (begins_self (known e.pass).seen);
+    }
+
+-- one behind the other
+pub finds_on : (e e' e'' : DrivenEnd) → e' ≡ record e { staff = e'.staff } → e'' ≡ record e' { pass = e''.pass } → BeginsHistory (known e'.pass).seen (known e''.pass).seen → FindsMore e e''
+finds_on e e' e'' same then_same seen =
+    let pass : e'.pass ≡ e.pass = ap (λ (x : DrivenEnd). x.pass) same in
+    let staff : e''.staff ≡ e'.staff = ap (λ (x : DrivenEnd). x.staff) then_same in
+    record {
+      same = then_same ∙ (ap (λ (x : DrivenEnd). record x { pass = e''.pass }) same ∙ ap (λ s. record e { staff = s; pass = e''.pass }) (sym staff));
+      seen = subst (λ p. BeginsHistory (known p).seen (known e''.pass).seen) pass seen;
+    }
+
+now_found : (e e' : DrivenEnd) (i : List InboxRecord) → SameEnd e e' → record (now_of e i) { seen = (known e'.pass).seen } ≡ now_of e' i
+now_found e e' i s = ap (λ c. record { line = line_of c; seen = (known e'.pass).seen; inbox = i }) (sym s.conn)
 
 stands_same : (b : Beginning) (legs : List TurnedLeg) (e e' : DrivenEnd) → SameEnd e e' → StandsBehind b legs e → StandsBehind b legs e'
 stands_same b legs e e' s k = record {
@@ -87,7 +106,7 @@ stands_same b legs e e' s k = record {
   opens = opens_same b e e' s.gate k.opens;
   inbox = k.inbox;
   holds = subst (λ box. HoldsBox box k.inbox []) (sym s.inbox) k.holds;
-  between = subst (λ (x : EndNow). Between b legs x) (now_same e e' k.inbox s) k.between;
+  between = subst (λ (x : EndNow). Between b legs x) (now_found e e' k.inbox s) (between_finds b legs (now_of e k.inbox) (known e'.pass).seen s.seen k.between);
 }
 
 runs_same : (b : Beginning) (past : List TurnedLeg) (leg : TurnedLeg) (e e' : DrivenEnd) → SameEnd e e' → RunsOver b past leg e → RunsOver b past leg e'
@@ -97,9 +116,10 @@ runs_same b past leg e e' s k = record {
   refused = k.refused;
   holds = subst (λ box. HoldsBox box k.inbox k.refused) (sym s.inbox) k.holds;
   whole = λ whole. k.whole (ap is_failed (sym s.standing) ∙ whole);
-  failed = λ failed closing has. k.failed (sym s.standing ∙ failed) closing (subst (λ p. Has (entries closing) (known p).seen) s.pass has);
-  during = λ going. subst (λ (x : EndNow). During b past leg x) (now_same e e' k.inbox s) (k.during (sym s.standing ∙ going));
-  between = λ over. subst (λ (x : EndNow). Between b (past ++ leg ∷ []) x) (now_same e e' k.inbox s) (k.between (sym s.standing ∙ over));
+  failed = λ failed closing has. k.failed (sym s.standing ∙ failed) closing (has_less (entries closing) (known e.pass).seen (known e'.pass).seen s.seen has);
+  during = λ going. subst (λ (x : EndNow). During b past leg x) (now_found e e' k.inbox s) (during_finds b past leg (now_of e k.inbox) (known e'.pass).seen s.seen (k.during (sym s.standing ∙ going)));
+  between = λ over. subst (λ (x : EndNow). Between b (past ++ leg ∷ []) x) (now_found e e' k.inbox s)
+      (between_finds b (past ++ leg ∷ []) (now_of e k.inbox) (known e'.pass).seen s.seen (k.between (sym s.standing ∙ over)));
 }
 
 module _ (client server : Flow) where
@@ -122,10 +142,10 @@ module _ (client server : Flow) where
     meet = record { leg = t.meet.leg; leg_a = t.meet.leg_a; way = t.meet.way; runs = runs_same t.lives.begins t.past t.meet.leg i i' s t.meet.runs; runs_a = t.meet.runs_a };
   }
 
-  pub submitted : (i i' a : DrivenEnd) (pipe : Option Held) → i' ≡ record i { staff = i'.staff } → (is_lost i a ≡ false → ∥ Together client server i a pipe ∥₁)
+  pub submitted : (i i' a : DrivenEnd) (pipe : Option Held) → FindsMore i i' → (is_lost i a ≡ false → ∥ Together client server i a pipe ∥₁)
       → is_lost i' a ≡ false → ∥ Together client server i' a pipe ∥₁
-  submitted i i' a pipe same k sound =
-      let s = same_of i i' same in
+  submitted i i' a pipe finds k sound =
+      let s = same_of i i' finds in
       ∥∥₁_map (k (ap (λ x. is_given x || is_given a.standing) (sym s.standing) ∙ sound)) (λ t. together_same i i' a pipe s t)
 
   -- two new ends
@@ -309,7 +329,7 @@ module _ (client server : Flow) where
       → StandsBehind b (past ++ leg ∷ []) a') → (a.standing ≡ standings.Over → a' ≡ a) → is_lost i a ≡ false → is_failed a.standing ≡ false → GoesOnBehind client server i i' → i'' ≡ record i' { staff = i''.staff }
       → (is_lost i a ≡ false → ∥ Together client server i a pipe ∥₁) → ∥ Together client server i'' a' None ∥₁
   initiator_on i a i' i'' a' pipe over rests sound whole n same k =
-      ∥∥₁_elim (k sound) ∥∥₁_prop (λ t. ∥∥₁_map (initiator_next i a i' a' pipe over rests sound whole n t) (λ u. together_same i' i'' a' None (same_of i' i'' same) u))
+      ∥∥₁_elim (k sound) ∥∥₁_prop (λ t. ∥∥₁_map (initiator_next i a i' a' pipe over rests sound whole n t) (λ u. together_same i' i'' a' None (same_of i' i'' (finds_none i' i'' same)) u))
 
   pub acceptor_on : (i a i' a' : DrivenEnd) (pipe : Option Held) → ((b : Beginning) (past : List TurnedLeg) (leg : TurnedLeg) → Awaits b → RunsOver b past leg i → is_given i.standing ≡ false → is_failed i.standing ≡ false
       → StandsBehind b (past ++ leg ∷ []) i') → (i.standing ≡ standings.Over → i' ≡ i) → is_lost i a ≡ false → is_failed i.standing ≡ false → GoesOnBehind server client a a'

@@ -1,13 +1,16 @@
 -- What is known of an end that is driven, over the connections that it had (this project's profile).
-use Rattle.std.specs.Prelude.{◌≡◌, ◌⊎◌, ℕ, ◌*◌, ◌^◌, ◌<◌, List, [], ◌∷◌, ◌++◌, false, None, Option}
-use Rattle.gw_links.specs.Links.{LinkTold, Steps}
+use Rattle.std.specs.Prelude.{◌≡◌, ◌⊎◌, ℕ, ◌*◌, ◌==◌, ◌^◌, ◌<◌, Bool, List, [], ◌∷◌, ◌++◌, true, false, None, Some, Option, IsSome, vec_len}
+use Rattle.gw_links.specs.Links.{LinkTold, Carried, Steps}
 use Rattle.session_model.specs.Journal.{History, BeginsHistory, OutboxRecord, entries}
 use Rattle.session_model.specs.Inbox.{InboxRecord}
 use Rattle.fixp_msgs.specs.declared.flow.Flow.{Flow}
 use Rattle.fixp_shake.specs.declared.config.EndConfig.{EndConfig}
+use Rattle.fixp_replies.specs.declared.act.Ending.{Ending}
+use Rattle.fixp_replies.specs.declared.act.Ending.TheVariants as endings
 use Rattle.fixp_replies.specs.declared.facts.EndState.{EndState}
 use Rattle.fixp_machine.specs.Machine.{State, fresh}
-use Rattle.jr_kept.specs.Inbox.{HoldsBox, is_broken}
+use Rattle.jr_dated.specs.declared.journal.Journal.{Ghosts}
+use Rattle.jr_kept.specs.Inbox.{HoldsBox, is_broken, peer_last_of}
 use Rattle.jr_kept.specs.Outbox as outboxes
 use Rattle.jr_boxes.specs.Outboxes.{outbox_of}
 use Rattle.gate_turn.specs.Places.{known}
@@ -15,13 +18,17 @@ use Rattle.gate_senders.specs.Gate.{opening_of}
 use Rattle.conn_loop.specs.Conn.{line_of, new_line}
 use Rattle.conn_loop.specs.declared.conn.Conn.{Conn}
 use Rattle.turn_laws.specs.Standing.{Has}
-use Rattle.turn_laws.specs.Legs.{TurnedLeg}
+use Rattle.conn_turns.specs.Turns.{Turn, IsFaithful}
+use Rattle.turn_laws.specs.Legs.{IsTimelyTurn, TurnedLeg, is_lost}
+use Rattle.turn_laws.specs.Made.{MadeTurn}
 use Rattle.two_ends.specs.Driving.{EndNow, Beginning, Awaits, Between, During}
 use Rattle.two_ends.specs.Pairing.{Carries}
 use Rattle.two_ends.specs.Stories.{Began, IsOver}
 use Rattle.gw_rehearse.specs.declared.end.DrivenEnd.{DrivenEnd}
 use Rattle.gw_rehearse.specs.declared.journals.Journals.{Journals}
 use Rattle.gw_rehearse.specs.declared.standing.Standing.TheVariants as standings
+use Rattle.order_staff.specs.declared.staff.Staff.{Staff}
+use Rattle.order_staff.specs.declared.staff.Staff.TheVariants as staffs
 use Rattle.order_staff.specs.Staffs.{HasStaff}
 use Rattle.gw_rehearse.specs.Standing.{Stands, is_given, is_failed}
 
@@ -34,10 +41,26 @@ pub record IsResting (e : DrivenEnd) : Type 0 where
   pub over : e.standing ≡ standings.Over
   pub sound : is_broken e.inbox ≡ false
 
--- what its last turn applied was answered: it stands as it did, or, where it had neither failed nor was given up, it does not go on
+-- what its last turn applied was answered, and its pass has seen no less of the outbox: it stands as it did, or, where it had neither failed nor was given
+-- up, it does not go on
 pub record IsAnswered (old new : DrivenEnd) : Type 0 where
-  pub same : new ≡ record old { staff = new.staff; news = new.news; standing = new.standing }
+  pub same : new ≡ record old { staff = new.staff; pass = new.pass; news = new.news; standing = new.standing }
+  pub seen : BeginsHistory (known old.pass).seen (known new.pass).seen
   pub stands : (new.standing ≡ old.standing) ⊎ ((is_given old.standing ≡ false) × (is_failed old.standing ≡ false) × ((new.standing ≡ standings.Failed) ⊎ (new.standing ≡ standings.GivenUp)))
+
+-- those who send here did, or its pass looked at its outbox: nothing else of it changed, and the pass has seen no less
+pub record FindsMore (old new : DrivenEnd) : Type 0 where
+  pub same : new ≡ record old { staff = new.staff; pass = new.pass }
+  pub seen : BeginsHistory (known old.pass).seen (known new.pass).seen
+
+-- nobody sends of itself here: those who answer, or nobody at all
+abbrev pub only_answers : {J : Type 0} {G : Ghosts J} → Staff J G → Bool
+only_answers (staffs.Senders senders passes) = vec_len senders == 0
+only_answers (staffs.Desks count desks) = true
+
+-- once it has recorded the peer's finish, the pass of such an end has seen the mark behind its outbox, and so all of that
+abbrev pub SeesEnd : DrivenEnd → Type 0
+SeesEnd e = only_answers e.staff ≡ true → IsSome (peer_last_of e.inbox) → (known e.pass).seen.finished ≡ true
 
 -- an end between two turns, in the words of the laws of driven ends, where its inbox holds this list
 abbrev pub now_of : DrivenEnd → List InboxRecord → EndNow
@@ -86,6 +109,28 @@ pub record TurnedOn (b : Beginning) (past : List TurnedLeg) (leg : TurnedLeg) (e
 pub record TurnsOn (old new : DrivenEnd) (told told' : Option LinkTold) : Type 0 where
   pub goes : (b : Beginning) (past : List TurnedLeg) (leg : TurnedLeg) → Awaits b → RunsOver b past leg old → is_given new.standing ≡ false
       → TurnedOn b past leg new told told'
+
+-- A whole turn of an end at this moment, as it was made over a link that told this before and that behind it, and that failed only where this is so: all that it wrote
+-- was sent, and what its pass has seen since begins with what it had seen then
+pub record MadeIts (risen : Type 0) (eager : Bool) (clock : ℕ) (old new : DrivenEnd) (told told' : Option LinkTold) (carried carried' : Option Carried) : Type 0 where
+  pub turn : Turn
+  pub seen : History
+  pub made : MadeTurn eager (record { told = told; carried = carried; seen = (known old.pass).seen; clock = clock; line = line_of old.conn })
+      (record { told = told'; carried = carried'; seen = seen; clock = clock; line = line_of new.conn }) turn
+  pub sound : is_lost turn ≡ true → risen
+  pub faithful : IsFaithful turn
+  pub timely : IsTimelyTurn turn
+  pub sent : (line_of new.conn).machine.unsent ≡ []
+  pub found : BeginsHistory seen (known new.pass).seen
+
+-- a connection has ended with both finishes exchanged
+abbrev pub is_finished : Option Ending → Bool
+is_finished None = false
+is_finished (Some endings.Finished) = true
+is_finished (Some (endings.PeerTerminated code)) = false
+is_finished (Some endings.LinkEnded) = false
+is_finished (Some (endings.Rejected template code)) = false
+is_finished (Some (endings.Violation violation)) = false
 
 -- a life over journals with these records
 abbrev pub beginning_on : State → List OutboxRecord → List InboxRecord → Beginning

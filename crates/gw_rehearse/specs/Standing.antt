@@ -13,11 +13,14 @@ use Rattle.conn_turns.specs.declared.answer.TurnFault.TheVariants as faults
 use Rattle.conn_steps.specs.Agreeing.{Agrees}
 use Rattle.conn_loop.specs.Conn.{GoesOn, HasSeen}
 use Rattle.conn_loop.specs.Live.{EndAt}
+use Rattle.turn_laws.specs.Legs.{is_lost}
 use Rattle.turn_laws.specs.Turned.{WasTurn, WasCut}
 use Rattle.fixp_machine.specs.Machine.{State}
 use Rattle.jr_dated.specs.declared.faults.FetchFault.TheVariants as fetch
 use Rattle.jr_boxes.specs.declared.faults.SubmitFault.{SubmitFault}
 use Rattle.jr_boxes.specs.declared.faults.SubmitFault.TheVariants as submit
+use Rattle.jr_boxes.specs.declared.faults.CloseFault.{CloseFault}
+use Rattle.jr_boxes.specs.declared.faults.CloseFault.TheVariants as closing
 use Rattle.gate_staff.specs.declared.business.ResumeFault.{ResumeFault}
 use Rattle.gate_staff.specs.declared.business.ResumeFault.TheVariants as resuming
 use Rattle.gw_rehearse.specs.declared.standing.Standing.{Standing}
@@ -35,6 +38,14 @@ standing_of (Err faults.Broken) = standings.Failed
 standing_of (Err (faults.Full entries bytes)) = standings.GivenUp
 standing_of (Err faults.Memory) = standings.GivenUp
 
+-- where it stands once it is known whether the link took all that the turn wrote: where not, nothing follows, unless a call of a disk failed
+abbrev pub sent_by : (all : Bool) → Standing → Standing
+sent_by true s = s
+sent_by false standings.Over = standings.GivenUp
+sent_by false standings.Open = standings.GivenUp
+sent_by false standings.Failed = standings.Failed
+sent_by false standings.GivenUp = standings.GivenUp
+
 -- where it stands once what a turn applied was answered so: a refusal ends it, but that the outbox is closed already
 abbrev pub refused_by : Standing → Result (Unit {0}) SubmitFault → Standing
 refused_by s (Ok _) = s
@@ -43,6 +54,14 @@ refused_by s (Err submit.Fault) = standings.Failed
 refused_by s (Err submit.Broken) = standings.Failed
 refused_by s (Err (submit.Full entries bytes)) = standings.GivenUp
 refused_by s (Err submit.Memory) = standings.GivenUp
+
+-- and once its connection's pass was to see the mark behind the outbox: that it stands already is no fault
+abbrev pub marked_by : Standing → Result (Unit {0}) CloseFault → Standing
+marked_by s (Ok _) = s
+marked_by s (Err closing.Closed) = s
+marked_by s (Err closing.Fault) = standings.Failed
+marked_by s (Err closing.Broken) = standings.Failed
+marked_by s (Err closing.Memory) = standings.GivenUp
 
 -- and once those who answer were to take their place behind the inbox
 abbrev pub resumed_by : Result (Unit {0}) ResumeFault → Standing
@@ -74,12 +93,16 @@ is_failed standings.Failed = true
 is_failed standings.GivenUp = false
 
 module _ {J : Type 0} {G : Ghosts J} where
+  -- a turn was a whole one, and its link failed only where this is so
+  abbrev pub WasWhole : (risen : Type 0) (eager : Bool) (before after : ℕ) (old new : EndAt J G) → Type 0
+  WasWhole risen eager before after old new = (was : WasTurn ⊤ eager before after old new) × (is_lost was.turn ≡ true → risen)
+
   -- what a turn was, behind which an end stands so: a whole one; or one that was cut short, as a call of a disk failed
-  abbrev pub WasMade : Standing → (eager : Bool) (before after : ℕ) (old new : EndAt J G) → Type 0
-  WasMade standings.Over eager before after old new = WasTurn ⊤ eager before after old new
-  WasMade standings.Open eager before after old new = WasTurn ⊤ eager before after old new
-  WasMade standings.Failed eager before after old new = (fault : TurnFault) × WasCut eager before after old new fault
-  WasMade standings.GivenUp eager before after old new = ⊤
+  abbrev pub WasMade : Standing → (risen : Type 0) (eager : Bool) (before after : ℕ) (old new : EndAt J G) → Type 0
+  WasMade standings.Over risen eager before after old new = WasWhole risen eager before after old new
+  WasMade standings.Open risen eager before after old new = WasWhole risen eager before after old new
+  WasMade standings.Failed risen eager before after old new = (fault : TurnFault) × WasCut eager before after old new fault
+  WasMade standings.GivenUp risen eager before after old new = ⊤
 
   -- each sender has the pass that it had
   pub record KeepsPasses (before after : List (Sender J G)) : Type 0 where

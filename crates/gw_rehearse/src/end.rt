@@ -1,6 +1,7 @@
 //! An end that is driven.
 
-ghost use Rattle.std.specs.Prelude.{◌≡◌, ℕ, ◌+◌, ◌≤◌, ◌<◌, ◌^◌, All, List, [], ◌∷◌, ◌++◌, length, vec_len, false, if◌then◌else◌, Some, None, IfErr, IfOk, IfSome, IsTrue};
+ghost use Rattle.std.specs.Prelude.{◌≡◌, ℕ, ◌+◌, ◌≤◌, ◌<◌, ◌^◌, ◌||◌, All, List, [], ◌∷◌, ◌++◌, length, vec_len, true, false, if◌then◌else◌, Some, None, Err, IfErr, IfOk, IfSome, IsTrue, OnOk};
+ghost use Rattle.gw_outside.specs.Faults.{HasRisen};
 ghost use Rattle.fixp_machine.specs.Machine.{fresh};
 ghost use Rattle.session_model.specs.Journal.{BeginsHistory};
 ghost use Rattle.session_model.specs.Inbox.{InboxRecord};
@@ -8,6 +9,8 @@ ghost use Rattle.jr_boxes.specs.Outboxes.{outbox_of};
 ghost use Rattle.jr_kept.specs.Outbox as outboxes;
 ghost use Rattle.jr_kept.specs.Inbox.{HoldsBox, flow_of, is_broken, limits_of, next_of, is_negotiated, peer_last_of};
 ghost use Rattle.gate_turn.specs.Views.{Part};
+ghost use Rattle.gate_turn.specs.Places.{known};
+ghost use Rattle.jr_boxes.specs.declared.faults.CloseFault.TheVariants as closing;
 ghost use Rattle.gate_senders.specs.Gate.{opening_of};
 ghost use Rattle.conn_loop.specs.Conn.{line_of, new_line};
 ghost use Rattle.turn_laws.specs.Legs.{TurnedLeg};
@@ -16,7 +19,7 @@ ghost use Rattle.cmd_config.specs.Settings.{own_flow, peer_flow};
 ghost use Rattle.cmd_script.specs.Script.{IsCount, IsScript};
 ghost use Rattle.order_staff.specs.Staffs.{MayBe, sent_in};
 ghost use Rattle.gw_rehearse.specs.Standing.{Rests, is_failed, is_given, is_going};
-ghost use Rattle.gw_rehearse.specs.Driven.{BeginsOn, ClosedOn, IsAnswered, IsDriven, IsEnded, IsMadeOf, IsResting, RunsOver, StandsBehind, TurnsOn};
+ghost use Rattle.gw_rehearse.specs.Driven.{BeginsOn, ClosedOn, FindsMore, IsAnswered, IsDriven, MadeIts, IsEnded, IsMadeOf, IsResting, RunsOver, SeesEnd, StandsBehind, TurnsOn, is_finished, only_answers};
 ghost use Rattle.gw_rehearse.specs.Stopped.{BeginsOnLeft, DisksLeaveNoMore};
 ghost use Rattle.gw_rehearse.specs.Summaries.{counts_to};
 ghost use Rattle.gw_rehearse.specs.Together.{GoesOnBehind};
@@ -38,7 +41,7 @@ use gate_turn::Pass;
 use gw_fakes::Pick;
 use gw_link_fakes::MemClock;
 use gw_links::Link;
-use jr_kept::{Inbox, Outbox};
+use jr_kept::{CloseFault, Inbox, Outbox};
 use order_staff::{Posts, Staff};
 use std::alloc::{AllocError, Global};
 use std::sync::Wait;
@@ -60,6 +63,17 @@ pub(crate) struct Past {
     finished: bool,
     /// How many lives there were.
     lives: u32,
+}
+
+/// What became of what senders were to submit.
+#[derive(Clone, Copy)]
+enum Submitted {
+    /// A message was refused, or the mark.
+    Refused,
+    /// All was accepted, and messages are left, or there is nobody who submits.
+    Accepted,
+    /// All of them are submitted, and the mark stands behind them.
+    All,
 }
 
 /// An end of a session. Those who send have their passes, and the connection has its own.
@@ -130,8 +144,22 @@ fn new_conn(alloc: Global, gate: &Gate<Log>, inbox: &Inbox<Log>, config: EndConf
 }
 
 /// Whether the connection has ended with both finishes exchanged, or one before it.
-fn has_ended_finished(conn: &Conn, before: bool) -> bool {
-    before || matches!(conn.end().ending(), Some(Ending::Finished))
+fn has_ended_finished(conn: &Conn, before: bool) -> bool
+    ensures { result ≡ (before || is_finished (line_of conn.now).machine.ending) }
+{
+    before || is_finished(conn.end().ending())
+}
+
+/// Whether this is how a connection ends once both finishes are exchanged.
+fn is_finished(ending: Option<Ending>) -> bool
+    ensures { result ≡ is_finished ending }
+{
+    matches!(ending, Some(Ending::Finished))
+}
+
+/// Whether the mark stands, where its being added was answered so.
+fn is_marked(answer: Result<(), CloseFault>) -> bool {
+    matches!(answer, Ok(()) | Err(CloseFault::Closed))
 }
 
 impl DrivenEnd {
@@ -290,11 +318,45 @@ impl DrivenEnd {
     }
 
     /// Each sender submits its next messages, `count` of them or what is left of those that it sends, all senders at once; and behind
-    /// the last of all the mark is added. Answers whether all was accepted.
+    /// the last of all the mark is added.
     ///
     /// # Errors
     /// Want of memory.
     #[tactic(auto, using(crate::proofs::Driving::senders_kept, crate::proofs::Driving::senders_seated))]
+    fn submit_plans<R: Threads + Wait + Sync>(
+        &mut self,
+        alloc: Global,
+        version: u8,
+        messages: &[u64],
+        count: u64,
+        rt: &R,
+    ) -> Result<Submitted, AllocError>
+        requires counts { All IsCount messages.now }
+        requires driven { IsDriven self.old }
+        ensures driven { IsDriven self.new }
+        ensures same { self.new ≡ record self.old { staff = self.new.staff } }
+    {
+        let Staff::Senders { senders, .. } = &mut self.staff else {
+            return Ok(Submitted::Accepted);
+        };
+        if !submit_next(alloc, version, &self.gate, senders, messages, count, rt)? {
+            return Ok(Submitted::Refused);
+        }
+        if !have_sent(&self.gate, senders, messages, rt) {
+            return Ok(Submitted::Accepted);
+        }
+        if finish(&self.gate, senders, rt) {
+            Ok(Submitted::All)
+        } else {
+            Ok(Submitted::Refused)
+        }
+    }
+
+    /// Each sender submits its next messages, `count` of them or what is left of those that it sends, all senders at once; and behind
+    /// the last of all the mark is added, which the connection's pass sees then. Answers whether all was accepted.
+    ///
+    /// # Errors
+    /// Want of memory.
     pub(crate) fn submit<R: Threads + Wait + Sync>(
         &mut self,
         alloc: Global,
@@ -306,18 +368,62 @@ impl DrivenEnd {
         requires counts { All IsCount messages.now }
         requires driven { IsDriven self.old }
         ensures driven { IsDriven self.new }
-        ensures same { self.new ≡ record self.old { staff = self.new.staff } }
+        ensures finds { FindsMore self.old self.new }
     {
-        let Staff::Senders { senders, .. } = &mut self.staff else {
-            return Ok(true);
-        };
-        if !submit_next(alloc, version, &self.gate, senders, messages, count, rt)? {
-            return Ok(false);
+        match self.submit_plans(alloc, version, messages, count, rt)? {
+            Submitted::Refused => Ok(false),
+            Submitted::Accepted => Ok(true),
+            Submitted::All => Ok(is_marked(self.see_mark(rt))),
         }
-        if !have_sent(&self.gate, senders, messages, rt) {
-            return Ok(true);
+    }
+
+    /// The connection's pass looks for the mark, and sees with it all of the outbox. Where no mark stands it is added.
+    ///
+    /// # Errors
+    /// That it stands already, beside the faults of its being added.
+    fn see_mark<R: Wait>(&mut self, rt: &R) -> Result<(), CloseFault>
+        requires driven { IsDriven self.old }
+        ensures driven { IsDriven self.new }
+        ensures same { self.new ≡ record self.old { pass = self.new.pass } }
+        ensures seen { BeginsHistory (known self.old.pass).seen (known self.new.pass).seen }
+        ensures marked { OnOk result ((known self.new.pass).seen.finished ≡ true) }
+        ensures stood { result ≡ Err closing.Closed → (known self.new.pass).seen.finished ≡ true }
+    {
+        self.gate.finish(&mut self.pass, rt)
+    }
+
+    /// Whether nobody sends of itself here: those who answer, or nobody at all.
+    fn only_answers(&self) -> bool
+        ensures { result ≡ only_answers self.now.staff }
+    {
+        match &self.staff {
+            Staff::Senders { senders, .. } => senders.is_empty(),
+            Staff::Desks { .. } => true,
         }
-        Ok(finish(&self.gate, senders, rt))
+    }
+
+    /// Once the peer's finish is recorded, those who answer have added the mark, and the connection's pass sees it; where nobody sends, that pass adds it.
+    /// Nothing is seen where the end failed or was given up. Behind a refusal the end does not go on.
+    fn see_end<R: Wait>(&mut self, rt: &R)
+        requires driven { IsDriven self.old }
+        ensures driven { IsDriven self.new }
+        ensures answered { IsAnswered self.old self.new }
+        ensures sees { is_given self.new.standing ≡ false → is_failed self.new.standing ≡ false → SeesEnd self.new }
+    {
+        if self.has_failed() {
+            return;
+        }
+        if self.is_given_up() {
+            return;
+        }
+        if self.inbox.peer_last().is_none() {
+            return;
+        }
+        if !self.only_answers() {
+            return;
+        }
+        let answer = self.see_mark(rt);
+        self.standing = self.standing.marked(answer);
     }
 
     /// Whether the outbox has all that each sender sends, and no more of it.
@@ -350,7 +456,8 @@ impl DrivenEnd {
         self.standing = Standing::Open;
     }
 
-    /// A turn is made where a connection goes on, and what it applied is answered.
+    /// A turn is made where a connection goes on, and what it applied is answered. Where the link has no room for all that it wrote, and once
+    /// the connection has had all the turns that it may have, the end is given up.
     pub(crate) fn turn<L: Link, R: Threads + Wait + Sync>(
         &mut self,
         alloc: Global,
@@ -363,12 +470,18 @@ impl DrivenEnd {
         ensures flow { flow_of self.new.inbox ≡ flow_of self.old.inbox }
         ensures sound { is_given self.new.standing ≡ false → is_given self.old.standing ≡ false }
         ensures turned { TurnsOn self.old self.new (L.told link.old) (L.told link.new) }
+        ensures made { self.old.standing ≡ standings.Open → is_given self.new.standing ≡ false → is_failed self.new.standing ≡ false → MadeIts (HasRisen (L.faults link.old) (L.faults link.new)) L.eager clock.old self.old self.new (L.told link.old) (L.told link.new) (L.carried link.old) (L.carried link.new) }
+        ensures rests { (self.old.standing ≡ standings.Open → ⊥) → (self.new ≡ self.old) × (L.told link.new ≡ L.told link.old) }
+        ensures finished { is_given self.new.standing ≡ false → self.old.standing ≡ standings.Open → self.new.finished ≡ (self.old.finished || is_finished (line_of self.new.conn).machine.ending) }
+        ensures clock { clock.new ≡ clock.old }
+        ensures never_falls { L.faults link.old ≤ L.faults link.new }
         ensures place { L.place link.new ≡ L.place link.old }
     {
         let Standing::Open = self.standing else {
             return;
         };
         if self.turns >= TURNS {
+            self.standing = Standing::GivenUp;
             return;
         }
         self.standing = make_turn(
@@ -384,6 +497,7 @@ impl DrivenEnd {
         self.turns += 1;
         self.finished = has_ended_finished(&self.conn, self.finished);
         self.answer(alloc, rt);
+        self.see_end(rt);
     }
 
     /// Has those who answer do so for what the last turn applied, unless that failed. Behind a refusal the end does not go on.
@@ -412,19 +526,32 @@ impl DrivenEnd {
         self.standing = self.standing.refused(answer);
     }
 
-    /// Has those who answer take their place behind the messages of the inbox, in a life that has begun no connection. Answers whether they did;
-    /// where not, a call of a disk failed, or memory ran out.
+    /// Has those who answer take their place behind the messages of the inbox, in a life that has begun no connection, and the connection's pass see what
+    /// they added. Answers whether they did; where not, a call of a disk failed, or memory ran out.
     pub(crate) fn resume<R: Threads + Wait + Sync>(&mut self, alloc: Global, rt: &R) -> bool
         requires driven { IsDriven self.old }
         requires rests { IsResting self.old }
         ensures driven { IsDriven self.new }
         ensures sound { IsTrue result → is_given self.new.standing ≡ false }
+        ensures sees { IsTrue result → SeesEnd self.new }
         ensures stands { IsTrue result → (b : Beginning) (legs : List TurnedLeg) → StandsBehind b legs self.old → StandsBehind b legs self.new }
+        ensures ended { (b : Beginning) (legs : List TurnedLeg) → Awaits b → StandsBehind b legs self.old → IsEnded b legs self.new }
+    {
+        self.take_place(alloc, rt);
+        self.see_end(rt);
+        self.is_resting()
+    }
+
+    /// Has those who answer take their place behind the messages of the inbox. Where they did not, the end does not stand where a connection may begin.
+    fn take_place<R: Threads + Wait + Sync>(&mut self, alloc: Global, rt: &R)
+        requires driven { IsDriven self.old }
+        requires rests { IsResting self.old }
+        ensures driven { IsDriven self.new }
+        ensures stands { self.new.standing ≡ standings.Over → (b : Beginning) (legs : List TurnedLeg) → StandsBehind b legs self.old → StandsBehind b legs self.new }
         ensures ended { (b : Beginning) (legs : List TurnedLeg) → Awaits b → StandsBehind b legs self.old → IsEnded b legs self.new }
     {
         let answer = self.staff.resume(alloc, &mut self.inbox, &self.gate, rt);
         self.standing = Standing::resumed(answer);
-        self.is_resting()
     }
 
     /// The connection is given up, where one goes on: what is held and unsent is dropped.

@@ -22,6 +22,7 @@ use fixp_msgs::Flow;
 use fixp_shake::Role;
 use gw_fakes::Pick;
 use gw_link_fakes::{MemClock, Pipe};
+use gw_links::Clock;
 use std::alloc::{AllocError, Global};
 use std::marker::Model;
 use std::sync::Wait;
@@ -29,6 +30,9 @@ use std::thread::Threads;
 
 /// The room of a connection, each way, in bytes.
 const ROOM: usize = 1 << 26;
+
+/// The greatest moment that a clock gives, in milliseconds.
+const LAST: u64 = (1 << 44) - 1;
 
 /// The two ends of a session, and the connection between them, where one stands.
 pub(crate) struct Pair {
@@ -51,7 +55,7 @@ struct Stop {
     pick: Pick,
 }
 
-/// An end was given up for want of memory, or of room in a journal, which is memory too.
+/// An end was given up for want of memory, or of room in a journal or a link, which is memory too; or no turn or millisecond is left.
 #[derive(Drop)]
 pub(crate) struct Spent;
 
@@ -292,12 +296,15 @@ impl Pair {
     /// over, a round is the millisecond alone.
     ///
     /// # Errors
-    /// Want of memory, behind which no round follows.
+    /// Want of memory, or of a millisecond that the clock may go on by. No round follows.
     #[tactic(auto, using(crate::proofs::Together::stays_self, crate::proofs::Together::stays_on))]
     fn round<R: Threads + Wait + Sync>(&mut self, rt: &R) -> Result<(), Spent>
         ensures stays { OnOk result (StaysSound self.old self.new) }
     {
         self.turns(rt)?;
+        if self.clock.now() >= LAST {
+            return Err(Spent);
+        }
         self.clock.advance(1);
         Ok(())
     }
@@ -680,7 +687,7 @@ impl Pair {
     /// At most so many rounds, until all is over.
     ///
     /// # Errors
-    /// Want of memory.
+    /// Want of memory; also where an end failed, since no stop is to come: its disk has no room then.
     #[tactic(auto, using(crate::proofs::Together::stays_self, crate::proofs::Together::stays_on))]
     pub(crate) fn drain<W: Watch, R: Threads + Wait + Sync>(
         &mut self,
@@ -693,6 +700,9 @@ impl Pair {
         for _ in 0..most {
             if self.is_over() {
                 break;
+            }
+            if self.has_failed() {
+                return Err(Spent);
             }
             self.round(rt)?;
             watch.round();

@@ -31,7 +31,8 @@ pub enum RehearseFault {
         initiator_next: u64,
         acceptor_next: u64,
     },
-    /// Want of memory, or of room in a journal, which has 64 MiB.
+    /// Want of memory; of room in a journal or in a direction of the connection, each of which has 64 MiB; or, where a connection has had 2^40 turns
+    /// or the clock has come to 2^44 milliseconds, of what may be counted.
     Memory,
 }
 

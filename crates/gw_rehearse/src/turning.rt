@@ -1,6 +1,7 @@
 //! One turn, and where the end stands behind it.
 
-ghost use Rattle.std.specs.Prelude.{◌≡◌, ◌+◌, ◌<◌, ◌^◌, []};
+ghost use Rattle.std.specs.Prelude.{◌≡◌, ◌+◌, ◌==◌, ◌<◌, ◌≤◌, ◌^◌, [], length, false};
+ghost use Rattle.gw_outside.specs.Faults.{HasRisen};
 ghost use Rattle.gate_turn.specs.Places.{known};
 ghost use Rattle.gate_turn.specs.Calls.{IsFree};
 ghost use Rattle.gate_senders.specs.Gate.{IsPassAt};
@@ -9,7 +10,7 @@ ghost use Rattle.conn_turns.specs.News.{items_of};
 ghost use Rattle.jr_kept.specs.Inbox.{flow_of};
 ghost use Rattle.conn_loop.specs.Conn.{line_of, GoesOn, HasSeen, Looks};
 ghost use Rattle.conn_loop.specs.Live.{live_end};
-ghost use Rattle.gw_rehearse.specs.Standing.{Stands, WasMade};
+ghost use Rattle.gw_rehearse.specs.Standing.{Stands, WasMade, is_failed, is_given};
 
 use crate::journals::Log;
 use crate::standing::Standing;
@@ -21,7 +22,15 @@ use gw_links::Link;
 use jr_kept::Inbox;
 use std::sync::Wait;
 
-/// Makes a turn, and answers where the end stands then.
+/// Whether the link took all that a connection wrote.
+fn is_sent(conn: &Conn) -> bool
+    ensures { result ≡ (length (line_of conn.now).machine.unsent == 0) }
+{
+    conn.end().out().is_empty()
+}
+
+/// Makes a turn, and answers where the end stands then: it is given up where its link has no room for all that it wrote, since an end whose
+/// output waits does not read, so that two of them would wait for each other.
 pub(crate) fn make_turn<L: Link, R: Wait>(
     conn: &mut Conn,
     link: &mut L,
@@ -41,12 +50,16 @@ pub(crate) fn make_turn<L: Link, R: Wait>(
     ensures own { IsPassAt gate.now pass.new }
     ensures free { IsFree pass.new }
     ensures looks { Looks (known pass.old) (known pass.new) }
-    ensures turned { WasMade result L.eager clock.old clock.new (live_end (L.told link.old) (L.carried link.old) (known pass.old).seen (line_of conn.old) inbox.old []) (live_end (L.told link.new) (L.carried link.new) (known pass.new).seen (line_of conn.new) inbox.new (items_of news.new)) }
+    ensures turned { WasMade result (HasRisen (L.faults link.old) (L.faults link.new)) L.eager clock.old clock.new (live_end (L.told link.old) (L.carried link.old) (known pass.old).seen (line_of conn.old) inbox.old []) (live_end (L.told link.new) (L.carried link.new) (known pass.new).seen (line_of conn.new) inbox.new (items_of news.new)) }
     ensures flow { flow_of inbox.new ≡ flow_of inbox.old }
     ensures place { L.place link.new ≡ L.place link.old }
     ensures number { (known pass.new).number ≡ (known pass.old).number }
     ensures made { (known pass.new).made ≡ (known pass.old).made }
     ensures stands { Stands result (line_of conn.new) ((line_of conn.old).place + 4195840) (known pass.new) inbox.new }
+    ensures clock { clock.new ≡ clock.old }
+    ensures never_falls { L.faults link.old ≤ L.faults link.new }
+    ensures sent { is_given result ≡ false → is_failed result ≡ false → (line_of conn.new).machine.unsent ≡ [] }
 {
-    Standing::behind(conn.turn(link, gate, pass, inbox, clock, news, rt))
+    let answer = conn.turn(link, gate, pass, inbox, clock, news, rt);
+    Standing::behind(answer).sent(is_sent(conn))
 }

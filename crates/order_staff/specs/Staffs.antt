@@ -1,5 +1,5 @@
 -- Those who send at an end, and where their passes are (this project's profile).
-use Rattle.std.specs.Prelude.{◌≡◌, ℕ, ◌+◌, ◌<◌, ◌≤◌, List, length, map, slice_index_or, vec_len, Option, Some, None}
+use Rattle.std.specs.Prelude.{◌≡◌, ⊤, ℕ, ◌+◌, ◌<◌, ◌≤◌, Bool, List, [], length, map, slice_index_or, vec_len, Option, Some, None, Result, Ok}
 use Rattle.jr_dated.specs.declared.journal.Journal.{Ghosts}
 use Rattle.gate_turn.specs.Views.{Part}
 use Rattle.gate_turn.specs.Places.{known}
@@ -12,9 +12,12 @@ use Rattle.gate_senders.specs.declared.gate.Gate.{Gate}
 use Rattle.gate_senders.specs.declared.kept.Kept.{Kept}
 use Rattle.gate_staff.specs.Seats.{Seated, HasBehind}
 use Rattle.gate_staff.specs.declared.sender.Sender.{Sender}
-use Rattle.gate_staff.specs.Business.{lock_of}
+use Rattle.gate_staff.specs.Business.{lock_of, Answered, Resumed}
+use Rattle.gate_staff.specs.declared.business.ResumeFault.{ResumeFault}
+use Rattle.jr_boxes.specs.declared.faults.SubmitFault.{SubmitFault}
+use Rattle.order_desk.specs.Plans.{desk_plan}
 use Rattle.order_desk.specs.Schema.{IsVersion}
-use Rattle.order_gate.specs.Desks.{HasPasses, part_in}
+use Rattle.order_gate.specs.Desks.{HasPasses, StandBehind, part_in, plan_of}
 use Rattle.order_staff.specs.declared.posts.Posts.{Posts}
 use Rattle.order_staff.specs.declared.posts.Posts.TheVariants as posts
 use Rattle.order_staff.specs.declared.staff.Staff.{Staff}
@@ -29,6 +32,11 @@ posts_of (posts.Desks terms) = terms.desks
 abbrev pub MayBe : Posts → Type 0
 MayBe (posts.Senders count) = count ≤ 16
 MayBe (posts.Desks terms) = (0 < terms.desks) × (terms.desks ≤ 16) × IsVersion terms.version
+
+-- what those who answer send over the applied messages, by their numbers: each desk of its share, and a sender nothing
+abbrev pub plan_by : Posts → ℕ → List (List ℕ) → List (List ℕ)
+plan_by (posts.Senders count) = λ n applied. []
+plan_by (posts.Desks terms) = desk_plan terms.desks terms.version terms.reference
 
 module _ {J : Type 0} {G : Ghosts J} where
   -- how many send
@@ -57,6 +65,30 @@ module _ {J : Type 0} {G : Ghosts J} where
     pub free : IsFree p
     pub number : (known p).number ≡ count_of staff + 1
     pub alone : count_of staff ≡ 0 → (known p).made ≡ 1
+
+  -- what those who answer send over the applied messages
+  abbrev pub plan_in : Staff J G → ℕ → List (List ℕ) → List (List ℕ)
+  plan_in (staffs.Senders senders passes) = λ n applied. []
+  plan_in (staffs.Desks count desks) = plan_of desks
+
+  -- desks stand behind these applied messages: they answer what comes next from there on; a sender answers nothing
+  abbrev pub StandsOver : Staff J G → List (List ℕ) → Type 0
+  StandsOver (staffs.Senders senders passes) applied = ⊤
+  StandsOver (staffs.Desks count desks) applied = StandBehind desks applied
+
+  -- from the first to the second they answered messages, behind which these are all that were applied, and added the mark where the peer's finish is recorded
+  abbrev pub AnsweredBy : (old new : Staff J G) (applied : List (List ℕ)) (finished : Bool) → Result (Unit {0}) SubmitFault → Type 0
+  AnsweredBy (staffs.Senders senders passes) new applied finished result = (new ≡ staffs.Senders senders passes) × (result ≡ Ok tt)
+  AnsweredBy (staffs.Desks count desks) (staffs.Desks same after) applied finished result =
+      Answered (λ n. plan_of desks n applied) desks.desks (λ n. part_in desks.hands.items n) (λ n. part_in after.hands.items n) finished result
+  AnsweredBy (staffs.Desks count desks) (staffs.Senders senders passes) applied finished result = ⊥
+
+  -- and so they took their place behind the messages of an inbox
+  abbrev pub ResumedBy : (old new : Staff J G) (applied : List (List ℕ)) (finished : Bool) → Result (Unit {0}) ResumeFault → Type 0
+  ResumedBy (staffs.Senders senders passes) new applied finished result = (new ≡ staffs.Senders senders passes) × (result ≡ Ok tt)
+  ResumedBy (staffs.Desks count desks) (staffs.Desks same after) applied finished result =
+      Resumed (λ n. plan_of desks n applied) desks.desks (λ n. part_in desks.hands.items n) (λ n. part_in after.hands.items n) finished result
+  ResumedBy (staffs.Desks count desks) (staffs.Senders senders passes) applied finished result = ⊥
 
   -- how many messages each of these senders has submitted, as its pass shows
   abbrev pub sent_by : List (Sender J G) → List ℕ

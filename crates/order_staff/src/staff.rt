@@ -1,18 +1,20 @@
 //! Those who send at an end, with their passes.
 
-ghost use Rattle.std.specs.Prelude.{◌≡◌, ℕ, ◌+◌, ◌<◌, ◌≤◌, false, List, length, vec_len, vec_capacity, [], Some, IfErr, IfOk, IfSome};
+ghost use Rattle.std.specs.Prelude.{◌≡◌, ℕ, ◌+◌, ◌<◌, ◌≤◌, false, List, ◌++◌, length, vec_len, vec_capacity, [], Some, IfErr, IfOk, IfSome};
+ghost use Rattle.session_model.specs.Inbox.{InboxRecord, applied, payloads_of, has_peer_finished};
 ghost use denote.Param.Send.{IsSend};
 ghost use Rattle.order_gate.specs.contracts.desk.Desk as desk;
 ghost use Rattle.order_gate.specs.contracts.form.Form as form;
 ghost use Rattle.gate_staff.specs.contracts.door.OpenDoor as open_door;
-ghost use Rattle.jr_kept.specs.Inbox.{SameContent, is_broken, limits_of, flow_of};
+ghost use Rattle.jr_kept.specs.Inbox.{SameContent, StandsFor, is_broken, limits_of, flow_of};
 ghost use Rattle.gate_turn.specs.Places.{known};
 ghost use Rattle.gate_turn.specs.Rule.{In};
 ghost use Rattle.gate_turn.specs.Listed.{known_at};
 ghost use Rattle.gate_turn.specs.Calls.{IsFree};
 ghost use Rattle.gate_senders.specs.Gate.{senders_of, IsPassAt, MadeAt, AllBackAt};
-ghost use Rattle.gate_staff.specs.Business.{lock_of};
+ghost use Rattle.gate_staff.specs.Business.{lock_of, Answered, Resumed, StandsOn, StandsOnResume};
 ghost use Rattle.order_desk.specs.Schema.{IsVersion};
+ghost use Rattle.order_staff.specs.declared.posts.Posts.TheVariants as who;
 
 use crate::posts::Posts;
 use gate_senders::{Gate, Kept};
@@ -108,6 +110,9 @@ fn answer_by<J: Journal + Send, B: Business<J> + Send, R: Threads + Wait + Sync>
     ensures has { B.has business.new (lock_of gate.now) }
     ensures count { B.count business.new ≡ B.count business.old }
     ensures made { (n : ℕ) → In (B.count business.old) n → (B.part business.new n).made ≡ (B.part business.old n).made }
+    ensures plan { B.plan business.new ≡ B.plan business.old }
+    ensures stands { (l : List (List ℕ)) → B.stands business.old l → StandsOn result (B.stands business.new (l ++ payloads.now)) }
+    ensures answered { (l : List (List ℕ)) → B.stands business.old l → Answered (λ n. B.plan business.old n (l ++ payloads.now)) (B.count business.old) (B.part business.old) (B.part business.new) finished result }
 {
     business.on_applied(payloads, finished, gate, rt)
 }
@@ -128,6 +133,9 @@ fn resume_by<J: Journal + Send, I: Journal, B: Business<J> + Send, R: Threads + 
     ensures made { (n : ℕ) → In (B.count business.old) n → (B.part business.new n).made ≡ (B.part business.old n).made }
     ensures content { SameContent inbox.old inbox.new }
     ensures kind { (limits_of inbox.new ≡ limits_of inbox.old) × (flow_of inbox.new ≡ flow_of inbox.old) }
+    ensures plan { B.plan business.new ≡ B.plan business.old }
+    ensures stands { (i : List InboxRecord) → I.tells → StandsFor inbox.old i → StandsOnResume result (B.stands business.new (payloads_of (applied i))) }
+    ensures resumed { (i : List InboxRecord) → I.tells → StandsFor inbox.old i → Resumed (λ n. B.plan business.old n (payloads_of (applied i))) (B.count business.old) (B.part business.old) (B.part business.new) (has_peer_finished i) result }
 {
     business.resume(alloc, inbox, gate, rt)
 }
@@ -157,7 +165,7 @@ fn passes_by<J: Journal + Send, B: Business<J, Held = Kept<J>>>(
 }
 
 impl<J: Journal + Send> Staff<J> {
-    ghost use Rattle.order_staff.specs.Staffs.{count_of, posts_of, sent_in, HasMade, HasStaff, IsSeatedAt, MayBe};
+    ghost use Rattle.order_staff.specs.Staffs.{count_of, plan_by, plan_in, posts_of, sent_in, AnsweredBy, HasMade, HasStaff, IsSeatedAt, MayBe, ResumedBy, StandsOver};
 
     /// Those who are to send, with the passes of a gate that was made for so many, and the connection's pass. Senders have empty plans, and no
     /// business has taken its place.
@@ -176,6 +184,7 @@ impl<J: Journal + Send> Staff<J> {
         ensures staff { IfOk result (λ r. HasStaff gate.now r.0 r.1) }
         ensures count { IfOk result (λ r. count_of r.0 ≡ posts_of posts) }
         ensures known { IfOk result (λ r. known r.1 ≡ known_at passes (posts_of posts + 1)) }
+        ensures plan { IfOk result (λ r. plan_in r.0 ≡ plan_by posts) }
         ensures back { IfErr result (AllBackAt gate.now) }
     {
         match posts {
@@ -197,6 +206,7 @@ impl<J: Journal + Send> Staff<J> {
         ensures staff { IfOk result (λ r. HasStaff gate.now r.0 r.1) }
         ensures count { IfOk result (λ r. count_of r.0 ≡ count) }
         ensures known { IfOk result (λ r. known r.1 ≡ known_at passes (count + 1)) }
+        ensures plan { IfOk result (λ r. plan_in r.0 ≡ plan_by (who.Senders count)) }
         ensures back { IfErr result (AllBackAt gate.now) }
     {
         let Some((plans, seats)) = seats_for(alloc, count) else {
@@ -223,6 +233,7 @@ impl<J: Journal + Send> Staff<J> {
         ensures staff { IfOk result (λ r. HasStaff gate.now r.0 r.1) }
         ensures count { IfOk result (λ r. count_of r.0 ≡ terms.desks) }
         ensures known { IfOk result (λ r. known r.1 ≡ known_at passes (terms.desks + 1)) }
+        ensures plan { IfOk result (λ r. plan_in r.0 ≡ plan_by (who.Desks terms)) }
         ensures back { IfErr result (AllBackAt gate.now) }
     {
         let mut passes = passes;
@@ -290,6 +301,9 @@ impl<J: Journal + Send> Staff<J> {
         requires most { length payloads.now ≤ 512 }
         ensures seated { IsSeatedAt gate.now self.new }
         ensures count { count_of self.new ≡ count_of self.old }
+        ensures plan { plan_in self.new ≡ plan_in self.old }
+        ensures stands { (l : List (List ℕ)) → StandsOver self.old l → StandsOn result (StandsOver self.new (l ++ payloads.now)) }
+        ensures answered { (l : List (List ℕ)) → StandsOver self.old l → AnsweredBy self.old self.new (l ++ payloads.now) finished result }
     {
         form_sends();
         door_sends();
@@ -317,6 +331,9 @@ impl<J: Journal + Send> Staff<J> {
         ensures count { count_of self.new ≡ count_of self.old }
         ensures content { SameContent inbox.old inbox.new }
         ensures kind { (limits_of inbox.new ≡ limits_of inbox.old) × (flow_of inbox.new ≡ flow_of inbox.old) }
+        ensures plan { plan_in self.new ≡ plan_in self.old }
+        ensures stands { (i : List InboxRecord) → I.tells → StandsFor inbox.old i → StandsOnResume result (StandsOver self.new (payloads_of (applied i))) }
+        ensures resumed { (i : List InboxRecord) → I.tells → StandsFor inbox.old i → ResumedBy self.old self.new (payloads_of (applied i)) (has_peer_finished i) result }
     {
         form_sends();
         door_sends();

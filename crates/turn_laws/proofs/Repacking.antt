@@ -1,5 +1,6 @@
 -- The parts of a turn, as the loop has them, are those of the laws.
-use Rattle.std.proofs.Common.{◌≡◌, inl, inr, ℕ, ◌<◌, ◌≤◌, max, Bool, List, ◌++◌, refl, sym, ap, subst, ◌∙◌, append-nil}
+use Rattle.gw_outside.specs.Faults.{HasRisen}
+use Rattle.std.proofs.Common.{◌≡◌, inl, inr, ℕ, ◌<◌, ◌≤◌, max, Bool, true, List, ◌++◌, refl, sym, ap, subst, ◌∙◌, append-nil}
 use Rattle.std.proofs.lemmas.List.Elements.{All-nil}
 use Rattle.session_model.specs.Journal.{History}
 use Rattle.jr_dated.specs.declared.journal.Journal.{Ghosts}
@@ -18,6 +19,7 @@ use Rattle.conn_loop.specs.Live.{EndAt}
 use Rattle.conn_loop.specs.Turned.{CutShort, CutMore, Exchanged}
 use Rattle.turn_laws.specs.Turns.{Sends, Works, line_received}
 use Rattle.turn_laws.specs.Made.{turn_at, calls_unsent, DoesMore, SendsAll}
+use Rattle.turn_laws.specs.Legs.{is_lost}
 use Rattle.turn_laws.specs.Turned.{WasTurn, WasCut, TurnIsOne, CutIsOne}
 
 -- the line as the frames of a work are taken of it
@@ -41,57 +43,65 @@ work_unsent now before seen old behind w at served =
 
 module _ {J : Type 0} {G : Ghosts J} where
   pub turn_is_one : (tells : Type 0) (box : Inbox J G) → TurnIsOne tells box
-  turn_is_one tells box eager before after old new result time clock (inl x) =
-      let now : ℕ = max after old.line.machine.moment in
-      record {
-        turn = only_sends now x.sent.sent x.sent.lost;
-        made = record {
-          result = result;
-          is = (record { front = x.sent.front; line = x.sent.line }, x.same_seen);
-          does = (x.why, record { whole = x.sent.whole; full = x.sent.full; answer = x.sent.answer; kept = x.sent.kept });
-          moved = x.sent.moved;
-          moment = refl;
-          clock = clock;
-        };
-        timely = record { bytes = All-nil (λ (b : ℕ). b < 256); time = time };
-        faithful = λ _. tt;
-        gains = gains_none old.box new.box x.same_box;
-        news_are = x.same_news ∙ sym (append-nil old.news);
-      }
-  turn_is_one tells box eager before after old new result time clock (inr x) = by_kind x.exchanged
+  turn_is_one tells box eager before after losses losses' old new result time clock (inl x) =
+      let now : ℕ = max after old.line.machine.moment in (
+        record {
+          turn = only_sends now x.sent.sent x.sent.lost;
+          made = record {
+            result = result;
+            is = (record { front = x.sent.front; line = x.sent.line }, x.same_seen);
+            does = (x.why, record { whole = x.sent.whole; full = x.sent.full; answer = x.sent.answer; kept = x.sent.kept });
+            moved = x.sent.moved;
+            moment = refl;
+            clock = clock;
+          };
+          timely = record { bytes = All-nil (λ (b : ℕ). b < 256); time = time };
+          faithful = λ _. tt;
+          gains = gains_none old.box new.box x.same_box;
+          news_are = x.same_news ∙ sym (append-nil old.news);
+        },
+        x.sent.cause,
+      )
+  turn_is_one tells box eager before after losses losses' old new result time clock (inr x) = by_kind x.exchanged
     where
       now : ℕ
       now = max after old.line.machine.moment
 
-      by_kind : Exchanged tells now eager (record old { line = line_ticked old.line now }) new result → WasTurn tells eager before after old new
-      by_kind (inl w) = record {
-        turn = works w.work;
-        made = record {
-          result = result;
-          is = work_is_one now old.seen new.seen old.line new.line w.behind w.work w.at w.served (record { front = w.front; line = w.line });
-          does = (
-            subst (λ (n : ℕ). DoesMore old.line n) (sym w.at) (x.little, x.unended),
-            w.received,
-            subst (λ (m : State). SendsAll m (turn_at new after) w.work.sent w.work.lost result) (work_unsent now old.seen new.seen old.line w.behind w.work w.at w.served)
-                (record { whole = w.whole; full = w.full; answer = w.answer; kept = w.kept }),
-          );
-          moved = w.moved;
-          moment = w.at;
-          clock = clock;
-        };
-        timely = record { bytes = w.bytes; time = subst IsInTime (sym w.at) time };
-        faithful = w.faithful;
-        gains = subst (λ (n : ℕ). Gains old.box new.box (added n (line_worked old.line n w.work) w.work.frames)) (sym w.at) w.gains;
-        news_are = subst (λ (n : ℕ). new.news ≡ old.news ++ told n (line_worked old.line n w.work) w.work.frames) (sym w.at) w.news_are;
-      }
-      by_kind (inr l) = record {
-        turn = link_lost now;
-        made = record { result = result; is = (l.line, l.same_seen); does = ((x.little, x.unended), l.answer); moved = l.moved; moment = refl; clock = clock };
-        timely = record { bytes = All-nil (λ (b : ℕ). b < 256); time = time };
-        faithful = λ _. tt;
-        gains = gains_none old.box new.box l.same_box;
-        news_are = l.same_news ∙ sym (append-nil old.news);
-      }
+      by_kind : Exchanged tells losses losses' now eager (record old { line = line_ticked old.line now }) new result → (was : WasTurn tells eager before after old new) × (is_lost was.turn ≡ true → HasRisen losses losses')
+      by_kind (inl w) = (
+        record {
+          turn = works w.work;
+          made = record {
+            result = result;
+            is = work_is_one now old.seen new.seen old.line new.line w.behind w.work w.at w.served (record { front = w.front; line = w.line });
+            does = (
+              subst (λ (n : ℕ). DoesMore old.line n) (sym w.at) (x.little, x.unended),
+              w.received,
+              subst (λ (m : State). SendsAll m (turn_at new after) w.work.sent w.work.lost result) (work_unsent now old.seen new.seen old.line w.behind w.work w.at w.served)
+                  (record { whole = w.whole; full = w.full; answer = w.answer; kept = w.kept }),
+            );
+            moved = w.moved;
+            moment = w.at;
+            clock = clock;
+          };
+          timely = record { bytes = w.bytes; time = subst IsInTime (sym w.at) time };
+          faithful = w.faithful;
+          gains = subst (λ (n : ℕ). Gains old.box new.box (added n (line_worked old.line n w.work) w.work.frames)) (sym w.at) w.gains;
+          news_are = subst (λ (n : ℕ). new.news ≡ old.news ++ told n (line_worked old.line n w.work) w.work.frames) (sym w.at) w.news_are;
+        },
+        w.cause,
+      )
+      by_kind (inr l) = (
+        record {
+          turn = link_lost now;
+          made = record { result = result; is = (l.line, l.same_seen); does = ((x.little, x.unended), l.answer); moved = l.moved; moment = refl; clock = clock };
+          timely = record { bytes = All-nil (λ (b : ℕ). b < 256); time = time };
+          faithful = λ _. tt;
+          gains = gains_none old.box new.box l.same_box;
+          news_are = l.same_news ∙ sym (append-nil old.news);
+        },
+        λ _. l.cause,
+      )
 
   cut_more_is_one : (eager : Bool) (before after : ℕ) (old new : EndAt J G) (fault : TurnFault) → IsInTime (max after old.line.machine.moment) → before ≤ after → CutMore (max after old.line.machine.moment) eager old new fault
       → WasCut eager before after old new fault

@@ -74,6 +74,14 @@ given_in (link_lost now) = []
 given_in (cut_short now received frames refused) = received
 given_in not_begun = []
 
+-- the link of a turn failed, or it was no whole turn
+abbrev pub is_lost : Turn → Bool
+is_lost (only_sends now sent lost) = lost
+is_lost (works w) = w.lost
+is_lost (link_lost now) = true
+is_lost (cut_short now received frames refused) = true
+is_lost not_begun = true
+
 -- the moment of a turn
 abbrev pub moment_of : Turn → ℕ
 moment_of (only_sends now sent lost) = now

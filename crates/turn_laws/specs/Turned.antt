@@ -1,7 +1,8 @@
 -- What the contract of the loop says of a turn, as a turn of the laws over connections.
 use Rattle.conn_turns.specs.Refusals.{IsOfRecord, IsTried, told_of, wanted_of}
 use Rattle.session_model.specs.Inbox.{InboxRecord}
-use Rattle.std.specs.Prelude.{◌≡◌, ◌⊎◌, ℕ, ◌≤◌, max, Bool, List, ◌++◌, length, Option, IfSome, Result}
+use Rattle.gw_outside.specs.Faults.{HasRisen}
+use Rattle.std.specs.Prelude.{◌≡◌, ◌⊎◌, ℕ, ◌≤◌, max, Bool, true, List, ◌++◌, length, Option, IfSome, Result}
 use Rattle.connection_laws.specs.Ranges.{IsInTime}
 use Rattle.jr_dated.specs.declared.journal.Journal.{Ghosts}
 use Rattle.jr_kept.specs.declared.inbox.Inbox.{Inbox}
@@ -17,7 +18,7 @@ use Rattle.conn_steps.specs.Taking.{OfInbox, refused_by}
 use Rattle.conn_loop.specs.Live.{EndAt}
 use Rattle.conn_loop.specs.Turned.{DidTurn, NotBegun, CutTurn}
 use Rattle.turn_laws.specs.Turns.{line_received, adds_in, adds_cut, tells_in}
-use Rattle.turn_laws.specs.Legs.{IsTimelyTurn}
+use Rattle.turn_laws.specs.Legs.{is_lost, IsTimelyTurn}
 use Rattle.turn_laws.specs.Made.{turn_at, MadeTurn, MadeCut}
 
 module _ {J : Type 0} {G : Ghosts J} where
@@ -32,12 +33,12 @@ module _ {J : Type 0} {G : Ghosts J} where
     pub news_are : new.news ≡ old.news ++ tells_in old.line turn
 
   -- a turn that answers, and one whose link failed, was a whole one, where it was in time, whatever the inboxes of this kind, and whether
-  -- the outbox's disk tells its content or not
+  -- the outbox's disk tells its content or not; and its link failed only where that link's count of faults rose
   abbrev pub TurnIsOne : (tells : Type 0) → Inbox J G → Type 0
   TurnIsOne tells box =
-      (eager : Bool) (before after : ℕ) (old new : EndAt J G) (result : Result TurnEnd TurnFault)
-      → IsInTime (max after old.line.machine.moment) → before ≤ after → DidTurn tells (max after old.line.machine.moment) eager old new result
-      → WasTurn tells eager before after old new
+      (eager : Bool) (before after losses losses' : ℕ) (old new : EndAt J G) (result : Result TurnEnd TurnFault)
+      → IsInTime (max after old.line.machine.moment) → before ≤ after → DidTurn tells losses losses' (max after old.line.machine.moment) eager old new result
+      → (was : WasTurn tells eager before after old new) × (is_lost was.turn ≡ true → HasRisen losses losses')
 
   -- A turn was cut short, in time: its link gave what it received in one call, and took nothing. The inbox gained what its frames add and
   -- what stood before the refusal, and the news are what was told of those; behind them a stop may leave all that a failed call of its disk

@@ -16,5 +16,5 @@ returns-clause-stands g c =
     let most = (line_of c.args.conn.now).place + 4195840 in
     subst (λ s. Stands s (line_of c.turn.new.self) most (known c.turn.new.pass) c.turn.new.inbox) (sym c.behind.ensures)
     (stands_behind c.turn.result (line_of c.turn.new.self) most (known c.turn.new.pass) c.turn.new.inbox
-    (on_ok_weaker c.turn.result (λ did. turn_place _ _ _ (live_end _ _ _ (line_of c.args.conn.now) c.args.inbox.now []) (live_end _ _ _ (line_of c.turn.new.self) c.turn.new.inbox _) c.turn.result did c.args.conn.now.number.1) e.did)
+    (on_ok_weaker c.turn.result (λ did. turn_place _ _ _ _ _ (live_end _ _ _ (line_of c.args.conn.now) c.args.inbox.now []) (live_end _ _ _ (line_of c.turn.new.self) c.turn.new.inbox _) c.turn.result did c.args.conn.now.number.1) e.did)
     e.goes e.leaves e.leaves_lost e.answer (λ lost. ap is_some (e.ended_lost lost)))

@@ -11,8 +11,8 @@ use Rattle.conn_serve.proofs.connection.make_turn.Goals as goal
 
 pub returns-clause-whole : goal.returns-clause-whole
 returns-clause-whole g c =
-    let one = turn_is_one g.O.Journal.tells (box_in c.args.end.now) _ _ _ (in_turn _ _ c.args.end.now []) (in_turn _ _ c.turn.new.self _) c.turn.result in
-    whole_at _ c.turn.result c.close_of.result c.close_of.ensures (on_ok_weaker c.turn.result (one c.turn.ensures.limit c.turn.ensures.stays.ticks) c.turn.ensures.did) (λ e. one c.turn.ensures.limit c.turn.ensures.stays.ticks (c.turn.ensures.lost e))
+    let one = turn_is_one g.O.Journal.tells (box_in c.args.end.now) _ _ _ _ _ (in_turn _ _ c.args.end.now []) (in_turn _ _ c.turn.new.self _) c.turn.result in
+    whole_at _ c.turn.result c.close_of.result c.close_of.ensures (on_ok_weaker c.turn.result (λ did. (one c.turn.ensures.limit c.turn.ensures.stays.ticks did).0) c.turn.ensures.did) (λ e. (one c.turn.ensures.limit c.turn.ensures.stays.ticks (c.turn.ensures.lost e)).0)
 
 pub returns-clause-cut : goal.returns-clause-cut
 returns-clause-cut g c =

@@ -16,6 +16,7 @@ returns-in_default-clause-did g c =
     (inr (record {
       line = c.lose_link.ensures.line ∙ ap (λ (l : Line). record l { machine = run l.machine (link_end ∷ []) }) failed.0;
       answer = subst (λ (l : Line). IsLossOf l.machine c.lose_link.new.self.end c.lose_link.result) failed.0 c.lose_link.ensures.answer;
+      cause = c.in_default.ensures.cause.risen;
       moved = failed.1;
       same_box = refl;
       same_news = refl;
@@ -28,6 +29,7 @@ returns-in_default-clause-lost g c = λ _.
     inr (record {
       line = c.lose_link.ensures.line ∙ ap (λ (l : Line). record l { machine = run l.machine (link_end ∷ []) }) failed.0;
       answer = subst (λ (l : Line). IsLossOf l.machine c.lose_link.new.self.end c.lose_link.result) failed.0 c.lose_link.ensures.answer;
+      cause = c.in_default.ensures.cause.risen;
       moved = failed.1;
       same_box = refl;
       same_news = refl;
@@ -46,13 +48,13 @@ returns-in-Err-clause-cut g c = λ _. record { got = _; line = line_of c.receive
 pub returns-clause-did : goal.returns-clause-did
 returns-clause-did g c =
     on_ok_any _ c.send.result
-    (inl (did_work _ c.args.now _ (live_end _ _ _ (line_of c.args.self.now) c.args.inbox.now _) (live_end _ _ _ (line_of c.send.new.self) c.work.new.inbox _) _ _ (line_of c.receive.new.self) (line_of c.work.new.self) c.send.result _
-    c.in-Ok.ensures.received c.in_default-work.ensures.served c.send.ensures.sent))
+    (inl (did_work _ _ _ _ c.args.now _ (live_end _ _ _ (line_of c.args.self.now) c.args.inbox.now _) (live_end _ _ _ (line_of c.send.new.self) c.work.new.inbox _) _ _ (line_of c.receive.new.self) (line_of c.work.new.self) c.send.result _
+    c.in-Ok.ensures.received c.in_default-work.ensures.served c.in-Ok.ensures.cause.never_falls c.send.ensures.sent))
 
 pub returns-clause-lost : goal.returns-clause-lost
 returns-clause-lost g c = λ _.
-    inl (did_work _ c.args.now _ (live_end _ _ _ (line_of c.args.self.now) c.args.inbox.now _) (live_end _ _ _ (line_of c.send.new.self) c.work.new.inbox _) _ _ (line_of c.receive.new.self) (line_of c.work.new.self) c.send.result _
-    c.in-Ok.ensures.received c.in_default-work.ensures.served c.send.ensures.sent)
+    inl (did_work _ _ _ _ c.args.now _ (live_end _ _ _ (line_of c.args.self.now) c.args.inbox.now _) (live_end _ _ _ (line_of c.send.new.self) c.work.new.inbox _) _ _ (line_of c.receive.new.self) (line_of c.work.new.self) c.send.result _
+    c.in-Ok.ensures.received c.in_default-work.ensures.served c.in-Ok.ensures.cause.never_falls c.send.ensures.sent)
 
 pub returns-clause-cut : goal.returns-clause-cut
 returns-clause-cut g c = loss_cut c.work.new.self.end c.send.new.self.end c.send.result _ c.send.ensures.answer

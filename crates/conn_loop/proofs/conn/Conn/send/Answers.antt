@@ -24,6 +24,7 @@ returns-in-Ok-clause-sent g c =
       whole = λ _. sym (take-append-drop n u) ∙ ap (λ (bytes : List ℕ). take n u ++ bytes) (sym rest);
       full = λ _ some. c.in-Ok.ensures.full (omega (arith, some, ap (λ (bytes : List ℕ). length bytes) rest, length-drop n u, long));
       answer = λ e. absurd (true≢false (sym e));
+      cause = λ e. absurd (true≢false (sym e));
       kept = λ _. ap (λ (end : TurnEnd). Ok end) c.answer.ensures;
       moved = subst (λ (bytes : List ℕ). Moved (g.L.Link.told c.args.link.now) (g.L.Link.told c.send_front.new.link) (g.L.Link.carried c.args.link.now) (g.L.Link.carried c.send_front.new.link) [] (take n bytes)) c.out.ensures c.in-Ok.ensures.moves;
     }
@@ -40,6 +41,7 @@ returns-in-Err-clause-sent g c =
       whole = λ e. absurd (true≢false e);
       full = λ e. absurd (true≢false e);
       answer = λ _. c.lose_link.ensures.answer;
+      cause = λ _. c.in-Err.ensures.cause.risen;
       kept = λ e. absurd (true≢false e);
       moved = subst (λ (bytes : List ℕ). Moved (g.L.Link.told c.args.link.now) (g.L.Link.told c.send_front.new.link) (g.L.Link.carried c.args.link.now) (g.L.Link.carried c.send_front.new.link) [] (take took.count bytes)) c.out.ensures took.moved;
     }

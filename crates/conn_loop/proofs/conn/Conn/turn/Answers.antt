@@ -17,12 +17,12 @@ returns-in_default-clause-cut g c = λ _.
 pub returns-then-not-works-clause-did : goal.returns-then-not-works-clause-did
 returns-then-not-works-clause-did g c =
     on_ok_any _ c.send.result
-    (only_sent _ c.moment-now.result _ _ (live_end _ _ _ (line_of c.args.self.now) c.args.inbox.now []) (live_end _ _ _ (line_of c.send.new.self) c.args.inbox.now _) (line_of c.start.new.self) c.send.result c.moment-now.ensures.now c.in-Ok.ensures.ticked
+    (only_sent _ _ _ c.moment-now.result _ _ (live_end _ _ _ (line_of c.args.self.now) c.args.inbox.now []) (live_end _ _ _ (line_of c.send.new.self) c.args.inbox.now _) (line_of c.start.new.self) c.send.result c.moment-now.ensures.now c.in-Ok.ensures.ticked
     (c.in-Ok.ensures.why (cc)) c.send.ensures.sent refl c.clear.ensures refl)
 
 pub returns-then-not-works-clause-lost : goal.returns-then-not-works-clause-lost
 returns-then-not-works-clause-lost g c = λ _.
-    only_sent _ c.moment-now.result _ _ (live_end _ _ _ (line_of c.args.self.now) c.args.inbox.now []) (live_end _ _ _ (line_of c.send.new.self) c.args.inbox.now _) (line_of c.start.new.self) c.send.result c.moment-now.ensures.now c.in-Ok.ensures.ticked
+    only_sent _ _ _ c.moment-now.result _ _ (live_end _ _ _ (line_of c.args.self.now) c.args.inbox.now []) (live_end _ _ _ (line_of c.send.new.self) c.args.inbox.now _) (line_of c.start.new.self) c.send.result c.moment-now.ensures.now c.in-Ok.ensures.ticked
     (c.in-Ok.ensures.why (cc)) c.send.ensures.sent refl c.clear.ensures refl
 
 pub returns-then-not-works-clause-cut : goal.returns-then-not-works-clause-cut
@@ -34,13 +34,13 @@ returns-then-not-works-clause-answer g c = loss_answer c.start.new.self.end c.se
 pub returns-clause-did : goal.returns-clause-did
 returns-clause-did g c =
     on_ok_weaker c.exchange.result
-    (did_more _ c.moment-now.result _ _ (live_end _ _ _ (line_of c.args.self.now) c.args.inbox.now []) (live_end _ _ _ (line_of c.exchange.new.self) c.exchange.new.inbox _) (line_of c.start.new.self) _ c.exchange.result c.moment-now.ensures.now
+    (did_more _ _ _ c.moment-now.result _ _ (live_end _ _ _ (line_of c.args.self.now) c.args.inbox.now []) (live_end _ _ _ (line_of c.exchange.new.self) c.exchange.new.inbox _) (line_of c.start.new.self) _ c.exchange.result c.moment-now.ensures.now
     c.in-Ok.ensures.ticked (c.in-Ok.ensures.little (cc)) (c.in-Ok.ensures.unended (cc)) c.clear.ensures)
     c.exchange.ensures.did
 
 pub returns-clause-lost : goal.returns-clause-lost
 returns-clause-lost g c = λ e.
-    did_more _ c.moment-now.result _ _ (live_end _ _ _ (line_of c.args.self.now) c.args.inbox.now []) (live_end _ _ _ (line_of c.exchange.new.self) c.exchange.new.inbox _) (line_of c.start.new.self) _ c.exchange.result c.moment-now.ensures.now
+    did_more _ _ _ c.moment-now.result _ _ (live_end _ _ _ (line_of c.args.self.now) c.args.inbox.now []) (live_end _ _ _ (line_of c.exchange.new.self) c.exchange.new.inbox _) (line_of c.start.new.self) _ c.exchange.result c.moment-now.ensures.now
     c.in-Ok.ensures.ticked (c.in-Ok.ensures.little (cc)) (c.in-Ok.ensures.unended (cc)) c.clear.ensures (c.exchange.ensures.lost e)
 
 pub returns-clause-cut : goal.returns-clause-cut

@@ -1,27 +1,18 @@
-use Rattle.std.proofs.Common.{◌*◌, refl, sym, ap, subst}
-use Rattle.gate_turn.specs.Places.{known}
-use Rattle.conn_loop.specs.Conn.{line_of}
-use Rattle.gw_rehearse.specs.Standing.{Stands, is_given}
-use Rattle.gw_rehearse.proofs.Driving.{resumed_closed, resumed_rests, rests_stands, staff_kept}
-use Rattle.gw_rehearse.proofs.Stories.{resumed_ended, resumed_stands}
+use Rattle.std.proofs.Common.{refl, sym, ap}
+use Rattle.gw_rehearse.specs.Standing.{is_failed, is_given}
+use Rattle.gw_rehearse.proofs.Stories.{answered_between, answered_ended, answered_over}
 use Rattle.gw_rehearse.proofs.end.DrivenEnd.resume.Goals as goal
-
-pub returns-clause-driven : goal.returns-clause-driven
-returns-clause-driven g c =
-    let e = c.args.self.now in
-    let h = c.requires.driven in
-    let came = c.resume-answer in (
-      staff_kept e.gate e.staff came.new.self e.pass e.pass h.0 came.ensures.seated came.ensures.count h.0.own h.0.free refl refl,
-      subst (λ s. Stands s (line_of e.conn) (e.turns * 4195840) (known e.pass) came.new.inbox) (sym c.resumed-self.ensures)
-          (rests_stands _ (line_of e.conn) (e.turns * 4195840) (known e.pass) came.new.inbox (resumed_closed came.result)
-          (resumed_rests (line_of e.conn).machine (known e.pass) e.inbox came.new.inbox came.ensures.content came.ensures.kind (h.1.begins c.requires.rests.over))),
-    )
 
 pub returns-clause-sound : goal.returns-clause-sound
 returns-clause-sound g c = λ yes. ap is_given (c.is_resting.ensures yes)
 
+pub returns-clause-sees : goal.returns-clause-sees
+returns-clause-sees g c = λ yes. c.see_end.ensures.sees (ap is_given (c.is_resting.ensures yes)) (ap is_failed (c.is_resting.ensures yes))
+
 pub returns-clause-stands : goal.returns-clause-stands
-returns-clause-stands g c = λ yes b legs k. resumed_stands c.args.self.now _ refl refl refl c.resume-answer.ensures.content (c.is_resting.ensures yes) b legs k
+returns-clause-stands g c = λ yes b legs k.
+    let answered = c.see_end.ensures.answered in
+    answered_between b legs _ _ answered (c.is_resting.ensures yes) (c.take_place.ensures.stands (answered_over _ _ answered (c.is_resting.ensures yes)) b legs k)
 
 pub returns-clause-ended : goal.returns-clause-ended
-returns-clause-ended g c = λ b legs first k. resumed_ended c.args.self.now _ refl refl refl c.resume-answer.ensures.content b legs first k
+returns-clause-ended g c = λ b legs first k. answered_ended b legs _ _ c.see_end.ensures.answered (c.take_place.ensures.ended b legs first k)
