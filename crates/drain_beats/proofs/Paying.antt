@@ -17,7 +17,8 @@ use Rattle.turn_laws.specs.Made.{MadeTurn}
 use Rattle.turn_laws.proofs.Working.{turn_makes_calls}
 use Rattle.drain_laws.specs.Calls.{beats_at}
 use Rattle.drain_turns.specs.Joints.{Half}
-use Rattle.drain_turns.specs.Turning.{is_lost, turn_at, TakesTurn}
+use Rattle.turn_laws.specs.Legs.{is_lost}
+use Rattle.drain_turns.specs.Turning.{turn_at, TakesTurn}
 use Rattle.drain_turns.proofs.Turned.{moment_is, tick_config}
 use Rattle.drain_beats.proofs.Calling.{Passes, run_passes, work_later, work_at, work_told}
 

@@ -21,7 +21,7 @@ use Rattle.connection_laws.specs.Courses.{Course}
 use Rattle.connection_laws.proofs.Going.{stands_longer}
 use Rattle.turn_laws.specs.Turns.{line_received, IsTurn}
 use Rattle.turn_laws.specs.Standing.{StandsAt}
-use Rattle.turn_laws.specs.Legs.{sent_in}
+use Rattle.turn_laws.specs.Legs.{is_lost, sent_in}
 use Rattle.turn_laws.specs.Made.{MadeTurn}
 use Rattle.honest_ends.specs.Worlds.{World, Step, Match, meets, after, world_after}
 use Rattle.honest_ends.proofs.Serving.{by_bool}
@@ -39,7 +39,7 @@ use Rattle.drain_ends.proofs.Doing.{something_to_do}
 use Rattle.drain_ends.proofs.Fallen.{meets_fall}
 use Rattle.drain_ends.proofs.Closed.{ends_are_told, closing_to_do}
 use Rattle.drain_turns.specs.Joints.{Half, Joint, Session, measure, IsOn, IsUnread, Shows}
-use Rattle.drain_turns.specs.Turning.{is_lost, turn_at, TakesTurn, Due, DueIn, other_of, written_by, Turned}
+use Rattle.drain_turns.specs.Turning.{turn_at, TakesTurn, Due, DueIn, other_of, written_by, Turned}
 use Rattle.drain_turns.specs.Turning as due_is
 use Rattle.drain_rounds.specs.Rounds.{Finds, InRound, IsInTime, Round, AreDrain, last_of, IsOver, IsSent, AreSent, open_of, left_of, RoundsFall, DrainEnds, rounds_for, entries_of, Begun, DrainSuffices}
 use Rattle.drain_steps.proofs.Ranging.{opened_holds}
@@ -54,8 +54,8 @@ pub all_sent : (now : ℕ) (old new : Half) (way left : List ℕ) → TakesTurn 
 all_sent now old new way left t = by_turn t.turn t.made t.sound
   where
     by_turn : (turn : Turn) → MadeTurn true (turn_at old t.told t.carried t.clock) (turn_at new t.told_then t.carried_then now) turn → is_lost turn ≡ false → new.line.machine.unsent ≡ []
-    by_turn (only_sends at sent lost) k sound = none_left new.line.machine.unsent (λ some. let empty = k.does.1.full sound some in let room = t.room in omega (arith, empty, room))
-    by_turn (works w) k sound = none_left new.line.machine.unsent (λ some. let empty = k.does.2.full sound some in let room = t.room in omega (arith, empty, room))
+    by_turn (only_sends at sent lost) k sound = none_left new.line.machine.unsent (λ some. let empty = k.does.1.full sound some in let room = t.room some in omega (arith, empty, room))
+    by_turn (works w) k sound = none_left new.line.machine.unsent (λ some. let empty = k.does.2.full sound some in let room = t.room some in omega (arith, empty, room))
     by_turn (link_lost at) k sound = absurd (true≢false sound)
     by_turn (cut_short at received frames refused) k sound = absurd (true≢false sound)
     by_turn not_begun k sound = absurd (true≢false sound)

@@ -26,7 +26,7 @@ use Rattle.conn_turns.specs.Exact.{IsAsDue}
 use Rattle.conn_turns.proofs.Taking.{run_append}
 use Rattle.connection_laws.specs.Writing.{Piece}
 use Rattle.connection_laws.specs.Courses.{Course}
-use Rattle.turn_laws.specs.Legs.{moment_of, IsTimelyTurn}
+use Rattle.turn_laws.specs.Legs.{is_lost, moment_of, IsTimelyTurn}
 use Rattle.turn_laws.specs.Made.{MadeTurn}
 use Rattle.turn_laws.proofs.Working.{turn_makes_calls}
 use Rattle.honest_ends.specs.Worlds.{World, Step, meets, initiator_reads, acceptor_reads, initiator_does, acceptor_does, written, after, world_after}
@@ -35,7 +35,7 @@ use Rattle.honest_turns.proofs.Reaching.{turned, after_turned}
 use Rattle.drain_steps.proofs.Stepping.{does_end, does_home}
 use Rattle.drain_steps.proofs.Beating.{Keeps, frames_keep}
 use Rattle.drain_turns.specs.Joints.{Half, IsOn, IsUnread}
-use Rattle.drain_turns.specs.Turning.{is_lost, turn_at, TakesTurn, IsFree}
+use Rattle.drain_turns.specs.Turning.{turn_at, TakesTurn, IsFree}
 use Rattle.drain_turns.proofs.Resting.{rest_calls, done_same}
 use Rattle.drain_turns.proofs.Turned.{again_of, moment_is, sends_not_free, rest_ends, tick_facts, done_serves, Worked, worked, reads_some}
 use Rattle.drain_beats.proofs.Calling.{IsAt, Passes, run_passes, work_later, work_at}

@@ -9,7 +9,7 @@ use Rattle.fixp_shake.specs.declared.config.Role.TheVariants as roles
 use Rattle.fixp_machine.specs.Machine.{State}
 use Rattle.conn_turns.specs.Turns.{Turn, IsFaithful, only_sends, works, link_lost, cut_short, not_begun, calls_of}
 use Rattle.connection_laws.specs.Courses.{Course}
-use Rattle.turn_laws.specs.Legs.{sent_in, IsTimelyTurn}
+use Rattle.turn_laws.specs.Legs.{is_lost, sent_in, IsTimelyTurn}
 use Rattle.turn_laws.specs.Made.{MadeTurn}
 use Rattle.honest_ends.specs.Worlds.{World, Step, meets, initiator_reads, acceptor_reads, initiator_does, acceptor_does, written, world_after, AllMayStep}
 use Rattle.honest_turns.specs.Steps.{turned_step, initiator_steps}
@@ -18,7 +18,7 @@ use Rattle.drain_laws.specs.Calls.{beats_at}
 use Rattle.drain_ends.specs.Closing.{KeepsLink}
 use Rattle.drain_ends.specs.Falling as falling
 use Rattle.drain_turns.specs.Joints.{Half, Joint, Session, measure, IsOn, IsUnread, Shows}
-use Rattle.drain_turns.specs.Turning.{is_lost, turn_at, TakesTurn, DueIn, Turned, TurnsFall}
+use Rattle.drain_turns.specs.Turning.{turn_at, TakesTurn, DueIn, Turned, TurnsFall}
 use Rattle.drain_steps.proofs.Stepping.{FallsFrom, from_initiator, from_acceptor, measure_turned, world_append}
 use Rattle.drain_turns.proofs.Turned.{Goes, sends_goes, works_goes}
 

@@ -36,7 +36,7 @@ use Rattle.connection_laws.specs.Courses.{Course, course_after}
 use Rattle.connection_laws.proofs.Going.{stands_longer}
 use Rattle.turn_laws.specs.Turns.{line_received, IsTurn, Works}
 use Rattle.turn_laws.specs.Standing.{StandsAt, TurnStands}
-use Rattle.turn_laws.specs.Legs.{given_in, sent_in, IsTimelyTurn}
+use Rattle.turn_laws.specs.Legs.{is_lost, given_in, sent_in, IsTimelyTurn}
 use Rattle.turn_laws.specs.Made.{SendsAlone, MadeTurn}
 use Rattle.gate_turn.proofs.Histories.{begins_on}
 use Rattle.turn_laws.proofs.Draining.{first_drained}
@@ -57,7 +57,7 @@ use Rattle.drain_ends.specs.Acting as acting
 use Rattle.drain_ends.specs.Closing.{KeepsLink}
 use Rattle.drain_ends.specs.Falling.{measure}
 use Rattle.drain_turns.specs.Joints.{Half, IsOn, IsUnread}
-use Rattle.drain_turns.specs.Turning.{is_lost, turn_at, IsFree, Due, DueIn}
+use Rattle.drain_turns.specs.Turning.{turn_at, IsFree, Due, DueIn}
 use Rattle.drain_turns.specs.Turning as due_is
 use Rattle.drain_steps.proofs.Stepping.{IsOwn, FallsFrom, low, high, call_low, call_high, steps_fall_along, low_append, world_append, does_low, does_high, does_end, does_home}
 use Rattle.drain_steps.specs.Ranges.{InRange}

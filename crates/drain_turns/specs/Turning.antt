@@ -1,5 +1,5 @@
 -- That a turn lowers what two ends have still to do (this project's profile).
-use Rattle.std.specs.Prelude.{◌≡◌, ◌⊎◌, ℕ, ◌+◌, ◌<◌, ◌≤◌, Bool, true, false, List, [], ◌++◌, length, Option, Some, None, IsSome}
+use Rattle.std.specs.Prelude.{◌≡◌, ◌⊎◌, ℕ, ◌+◌, ◌<◌, ◌≤◌, true, false, List, [], ◌++◌, length, Option, Some, None, IsSome}
 use Rattle.session_model.specs.Journal.{History, BeginsHistory}
 use mathlib.Core.List.{IsPrefix}
 use Rattle.gw_links.specs.Links.{LinkTold, Carried}
@@ -7,27 +7,19 @@ use Rattle.fixp_shake.specs.declared.config.Role.{Role}
 use Rattle.fixp_shake.specs.declared.config.Role.TheVariants as roles
 use Rattle.fixp_replies.specs.Events.{lateness}
 use Rattle.fixp_machine.specs.Machine.{State, around}
-use Rattle.conn_turns.specs.Turns.{Turn, IsFaithful, only_sends, works, link_lost, cut_short, not_begun}
+use Rattle.conn_turns.specs.Turns.{Turn, IsFaithful}
 use Rattle.connection_laws.specs.Writing.{Piece}
-use Rattle.turn_laws.specs.Legs.{sent_in, IsTimelyTurn}
+use Rattle.turn_laws.specs.Legs.{is_lost, sent_in, IsTimelyTurn}
 use Rattle.turn_laws.specs.Made.{TurnAt, MadeTurn}
 use Rattle.honest_ends.specs.Worlds.{World}
 use Rattle.drain_laws.specs.Calls.{beats_at}
 use Rattle.drain_ends.specs.Acting.{Acts, BeatsFirst}
 use Rattle.drain_turns.specs.Joints.{Half, Joint, Session, measure, Shows}
 
--- the link of a turn failed, or it was no whole turn
-abbrev pub is_lost : Turn → Bool
-is_lost (only_sends now sent lost) = lost
-is_lost (works w) = w.lost
-is_lost (link_lost now) = true
-is_lost (cut_short now received frames refused) = true
-is_lost not_begun = true
-
 abbrev pub turn_at : Half → LinkTold → Option Carried → (clock : ℕ) → TurnAt
 turn_at half told carried clock = record { told = Some told; carried = carried; seen = half.seen; clock = clock; line = half.line }
 
--- A turn of an end at this moment, which is none before its last one, over a link that gives all that fits, has room for all, and neither fails nor ends, as one in memory: it took of the bytes
+-- A turn of an end at this moment, which is none before its last one, over a link that gives all that fits, has room where output is left unsent, and neither fails nor ends, as one in memory: it took of the bytes
 -- under way to the end, and left these
 pub record TakesTurn (now : ℕ) (old new : Half) (way left : List ℕ) : Type 0 where
   pub turn : Turn
@@ -41,7 +33,7 @@ pub record TakesTurn (now : ℕ) (old new : Half) (way left : List ℕ) : Type 0
   pub leaves : told_then.waits ≡ left
   pub goes_on : told.over ≡ false
   pub sound : is_lost turn ≡ false
-  pub room : 0 < told_then.room
+  pub room : 0 < length new.line.machine.unsent → 0 < told_then.room
   pub later : old.line.machine.moment ≤ now
   pub faithful : IsFaithful turn
   pub timely : IsTimelyTurn turn
