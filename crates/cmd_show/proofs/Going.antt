@@ -7,11 +7,12 @@ use Rattle.std.proofs.KnownBytes.{Appends-nil, Appends-trans}
 use Rattle.gw_outside.specs.Faults.{TakesFront}
 use Rattle.sbe_layout.specs.declared.plan.Plan.{Plan}
 use Rattle.jr_dated.specs.Dated.{Dated}
+use Rattle.jr_stream.specs.Images.{counted}
 use Rattle.jr_stream.specs.declared.reader.End.{End}
 use Rattle.jr_shown.specs.declared.choice.Start.{Start}
 use Rattle.jr_shown.specs.declared.choice.Style.{Style}
 use Rattle.jr_shown.specs.declared.shower.Shower.{Shower}
-use Rattle.jr_shown.specs.Shown.{chosen_lines, end_in, lines_from, records_shown, shown}
+use Rattle.jr_shown.specs.Shown.{chosen_lines, end_in, is_reached, lines_from, records_shown, shown}
 use Rattle.jr_shown.specs.Progress.{IsNew, Takes, goes_on}
 use Rattle.cmd_show.specs.Progress.{HasShown, Pushes}
 
@@ -62,6 +63,21 @@ shown_more style plan start most records d before out now old mid new h takes p 
       ∙ sym (append_assoc h.pushed p.pushed (new.lines.items ++ behind));
 }
 
+-- what waited was pushed
+pub shown_on : (style : Style) (plan : Plan) (start : Start) (most : ℕ) (records : List Dated) (before out now : Option (List ℕ)) (old new : Shower) → HasShown style plan start most records before out old
+    → Pushes out now old new → HasShown style plan start most records before now new
+shown_on style plan start most records before out now old new h p = record {
+  pushed = h.pushed ++ p.pushed;
+  gained = Appends-trans before out now h.pushed p.pushed h.gained p.gained;
+  style_is = p.style ∙ h.style_is;
+  same = λ ds.
+      let behind = goes_on plan new ds in
+      h.same ds
+      ∙ ap (λ (l : List ℕ). h.pushed ++ l)
+      (ap (λ (l : List ℕ). old.lines.items ++ l) (sym (p.same plan ds)) ∙ ap (λ (l : List ℕ). l ++ behind) p.joins ∙ append_assoc p.pushed new.lines.items behind)
+      ∙ sym (append_assoc h.pushed p.pushed (new.lines.items ++ behind));
+}
+
 -- a front of its lines was pushed
 pub shown_front : (style : Style) (plan : Plan) (start : Start) (most : ℕ) (records : List Dated) (d : Dated) (before out now : Option (List ℕ)) (old mid : Shower)
     → HasShown style plan start most records before out old → Takes plan d old mid → TakesFront out now mid.lines.items → TakesFront before now (records_shown style plan start most (records ++ d ∷ []))
@@ -82,6 +98,35 @@ pub shown_so_far : (style : Style) (plan : Plan) (start : Start) (most : ℕ) (r
 shown_so_far style plan start most records before now s h =
     more-front before now now h.pushed s.lines.items [] (records_shown style plan start most records)
     (lines_now style plan start most records before now s h ∙ ap (λ (l : List ℕ). h.pushed ++ l) (sym (append-nil s.lines.items))) h.gained (no_front now s.lines.items)
+
+-- or a front of what waited
+pub shown_partly : (style : Style) (plan : Plan) (start : Start) (most : ℕ) (records : List Dated) (before out now : Option (List ℕ)) (s : Shower) → HasShown style plan start most records before out s
+    → TakesFront out now s.lines.items → TakesFront before now (records_shown style plan start most records)
+shown_partly style plan start most records before out now s h front =
+    more-front before out now h.pushed s.lines.items [] (records_shown style plan start most records)
+    (lines_now style plan start most records before out s h ∙ ap (λ (l : List ℕ). h.pushed ++ l) (sym (append-nil s.lines.items))) h.gained front
+
+-- ---- no record more
+
+none_either : (b : Bool) (one other : List ℕ) → one ≡ [] → other ≡ [] → (if b then one else other) ≡ []
+none_either true one other none_one none_other = none_one
+none_either false one other none_one none_other = none_other
+
+none_chosen : (style : Style) (plan : Plan) (start : Start) (n : ℕ) (ds : List Dated) → chosen_lines style plan start 0 n ds ≡ []
+none_chosen style plan start n [] = refl
+none_chosen style plan start n (d ∷ ds) = none_either (is_reached start n d.moment) (lines_from style plan n (take 0 (d ∷ ds))) (chosen_lines style plan start 0 (counted (n + 1)) ds) refl (none_chosen style plan start (counted (n + 1)) ds)
+
+none_more : (style : Style) (plan : Plan) (b : Bool) (start : Start) (n : ℕ) (ds : List Dated) → (if b then lines_from style plan n (take 0 ds) else chosen_lines style plan start 0 n ds) ≡ []
+none_more style plan true start n ds = refl
+none_more style plan false start n ds = none_chosen style plan start n ds
+
+-- as many were shown as were asked for
+pub shown_full : (style : Style) (plan : Plan) (start : Start) (most : ℕ) (records : List Dated) (before now : Option (List ℕ)) (s : Shower) → HasShown style plan start most records before now s → s.left ≡ 0
+    → (more : List Dated) → records_shown style plan start most (records ++ more) ≡ records_shown style plan start most records
+shown_full style plan start most records before now s h none more =
+    let nothing : goes_on plan s more ≡ [] = rw none (none_more s.style plan s.is_showing s.start s.number more) in
+    h.same more ∙ ap (λ (l : List ℕ). h.pushed ++ (s.lines.items ++ l)) nothing ∙ ap (λ (l : List ℕ). h.pushed ++ l) (append-nil s.lines.items)
+    ∙ sym (lines_now style plan start most records before now s h)
 
 -- ---- the end
 

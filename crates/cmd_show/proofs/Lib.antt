@@ -1,3 +1,4 @@
+mod Following
 mod Going
-mod Showing
 mod Judging
+mod Showing

@@ -1,32 +1,33 @@
 -- What a round leaves of the promise.
-use Rattle.std.proofs.Common.{◌≡◌, ℕ, ◌⊎◌, inl, inr, Option, Some, None, List, [], ◌∷◌, ◌++◌, refl, sym, ◌∙◌, ap, subst, arith}
+use Rattle.std.proofs.Common.{◌≡◌, ℕ, inl, inr, Option, Some, None, List, [], ◌∷◌, ◌++◌, refl, sym, ◌∙◌, ap, subst, arith}
 use Rattle.std.specs.Option.{ForSome}
+use Rattle.std.specs.List.{AllByRecursion}
 use Rattle.std.specs.Io.KnownBytes.{Appends, Keeps}
 use Rattle.gw_outside.specs.Faults.{TakesFront}
-use Rattle.sbe_layout.specs.declared.plan.Plan.{Plan}
 use Rattle.jr_record.specs.declared.record.Record.{Record}
+use Rattle.jr_record.specs.Images.{gated}
 use Rattle.jr_record.specs.declared.faults.OpenFault.{OpenFault}
 use Rattle.jr_record.specs.declared.faults.OpenFault.TheVariants as faults
 use Rattle.jr_dated.specs.declared.formats.Format.{Format}
 use Rattle.jr_dated.specs.declared.formats.Format.TheVariants.{Two}
 use Rattle.jr_dated.specs.Dated.{Dated, stamped}
+use Rattle.jr_dated.specs.Formats.{header_of, LegalIn, spelled_in}
 use Rattle.jr_stream.specs.Images.{BeginsWith, HasRecords}
 use Rattle.jr_stream.specs.Reading.{Reading, HasTaken, IsUnread, Refuses}
 use Rattle.jr_stream.specs.declared.reader.End.{End}
 use Rattle.jr_stream.specs.declared.reader.End.TheVariants as ends
 use Rattle.jr_stream.proofs.Taking.{begins}
-use Rattle.jr_shown.specs.declared.choice.Choice.{Choice}
 use Rattle.jr_shown.specs.declared.choice.Start.{Start}
 use Rattle.jr_shown.specs.declared.choice.Style.{Style}
 use Rattle.cmd_show.specs.declared.outcome.Outcome.{Outcome}
 use Rattle.cmd_show.specs.declared.outcome.Outcome.TheVariants as outcomes
-use Rattle.cmd_show.specs.declared.outcome.Origin.TheVariants.{Schema, Ahead, Journal}
+use Rattle.cmd_show.specs.declared.outcome.Origin.TheVariants.{Journal}
 use Rattle.jr_shown.specs.declared.shower.Shower.{Shower}
 use Rattle.jr_shown.specs.Shown.{IsStart, end_in, records_shown, shown}
-use Rattle.jr_shown.specs.Progress.{IsNew, Takes}
+use Rattle.jr_shown.specs.Progress.{IsNew}
 use Rattle.cmd_show.specs.Promise.{Asked, GaveAll, GaveFront, GaveSome, Gave}
-use Rattle.cmd_show.specs.Progress.{Adds, AfterRound, Finished, Finishes, HasShown, IsEnd, KeepsTo, Stands, Streams, outcome_of, unread_by}
-use Rattle.cmd_show.proofs.Going.{no_front, shown_none, shown_so_far, shown_all, shown_part}
+use Rattle.cmd_show.specs.Progress.{Adds, Ended, Finishes, KeepsTo, Stands, Streams, outcome_of, unread_by}
+use Rattle.cmd_show.proofs.Going.{shown_none, shown_so_far, shown_all, shown_part, shown_partly}
 
 pub keeps_self : (out : Option (List ℕ)) → Keeps out out
 keeps_self None = tt
@@ -53,26 +54,32 @@ so_far asked start before now r s t e =
 
 -- ---- a round
 
--- a record was taken
-pub after_record : (asked : Asked) (start : Start) (before : Streams) (journal left out new : Option (List ℕ)) (r next : Reading) (s more : Shower) (what : Record) (moment : ℕ) (o : Option Outcome)
+-- a record was taken and shown
+pub stands_more : (asked : Asked) (start : Start) (before : Streams) (journal left out new : Option (List ℕ)) (r next : Reading) (s more : Shower) (what : Record) (moment : ℕ)
     → (t : Stands asked start before (record { journal = journal; out = out }) r s) → HasTaken before.journal left (t.records ++ stamped moment what ∷ []) next → next.format ≡ r.format
-    → Adds asked.plan (stamped moment what) out new s more o → AfterRound asked start before (record { journal = left; out = new }) next more o
-after_record asked start before journal left out new r next s more what moment None t taken same adds = record {
+    → Adds asked.plan (stamped moment what) out new s more None → Stands asked start before (record { journal = left; out = new }) next more
+stands_more asked start before journal left out new r next s more what moment t taken same adds = record {
   is_start = t.is_start;
   format = same ∙ t.format;
   records = t.records ++ stamped moment what ∷ [];
   taken = taken;
   showing = adds asked.choice.style start asked.choice.most t.records before.out t.showing;
 }
-after_record asked start before journal left out new r next s more what moment (Some outcomes.OutputFault) t taken same adds = λ e.
+
+-- or it was not
+pub after_record : (asked : Asked) (start : Start) (before : Streams) (journal left out new : Option (List ℕ)) (r next : Reading) (s more : Shower) (what : Record) (moment : ℕ) (o : Outcome)
+    → (t : Stands asked start before (record { journal = journal; out = out }) r s) → HasTaken before.journal left (t.records ++ stamped moment what ∷ []) next → next.format ≡ r.format
+    → Adds asked.plan (stamped moment what) out new s more (Some o) → KeepsTo asked before (record { journal = left; out = new }) o
+after_record asked start before journal left out new r next s more what moment outcomes.OutputFault t taken same adds = λ e.
     inl (some asked start before.journal left left (t.records ++ stamped moment what ∷ []) next before.out new t.is_start (same ∙ t.format) taken e (adds asked.choice.style start asked.choice.most t.records before.out t.showing))
-after_record asked start before journal left out new r next s more what moment (Some outcomes.Memory) t taken same adds = λ e.
+after_record asked start before journal left out new r next s more what moment outcomes.Memory t taken same adds = λ e.
     inr (subst (GaveSome asked before.out) (sym adds) (so_far asked start before (record { journal = journal; out = out }) r s t e))
-after_record asked start before journal left out new r next s more what moment (Some outcomes.Done) t taken same adds = absurd adds
-after_record asked start before journal left out new r next s more what moment (Some (outcomes.Config fault)) t taken same adds = absurd adds
-after_record asked start before journal left out new r next s more what moment (Some (outcomes.InputFault origin)) t taken same adds = absurd adds
-after_record asked start before journal left out new r next s more what moment (Some (outcomes.NotFormatted origin)) t taken same adds = absurd adds
-after_record asked start before journal left out new r next s more what moment (Some (outcomes.Damaged at)) t taken same adds = absurd adds
+after_record asked start before journal left out new r next s more what moment outcomes.Done t taken same adds = absurd adds
+after_record asked start before journal left out new r next s more what moment (outcomes.Config fault) t taken same adds = absurd adds
+after_record asked start before journal left out new r next s more what moment (outcomes.InputFault origin) t taken same adds = absurd adds
+after_record asked start before journal left out new r next s more what moment (outcomes.NotFormatted origin) t taken same adds = absurd adds
+after_record asked start before journal left out new r next s more what moment (outcomes.Damaged at) t taken same adds = absurd adds
+after_record asked start before journal left out new r next s more what moment (outcomes.Changed at) t taken same adds = absurd adds
 
 -- all lines of these records, and of this end, were given
 all : (asked : Asked) (start : Start) (records : List Dated) (end : End) (out new : Option (List ℕ)) → IsStart asked.choice.begin asked.ahead start → HasRecords Two asked.image records end
@@ -83,36 +90,79 @@ all asked start records end out new is_start has gained = record {
   gained = gained;
 }
 
-module _ (asked : Asked) (start : Start) (before : Streams) (journal out new : Option (List ℕ)) (r : Reading) (s : Shower) (t : Stands asked start before (record { journal = journal; out = out }) r s) where
-  -- the end was reached, and what waited was pushed with its line
-  ended : (end : End) → HasRecords Two asked.image t.records end → Appends out new (s.lines.items ++ end_in asked.choice.style end) → GaveAll asked end before.out new
-  ended end has gained =
-      all asked start t.records end before.out new t.is_start has (shown_all asked.choice.style asked.plan start asked.choice.most t.records before.out out new s end t.showing gained)
+-- the journal begins with all its records
+pub front_of_end : (image : List ℕ) (records : List Dated) (end : End) → HasRecords Two image records end → BeginsWith Two image records
+front_of_end image records (ends.Closed at) has = record { legal = has.0.legal; behind = has.0.closed ∷ has.0.behind; whole = has.0.whole }
+front_of_end image records (ends.Damaged at) has = record {
+  legal = subst (λ (h : List Dated). AllByRecursion (LegalIn Two) h) has.0.records_are has.0.damaged.legal;
+  behind = has.0.damaged.rest;
+  whole = has.0.damaged.whole ∙ ap (λ (h : List Dated). header_of Two ++ gated (spelled_in Two) h ++ has.0.damaged.rest) has.0.records_are;
+}
 
-  finished : (end : End) (o : Outcome) → HasRecords Two asked.image t.records end → Finished asked.choice.style end s.lines.items out new o → o ≡ outcome_of end → Gave asked before.out new o
-  finished (ends.Closed at) o has f is = subst (Gave asked before.out new) (sym is) (at, ended (ends.Closed at) has f.gained)
-  finished (ends.Damaged at) o has f is = subst (Gave asked before.out new) (sym is) (ended (ends.Damaged at) has f.gained)
+-- it was not read on
+pub after_unread : (asked : Asked) (start : Start) (before : Streams) (journal out : Option (List ℕ)) (r : Reading) (s : Shower) → Stands asked start before (record { journal = journal; out = out }) r s → (fault : OpenFault)
+    → IsUnread fault → before.journal ≡ Some asked.image → Gave asked before.out out (unread_by Journal fault)
+after_unread asked start before journal out r s t faults.Memory is e = inr (so_far asked start before (record { journal = journal; out = out }) r s t e)
+after_unread asked start before journal out r s t faults.Fault is e = inr (so_far asked start before (record { journal = journal; out = out }) r s t e)
+after_unread asked start before journal out r s t faults.NotFormatted is e = absurd is
+after_unread asked start before journal out r s t (faults.Damaged at) is e = absurd is
 
-  pub after_end : (end : End) (o : Outcome) → HasRecords Two asked.image t.records end → before.journal ≡ Some asked.image → Finishes asked.choice.style end s.lines.items out new o → Gave asked before.out new o
-  after_end end outcomes.Done has e f = finished end outcomes.Done has f f.outcome_is
-  after_end end (outcomes.Damaged at) has e f = finished end (outcomes.Damaged at) has f f.outcome_is
-  after_end end outcomes.OutputFault has e f = inr (record {
+-- the end was reached
+pub ended_now : (asked : Asked) (start : Start) (before : Streams) (journal out : Option (List ℕ)) (r : Reading) (s : Shower) (end : End) → (t : Stands asked start before (record { journal = journal; out = out }) r s)
+    → (format : Format) → format ≡ Two → ForSome before.journal (λ image. HasRecords format image t.records end) → Ended asked start before out end s
+ended_now asked start before journal out r s end t format is has = record {
+  is_start = t.is_start;
+  records = t.records;
+  has = subst (λ (f : Format). ForSome before.journal (λ image. HasRecords f image t.records end)) is has;
+  showing = t.showing;
+}
+
+module _ (asked : Asked) (start : Start) (before : Streams) (out new : Option (List ℕ)) (s : Shower) (end : End) (t : Ended asked start before out end s) (e : before.journal ≡ Some asked.image) where
+  -- what waits was pushed with the line of the end
+  pub ended : Appends out new (s.lines.items ++ end_in asked.choice.style end) → GaveAll asked end before.out new
+  ended gained =
+      all asked start t.records end before.out new t.is_start (t.has asked.image e) (shown_all asked.choice.style asked.plan start asked.choice.most t.records before.out out new s end t.showing gained)
+
+  -- nothing of it was
+  pub ended_so_far : GaveSome asked before.out out
+  ended_so_far = record {
+    lines = records_shown asked.choice.style asked.plan start asked.choice.most t.records;
+    shows = record { start = start; is_start = t.is_start; records = t.records; front = front_of_end asked.image t.records end (t.has asked.image e); lines_are = refl };
+    gained = shown_so_far asked.choice.style asked.plan start asked.choice.most t.records before.out out s t.showing;
+  }
+
+  -- a front of what waits was pushed
+  pub ended_partly : TakesFront out new s.lines.items → GaveSome asked before.out new
+  ended_partly front = record {
+    lines = records_shown asked.choice.style asked.plan start asked.choice.most t.records;
+    shows = record { start = start; is_start = t.is_start; records = t.records; front = front_of_end asked.image t.records end (t.has asked.image e); lines_are = refl };
+    gained = shown_partly asked.choice.style asked.plan start asked.choice.most t.records before.out out new s t.showing front;
+  }
+
+  -- a front of it and of the line of the end
+  pub ended_front : TakesFront out new (s.lines.items ++ end_in asked.choice.style end) → GaveFront asked before.out new
+  ended_front front = record {
     end = end;
     lines = shown asked.choice.style asked.plan start asked.choice.most t.records end;
-    shows = record { start = start; is_start = t.is_start; records = t.records; has = has; lines_are = refl };
-    gained = shown_part asked.choice.style asked.plan start asked.choice.most t.records before.out out new s end t.showing f;
-  })
-  after_end end outcomes.Memory has e f = inr (subst (GaveSome asked before.out) (sym f) (so_far asked start before (record { journal = journal; out = out }) r s t e))
-  after_end end (outcomes.Config fault) has e f = absurd f
-  after_end end (outcomes.InputFault origin) has e f = absurd f
-  after_end end (outcomes.NotFormatted origin) has e f = absurd f
+    shows = record { start = start; is_start = t.is_start; records = t.records; has = t.has asked.image e; lines_are = refl };
+    gained = shown_part asked.choice.style asked.plan start asked.choice.most t.records before.out out new s end t.showing front;
+  }
 
-  -- it was not read on
-  pub after_unread : (fault : OpenFault) → IsUnread fault → before.journal ≡ Some asked.image → Gave asked before.out out (unread_by Journal fault)
-  after_unread faults.Memory is e = inr (so_far asked start before (record { journal = journal; out = out }) r s t e)
-  after_unread faults.Fault is e = inr (so_far asked start before (record { journal = journal; out = out }) r s t e)
-  after_unread faults.NotFormatted is e = absurd is
-  after_unread (faults.Damaged at) is e = absurd is
+-- how a run ends at the end of the records
+pub after_end : (asked : Asked) (start : Start) (before : Streams) (out new : Option (List ℕ)) (s : Shower) (end : End) (o : Outcome) → Ended asked start before out end s → before.journal ≡ Some asked.image
+    → Finishes asked.choice.style end s.lines.items out new o → Gave asked before.out new o
+after_end asked start before out new s (ends.Closed at) outcomes.Done t e f = (at, ended asked start before out new s (ends.Closed at) t e f.gained)
+after_end asked start before out new s (ends.Damaged at) outcomes.Done t e f = absurd (cc (f.outcome_is))
+after_end asked start before out new s (ends.Closed place) (outcomes.Damaged at) t e f = absurd (cc (f.outcome_is))
+after_end asked start before out new s (ends.Damaged place) (outcomes.Damaged at) t e f =
+    let same : at ≡ place = cc (f.outcome_is) in
+    subst (λ (n : ℕ). GaveAll asked (ends.Damaged n) before.out new) (sym same) (ended asked start before out new s (ends.Damaged place) t e f.gained)
+after_end asked start before out new s end outcomes.OutputFault t e f = inr (ended_front asked start before out new s end t e f)
+after_end asked start before out new s end outcomes.Memory t e f = inr (subst (GaveSome asked before.out) (sym f) (ended_so_far asked start before out new s end t e))
+after_end asked start before out new s end (outcomes.Config fault) t e f = absurd f
+after_end asked start before out new s end (outcomes.InputFault origin) t e f = absurd f
+after_end asked start before out new s end (outcomes.NotFormatted origin) t e f = absurd f
+after_end asked start before out new s end (outcomes.Changed at) t e f = absurd f
 
 -- what waited was pushed with the line of the end
 pub finishes : (style : Style) (end : End) (waits : List ℕ) (out new : Option (List ℕ)) (o : Outcome) → o ≡ outcome_of end → Appends out new (waits ++ end_in style end) → Finishes style end waits out new o

@@ -1,5 +1,6 @@
 -- How far a showing has come. These are steps of the proof: nothing that a user relies on needs them.
-use Rattle.std.specs.Prelude.{◌≡◌, ⊤, ℕ, Option, Some, None, List, [], ◌∷◌, ◌++◌}
+use Rattle.std.specs.Prelude.{◌≡◌, ⊤, ℕ, Bool, false, Option, Some, None, Result, Ok, Err, List, [], ◌∷◌, ◌++◌}
+use Rattle.std.specs.Option.{ForSome}
 use Rattle.std.specs.Io.KnownBytes.{Appends}
 use Rattle.gw_outside.specs.Faults.{TakesFront}
 use Rattle.jr_record.specs.declared.faults.OpenFault.{OpenFault}
@@ -7,6 +8,7 @@ use Rattle.jr_record.specs.declared.faults.OpenFault.TheVariants as faults
 use Rattle.sbe_layout.specs.declared.plan.Plan.{Plan}
 use Rattle.jr_dated.specs.declared.formats.Format.TheVariants.{Two}
 use Rattle.jr_dated.specs.Dated.{Dated}
+use Rattle.jr_stream.specs.Images.{BeginsWith, HasRecords, place_behind}
 use Rattle.jr_stream.specs.Reading.{Reading, HasTaken}
 use Rattle.jr_stream.specs.declared.reader.End.{End}
 use Rattle.jr_stream.specs.declared.reader.End.TheVariants as ends
@@ -20,7 +22,7 @@ use Rattle.cmd_show.specs.declared.outcome.Origin.TheVariants.{Schema, Ahead, Jo
 use Rattle.jr_shown.specs.declared.shower.Shower.{Shower}
 use Rattle.jr_shown.specs.Shown.{IsStart, end_in, records_shown}
 use Rattle.jr_shown.specs.Progress.{goes_on}
-use Rattle.cmd_show.specs.Promise.{Asked, Gave}
+use Rattle.cmd_show.specs.Promise.{Asked, Gave, GaveFollowing}
 
 -- ---- records, one after another
 
@@ -94,10 +96,30 @@ pub record Stands (asked : Asked) (start : Start) (before now : Streams) (r : Re
   pub taken : HasTaken before.journal now.journal records r
   pub showing : HasShown asked.choice.style asked.plan start asked.choice.most records before.out now.out s
 
--- what a round leaves: it goes on, or the promise is kept
-abbrev pub AfterRound : Asked → Start → Streams → Streams → Reading → Shower → Option Outcome → Type 0
-AfterRound asked start before now r s None = Stands asked start before now r s
-AfterRound asked start before now r s (Some outcome) = KeepsTo asked before now outcome
+-- all records of the journal were taken and shown, but for the lines that wait, and this is their end
+pub record Ended (asked : Asked) (start : Start) (before : Streams) (out : Option (List ℕ)) (end : End) (s : Shower) : Type 0 where
+  pub is_start : IsStart asked.choice.begin asked.ahead start
+  pub records : List Dated
+  pub has : ForSome before.journal (λ image. HasRecords Two image records end)
+  pub showing : HasShown asked.choice.style asked.plan start asked.choice.most records before.out out s
+
+-- what a round leaves: it goes on, or the end was reached, or the promise is kept
+abbrev pub AfterRound : Asked → Start → Streams → Streams → Reading → Shower → Result (Option End) Outcome → Type 0
+AfterRound asked start before now r s (Ok None) = Stands asked start before now r s
+AfterRound asked start before now r s (Ok (Some end)) = Ended asked start before now.out end s
+AfterRound asked start before now r s (Err outcome) = KeepsTo asked before now outcome
+
+-- what all rounds leave
+abbrev pub AfterAll : Asked → Start → Streams → Streams → Shower → Result End Outcome → Type 0
+AfterAll asked start before now s (Ok end) = Ended asked start before now.out end s
+AfterAll asked start before now s (Err outcome) = KeepsTo asked before now outcome
+
+-- the outcomes of a reading that did not come to the end
+abbrev pub IsReadsEnd : Outcome → Type 0
+IsReadsEnd (outcomes.InputFault Journal) = ⊤
+IsReadsEnd outcomes.OutputFault = ⊤
+IsReadsEnd outcomes.Memory = ⊤
+IsReadsEnd _ = ⊥
 
 -- the outcomes of a run that came to show records
 abbrev pub IsEnd : Outcome → Type 0
@@ -115,4 +137,56 @@ IsLate (outcomes.NotFormatted _) = ⊥
 IsLate (outcomes.Config fault) = ⊥
 IsLate (outcomes.InputFault Schema) = ⊥
 IsLate (outcomes.InputFault Ahead) = ⊥
+IsLate (outcomes.Changed at) = ⊥
 IsLate _ = ⊤
+
+-- ---- a journal that is followed
+
+-- what it told when it was looked at last, whether it was seen to change, and what OUT has taken
+pub record Followed : Type 0 where
+  pub told : Option (List ℕ)
+  pub has_changed : Bool
+  pub out : Option (List ℕ)
+
+-- its content begins with records that were taken and shown, but for the lines that wait, and the reading goes on at this place behind them
+pub record Waits (asked : Asked) (start : Start) (before now : Option (List ℕ)) (at : ℕ) (s : Shower) : Type 0 where
+  pub is_start : IsStart asked.choice.begin asked.ahead start
+  pub records : List Dated
+  pub front : BeginsWith Two asked.image records
+  pub place : at ≡ place_behind Two records
+  pub showing : HasShown asked.choice.style asked.plan start asked.choice.most records before now s
+
+-- so it is with the content that it told, if it never changed
+abbrev pub Goes : Plan → Choice → List ℕ → Start → Option (List ℕ) → Followed → ℕ → Shower → Type 0
+Goes plan choice ahead start before f at s = (image : List ℕ) → f.told ≡ Some image → f.has_changed ≡ false → Waits (asked_by plan choice ahead image) start before f.out at s
+
+-- and so is the promise kept
+abbrev pub Keeps : Plan → Choice → List ℕ → Option (List ℕ) → Followed → Outcome → Type 0
+Keeps plan choice ahead before f outcome = (image : List ℕ) → f.told ≡ Some image → f.has_changed ≡ false → GaveFollowing (asked_by plan choice ahead image) before f.out outcome
+
+-- what a look leaves: the end of the records that stood there, or how the run ends
+abbrev pub AfterLook : Plan → Choice → List ℕ → Start → Option (List ℕ) → Followed → Shower → Result End Outcome → Type 0
+AfterLook plan choice ahead start before f s (Ok end) =
+    (image : List ℕ) → f.told ≡ Some image → f.has_changed ≡ false → Ended (asked_by plan choice ahead image) start (record { journal = Some image; out = before }) f.out end s
+AfterLook plan choice ahead start before f s (Err outcome) = Keeps plan choice ahead before f outcome
+
+-- what a look and its lines leave: the place at which the next one goes on, or how the run ends
+abbrev pub AfterTurn : Plan → Choice → List ℕ → Start → Option (List ℕ) → Followed → Shower → Result ℕ Outcome → Type 0
+AfterTurn plan choice ahead start before f s (Ok at) = Goes plan choice ahead start before f at s
+AfterTurn plan choice ahead start before f s (Err outcome) = Keeps plan choice ahead before f outcome
+
+-- the outcomes of a look
+abbrev pub IsLooksEnd : Outcome → Type 0
+IsLooksEnd (outcomes.Changed at) = ⊤
+IsLooksEnd outcome = IsReadsEnd outcome
+
+-- those of a turn
+abbrev pub IsTurnsEnd : Outcome → Type 0
+IsTurnsEnd outcomes.Done = ⊤
+IsTurnsEnd (outcomes.Damaged at) = ⊤
+IsTurnsEnd outcome = IsLooksEnd outcome
+
+-- and those of a run that came to look at the journal
+abbrev pub IsLateFollowing : Outcome → Type 0
+IsLateFollowing (outcomes.Changed at) = ⊤
+IsLateFollowing outcome = IsLate outcome

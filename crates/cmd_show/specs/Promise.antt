@@ -1,5 +1,5 @@
 -- What `show` promises of OUT, and what its outcome says of SCHEMA and of JOURNAL (this project's profile).
-use Rattle.std.specs.Prelude.{◌≡◌, ⊤, ◌⊎◌, ℕ, List, codes, Option, Some, Result, Err, IsOk}
+use Rattle.std.specs.Prelude.{◌≡◌, ⊤, ◌⊎◌, ℕ, List, ◌++◌, codes, Option, Result, Err, IsOk}
 use Rattle.std.specs.Io.KnownBytes.{Appends, Keeps}
 use Rattle.gw_outside.specs.Faults.{TakesFront}
 use Rattle.schema_toml.specs.declared.fault.ConfigFault.{ConfigFault}
@@ -25,6 +25,7 @@ code_of (outcomes.InputFault origin) = 3
 code_of outcomes.OutputFault = 4
 code_of (outcomes.NotFormatted origin) = 6
 code_of (outcomes.Damaged at) = 6
+code_of (outcomes.Changed at) = 6
 code_of outcomes.Memory = 14
 
 abbrev pub name_of : Outcome → List ℕ
@@ -34,6 +35,7 @@ name_of (outcomes.InputFault origin) = codes "input-fault"
 name_of outcomes.OutputFault = codes "output-fault"
 name_of (outcomes.NotFormatted origin) = codes "journal-bad"
 name_of (outcomes.Damaged at) = codes "journal-bad"
+name_of (outcomes.Changed at) = codes "journal-bad"
 name_of outcomes.Memory = codes "memory"
 
 -- ---- SCHEMA
@@ -127,3 +129,23 @@ Gave asked before after (outcomes.InputFault _) = Keeps before after
 Gave asked before after outcomes.OutputFault = GaveSome asked before after ⊎ GaveFront asked before after
 Gave asked before after outcomes.Memory = Keeps before after ⊎ GaveSome asked before after
 Gave asked before after (outcomes.Config fault) = ⊥
+Gave asked before after (outcomes.Changed at) = ⊥
+
+-- ---- a journal that is followed
+
+-- behind these records no other is shown: COUNT were
+abbrev pub IsFull : Asked → Start → List Dated → Type 0
+IsFull asked start records = (more : List Dated)
+    → records_shown asked.choice.style asked.plan start asked.choice.most (records ++ more) ≡ records_shown asked.choice.style asked.plan start asked.choice.most records
+
+-- OUT gained all lines, and no record that comes would be shown
+pub record GaveFull (asked : Asked) (before after : Option (List ℕ)) : Type 0 where
+  pub at : ℕ
+  pub gave : GaveAll asked (ends.Closed at) before after
+  pub full : IsFull asked gave.shows.start gave.shows.records
+
+-- what an outcome says of OUT and of a journal that was followed, where the content that it told last is the one asked of, and nothing in front
+-- of the places where the reading stopped ever changed
+abbrev pub GaveFollowing : Asked → Option (List ℕ) → Option (List ℕ) → Outcome → Type 0
+GaveFollowing asked before after outcomes.Done = GaveFull asked before after
+GaveFollowing asked before after outcome = Gave asked before after outcome

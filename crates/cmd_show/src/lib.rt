@@ -3,8 +3,9 @@
 #![tactic(auto)]
 
 mod command;
+mod follow;
 mod outcome;
 mod stream;
 
-pub use command::{ShowDevices, run_show};
+pub use command::{FollowDevices, ShowDevices, run_follow, run_show};
 pub use outcome::{Origin, Outcome};

@@ -37,6 +37,9 @@ pub enum Outcome {
     /// No record and no end of the records stands at this place; what stands before it was written.
     #[error("journal: no record and no end of the records stands at byte {at}")]
     Damaged { at: u64 },
+    /// Of a journal that is followed: other bytes stand in front of this place, up to which it was read, than stood there before.
+    #[error("journal: other bytes stand in front of byte {at} than before")]
+    Changed { at: u64 },
     /// Want of memory.
     #[error("out of memory")]
     Memory,
@@ -54,7 +57,7 @@ impl Outcome {
             Outcome::Config(_) => 2,
             Outcome::InputFault { .. } => 3,
             Outcome::OutputFault => 4,
-            Outcome::NotFormatted { .. } | Outcome::Damaged { .. } => 6,
+            Outcome::NotFormatted { .. } | Outcome::Damaged { .. } | Outcome::Changed { .. } => 6,
             Outcome::Memory => 14,
         }
     }
@@ -68,7 +71,9 @@ impl Outcome {
             Outcome::Config(_) => "config",
             Outcome::InputFault { .. } => "input-fault",
             Outcome::OutputFault => "output-fault",
-            Outcome::NotFormatted { .. } | Outcome::Damaged { .. } => "journal-bad",
+            Outcome::NotFormatted { .. } | Outcome::Damaged { .. } | Outcome::Changed { .. } => {
+                "journal-bad"
+            }
             Outcome::Memory => "memory",
         }
     }

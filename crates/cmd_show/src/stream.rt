@@ -1,6 +1,6 @@
 //! The records of JOURNAL, shown one after another: their lines are pushed in pieces.
 
-ghost use Rattle.std.specs.Prelude.{◌≡◌, ◌≤◌, ℕ, List, [], IfSome, OnOk, OnErr};
+ghost use Rattle.std.specs.Prelude.{◌≡◌, ◌≤◌, ℕ, List, [], IfSome, IfErr, OnOk, OnErr};
 ghost use Rattle.std.specs.Io.KnownBytes.{Appends};
 ghost use Rattle.gw_outside.specs.Faults.{HasCause, HasRisen, TakesFront};
 ghost use Rattle.sbe_layout.specs.Legal.{LegalPlan};
@@ -9,7 +9,7 @@ ghost use Rattle.jr_shown.specs.Shown.{IsStart};
 ghost use Rattle.jr_shown.specs.declared.choice.Choice as choices;
 ghost use Rattle.jr_shown.specs.declared.choice.Start as starts;
 ghost use Rattle.cmd_show.specs.Promise.{SparesOut};
-ghost use Rattle.cmd_show.specs.Progress.{Adds, AfterRound, Finishes, IsEnd, IsLate, KeepsTo, Pushes, Stands, Streams, asked_by, outcome_of, unread_by};
+ghost use Rattle.cmd_show.specs.Progress.{Adds, AfterAll, AfterRound, Finishes, IsLate, IsReadsEnd, KeepsTo, Pushes, Stands, Streams, asked_by, outcome_of, unread_by};
 
 use crate::outcome::{Origin, Outcome};
 use cmd_base::begin;
@@ -59,6 +59,18 @@ fn push_lines<K: Sink>(lines: &mut Vec<u8>, out: &mut K) -> Result<(), Failed>
     Ok(())
 }
 
+/// Pushes what waits of a showing.
+pub(crate) fn push_waiting<K: Sink>(shower: &mut Shower, out: &mut K) -> Result<(), Failed>
+    ensures ok { OnOk result (Pushes (K.taken out.old) (K.taken out.new) shower.old shower.new) }
+    ensures err { OnErr result (TakesFront (K.taken out.old) (K.taken out.new) shower.old.lines.items) }
+    ensures emptied { OnOk result (shower.new.lines.items ≡ []) }
+    ensures left { shower.new.left ≡ shower.old.left }
+    ensures cause { HasCause (K.faults out.old) (K.faults out.new) result }
+{
+    push_lines(&mut shower.lines, out)?;
+    Ok(())
+}
+
 /// Pushes the lines that wait, where they are enough for a piece.
 fn push_piece<K: Sink>(shower: &mut Shower, out: &mut K) -> Result<(), Failed>
     ensures ok { OnOk result (Pushes (K.taken out.old) (K.taken out.new) shower.old shower.new) }
@@ -68,8 +80,7 @@ fn push_piece<K: Sink>(shower: &mut Shower, out: &mut K) -> Result<(), Failed>
     if shower.lines.len() < PIECE {
         return Ok(());
     }
-    push_lines(&mut shower.lines, out)?;
-    Ok(())
+    push_waiting(shower, out)
 }
 
 /// Shows the next record.
@@ -97,7 +108,7 @@ fn take_record<K: Sink>(
 }
 
 /// Shows the end, behind the lines that wait.
-fn finish<K: Sink>(alloc: Global, shower: &mut Shower, end: End, out: &mut K) -> Outcome
+pub(crate) fn finish<K: Sink>(alloc: Global, shower: &mut Shower, end: End, out: &mut K) -> Outcome
     ensures finishes { Finishes shower.old.style end shower.old.lines.items (K.taken out.old) (K.taken out.new) result }
     ensures counted { K.faults out.old ≤ K.faults out.new }
     ensures cause { result ≡ Outcome.OutputFault → HasRisen (K.faults out.old) (K.faults out.new) }
@@ -111,8 +122,11 @@ fn finish<K: Sink>(alloc: Global, shower: &mut Shower, end: End, out: &mut K) ->
     }
 }
 
-/// Shows the next record, or the end; or how the run ends.
-#[tactic(auto, using(crate::proofs::Judging::adds_end, crate::proofs::Judging::adds_input, crate::proofs::Judging::finishes_end, crate::proofs::Judging::finishes_input, crate::proofs::Judging::unread_end, crate::proofs::Judging::unread_cause, crate::proofs::Judging::unread_output))]
+/// Shows the next record, or answers the end of them.
+///
+/// # Errors
+/// How the run ends.
+#[tactic(auto, using(crate::proofs::Judging::adds_end, crate::proofs::Judging::adds_input, crate::proofs::Judging::unread_end, crate::proofs::Judging::unread_cause, crate::proofs::Judging::unread_output))]
 fn round<S: Source, K: Sink>(
     alloc: Global,
     plan: &Plan,
@@ -120,26 +134,66 @@ fn round<S: Source, K: Sink>(
     shower: &mut Shower,
     journal: &mut S,
     out: &mut K,
-) -> Option<Outcome>
+) -> Result<Option<End>, Outcome>
     requires { LegalPlan plan.now }
     ensures after { (choice : choices.Choice) (ahead image : List ℕ) (start : starts.Start) (before : Streams)
         → Stands (asked_by plan.now choice ahead image) start before (record { journal = S.left journal.old; out = K.taken out.old }) reader.old shower.old
         → AfterRound (asked_by plan.now choice ahead image) start before (record { journal = S.left journal.new; out = K.taken out.new }) reader.new shower.new result }
-    ensures end { IfSome result IsEnd }
+    ensures format { OnOk result (reader.new.format ≡ reader.old.format) }
+    ensures end { IfErr result IsReadsEnd }
     ensures journal_counted { S.faults journal.old ≤ S.faults journal.new }
     ensures out_counted { K.faults out.old ≤ K.faults out.new }
-    ensures journal_cause { IfSome result (λ outcome. outcome ≡ Outcome.InputFault Origin.Journal → HasRisen (S.faults journal.old) (S.faults journal.new)) }
-    ensures out_cause { IfSome result (λ outcome. outcome ≡ Outcome.OutputFault → HasRisen (K.faults out.old) (K.faults out.new)) }
+    ensures journal_cause { IfErr result (λ outcome. outcome ≡ Outcome.InputFault Origin.Journal → HasRisen (S.faults journal.old) (S.faults journal.new)) }
+    ensures out_cause { IfErr result (λ outcome. outcome ≡ Outcome.OutputFault → HasRisen (K.faults out.old) (K.faults out.new)) }
 {
     match reader.next(alloc, journal) {
-        Ok(Found::Record(what, moment)) => take_record(alloc, plan, shower, &what, moment, out),
-        Ok(Found::End(end)) => Some(finish(alloc, shower, end, out)),
-        Err(fault) => Some(unread(Origin::Journal, fault)),
+        Ok(Found::Record(what, moment)) => {
+            match take_record(alloc, plan, shower, &what, moment, out) {
+                None => Ok(None),
+                Some(outcome) => Err(outcome),
+            }
+        }
+        Ok(Found::End(end)) => Ok(Some(end)),
+        Err(fault) => Err(unread(Origin::Journal, fault)),
     }
 }
 
+/// Shows the records of a journal up to their end, but for the lines that wait then.
+///
+/// # Errors
+/// How the run ends.
+pub(crate) fn show_to_end<R: Wait, S: Source, K: Sink>(
+    rt: &R,
+    alloc: Global,
+    plan: &Plan,
+    reader: &mut RecordReader,
+    shower: &mut Shower,
+    journal: &mut S,
+    out: &mut K,
+) -> Result<End, Outcome>
+    requires { LegalPlan plan.now }
+    ensures after { (choice : choices.Choice) (ahead image : List ℕ) (start : starts.Start) (before : Streams)
+        → Stands (asked_by plan.now choice ahead image) start before (record { journal = S.left journal.old; out = K.taken out.old }) reader.old shower.old
+        → AfterAll (asked_by plan.now choice ahead image) start before (record { journal = S.left journal.new; out = K.taken out.new }) shower.new result }
+    ensures format { OnOk result (reader.new.format ≡ reader.old.format) }
+    ensures end { IfErr result IsReadsEnd }
+    ensures journal_counted { S.faults journal.old ≤ S.faults journal.new }
+    ensures out_counted { K.faults out.old ≤ K.faults out.new }
+    ensures journal_cause { IfErr result (λ outcome. outcome ≡ Outcome.InputFault Origin.Journal → HasRisen (S.faults journal.old) (S.faults journal.new)) }
+    ensures out_cause { IfErr result (λ outcome. outcome ≡ Outcome.OutputFault → HasRisen (K.faults out.old) (K.faults out.new)) }
+{
+    for _ in rt.forever() {
+        match round(alloc, plan, reader, shower, journal, out) {
+            Ok(None) => {}
+            Ok(Some(end)) => return Ok(end),
+            Err(outcome) => return Err(outcome),
+        }
+    }
+    unreachable!()
+}
+
 /// Shows the records of a journal from the start on, and its end. The output is begun once the header was read.
-#[tactic(auto, using(crate::proofs::Judging::unread_late, crate::proofs::Judging::unread_cause, crate::proofs::Judging::unread_output))]
+#[tactic(auto, using(crate::proofs::Judging::unread_late, crate::proofs::Judging::unread_cause, crate::proofs::Judging::unread_output, crate::proofs::Judging::finishes_end, crate::proofs::Judging::finishes_input, crate::proofs::Judging::reads_end, crate::proofs::Judging::end_late, crate::proofs::Judging::end_spares))]
 pub(crate) fn show_records<R: Wait, S: Source, K: Sink>(
     rt: &R,
     alloc: Global,
@@ -168,11 +222,8 @@ pub(crate) fn show_records<R: Wait, S: Source, K: Sink>(
         return Outcome::OutputFault;
     };
     let mut shower = Shower::new(alloc, choice.style, start, choice.most);
-    for _ in rt.forever() {
-        match round(alloc, plan, &mut reader, &mut shower, journal, out) {
-            None => {}
-            Some(outcome) => return outcome,
-        }
+    match show_to_end(rt, alloc, plan, &mut reader, &mut shower, journal, out) {
+        Ok(end) => finish(alloc, &mut shower, end, out),
+        Err(outcome) => outcome,
     }
-    unreachable!()
 }

@@ -7,6 +7,7 @@ mod door;
 mod dumping;
 mod extending;
 mod feeding;
+mod following;
 mod muxes;
 mod piped;
 mod planning;

@@ -16,8 +16,10 @@ use json::Writer;
 use sbe_json::write_text;
 use sbe_layout::Plan;
 use std::alloc::{AllocError, Global};
-use std::mem::replace;
 use text_seconds::Seconds;
+
+/// The bytes that there is room for first in the text of an object.
+const OBJECT: usize = 512;
 
 /// Writes the member of a moment.
 fn write_moment(
@@ -148,7 +150,7 @@ fn write_record(
 /// Adds the object of the record of this number, from 1 on, with this moment, in milliseconds since 1970, on a line of its own.
 ///
 /// # Errors
-/// Want of memory; the lines are lost then.
+/// Want of memory.
 pub fn push_object(
     alloc: Global,
     plan: &Plan,
@@ -162,9 +164,11 @@ pub fn push_object(
     requires dated { IsDated (stamped moment what.now) }
     ensures { OnOk result (lines.new.items ≡ lines.old.items ++ record_object plan.now number (stamped moment what.now)) }
 {
-    let mut writer = Writer::new(replace(lines, Vec::new(alloc)));
+    // A writer fills the room that its text has left, so that it has a text of its own and not all the lines.
+    let mut writer = Writer::new(Vec::with_capacity(alloc, OBJECT)?);
     write_record(alloc, &mut writer, plan, seconds, number, moment, what)?;
-    *lines = writer.into_inner();
+    let object = writer.into_inner();
+    lines.extend_from_slice(object.as_slice())?;
     lines.extend_from_slice(b"\n")
 }
 
@@ -184,12 +188,13 @@ fn write_end(writer: &mut Writer, end: End) -> Result<(), AllocError>
 /// Adds the object of the end, on a line of its own.
 ///
 /// # Errors
-/// Want of memory; the lines are lost then.
+/// Want of memory.
 pub fn push_end_object(alloc: Global, end: End, lines: &mut Vec<u8>) -> Result<(), AllocError>
     ensures { OnOk result (lines.new.items ≡ lines.old.items ++ end_object_of end) }
 {
-    let mut writer = Writer::new(replace(lines, Vec::new(alloc)));
+    let mut writer = Writer::new(Vec::new(alloc));
     write_end(&mut writer, end)?;
-    *lines = writer.into_inner();
+    let object = writer.into_inner();
+    lines.extend_from_slice(object.as_slice())?;
     lines.extend_from_slice(b"\n")
 }

@@ -15,7 +15,7 @@ use Rattle.jr_dated.specs.Formats.{header_of, LegalIn, spelled_in, IsJournalIn, 
 use Rattle.jr_dated.proofs.Sizes.{length-header, most_in}
 use Rattle.jr_stream.specs.declared.reader.Found.TheVariants.{Record as Found}
 use Rattle.jr_stream.specs.Images.{counted, place_behind, BeginsWith, IsDamagedBehind}
-use Rattle.jr_stream.specs.Reading.{Reading, HasTaken, IsReady, ReadsOn, Passes, IsNew}
+use Rattle.jr_stream.specs.Reading.{Reading, HasTaken, GoesAgain, IsReady, ReadsOn, Passes, IsNew}
 
 -- ---- lists
 
@@ -246,3 +246,19 @@ begins before now records r h image e =
     let t = told before now h.read image h.consumed e in
     let front = header_of r.format ++ gated (spelled_in r.format) records in
     record { legal = h.legal; behind = r.waiting ++ t.0; whole = t.1 ∙ ap (λ (bs : List ℕ). bs ++ t.0) h.bytes ∙ append_assoc front r.waiting t.0 }
+
+-- they were taken of another image too, by who goes on behind them there
+pub taken_again : (at : ℕ) (r : Reading) → r.waiting ≡ [] → r.place ≡ at → r.is_over ≡ false → GoesAgain at r
+taken_again at r waits is_there goes_on image records b place short =
+    let front = header_of r.format ++ gated (spelled_in r.format) records in
+    let long : at ≡ length front =
+    omega (arith, place, short, ap length b.whole, length-append front b.behind, length-append (header_of r.format) (gated (spelled_in r.format) records)) in
+    let left : drop at image ≡ b.behind = ap (λ (xs : List ℕ). drop at xs) b.whole ∙ drop_at front b.behind at (sym long) in
+    record {
+      legal = b.legal;
+      read = front;
+      consumed = b.whole ∙ ap (λ (xs : List ℕ). front ++ xs) (sym left);
+      bytes = sym (append-nil front) ∙ ap (λ (w : List ℕ). front ++ w) (sym waits);
+      place = is_there ∙ place;
+      over = λ is. absurd (cc (goes_on, is));
+    }

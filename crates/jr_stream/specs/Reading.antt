@@ -1,5 +1,5 @@
 -- How far a journal was read out of a source (this project's journal format).
-use Rattle.std.specs.Prelude.{⊤, ◌≡◌, ◌≢◌, ◌⊎◌, ℕ, ◌+◌, ◌≤◌, Bool, true, Option, List, [], ◌∷◌, ◌++◌, length, drop}
+use Rattle.std.specs.Prelude.{⊤, ◌≡◌, ◌≢◌, ◌⊎◌, ℕ, ◌+◌, ◌≤◌, ◌<◌, ◌^◌, Bool, true, Option, Some, List, [], ◌∷◌, ◌++◌, length, drop}
 use Rattle.std.specs.Option.{ForSome}
 use Rattle.std.specs.List.{AllByRecursion}
 use Rattle.std.specs.Io.KnownBytes.{Consumes, IsAtEnd}
@@ -13,7 +13,7 @@ use Rattle.jr_stream.specs.declared.reader.Found.{Found}
 use Rattle.jr_stream.specs.declared.reader.Found.TheVariants as found
 use Rattle.jr_stream.specs.declared.reader.Front.{Front}
 use Rattle.jr_stream.specs.declared.reader.Front.TheVariants as front
-use Rattle.jr_stream.specs.Images.{counted, place_behind, HasRecords}
+use Rattle.jr_stream.specs.Images.{counted, place_behind, BeginsWith, HasRecords}
 
 -- What a reader shows: the bytes that were read and not taken, the place of the first of these in the journal, and whether the source has
 -- ended
@@ -36,6 +36,11 @@ pub record HasTaken (before now : Option (List ℕ)) (records : List Dated) (r :
 abbrev pub GoesOn : Option (List ℕ) → Option (List ℕ) → List Dated → Reading → Found → Type 0
 GoesOn before now records r (found.Record what moment) = HasTaken before now (records ++ stamped moment what ∷ []) r
 GoesOn before now records r (found.End end) = ForSome before (λ image. HasRecords r.format image records end)
+
+-- of an image that begins with some records, they were taken by who goes on behind them
+abbrev pub GoesAgain : ℕ → Reading → Type 0
+GoesAgain at r = (image : List ℕ) (records : List Dated) → BeginsWith r.format image records → at ≡ place_behind r.format records → length image < 2 ^ 63
+    → HasTaken (Some image) (Some (drop at image)) records r
 
 -- why no journal was found
 abbrev pub Refuses : Format → OpenFault → List ℕ → Type 0

@@ -132,7 +132,7 @@ fn pull_piece<S: Source>(source: &mut S, piece: &mut Vec<u8>) -> Result<usize, F
 }
 
 impl RecordReader {
-    ghost use Rattle.jr_stream.specs.Reading.{GoesOn, HasTaken, IsNew, IsReady, IsUnread, Passes, ReadsOn, Refuses};
+    ghost use Rattle.jr_stream.specs.Reading.{GoesAgain, GoesOn, HasTaken, IsNew, IsReady, IsUnread, Passes, ReadsOn, Refuses};
 
     // A reader that has read nothing.
     fn new(alloc: Global, format: Format) -> Result<RecordReader, AllocError>
@@ -156,8 +156,8 @@ impl RecordReader {
         waiting
     }
 
-    // The place of the first of them.
-    fn place(&self) -> u64
+    /// The place of the first byte that is not taken, in bytes from 0.
+    pub fn place(&self) -> u64
         ensures { result ≡ self.now.place }
     {
         self.place
@@ -271,5 +271,16 @@ impl RecordReader {
                 Ok(Found::Record(what, moment))
             }
         }
+    }
+
+    /// Goes on at a place of the journal, of a source that gives what stands from there on. What waits is read again.
+    pub fn go_on_at(&mut self, at: u64)
+        ensures again { GoesAgain at self.new }
+        ensures format { self.new.format ≡ self.old.format }
+    {
+        self.held.clear();
+        self.at = 0;
+        self.place = at;
+        self.is_over = false;
     }
 }
