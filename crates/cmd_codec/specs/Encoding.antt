@@ -7,8 +7,6 @@ use Rattle.sofh_frame.specs.Framing.{spelled}
 use Rattle.sbe_value.specs.declared.message.Message.{Message}
 use Rattle.sbe_layout.specs.declared.plan.Plan.{Plan}
 use Rattle.sbe_encode.specs.declared.fault.EncodeFault.{EncodeFault}
-use Rattle.sbe_encode.specs.declared.fault.EncodeError.{EncodeError}
-use Rattle.sbe_encode.specs.declared.fault.EncodeError.TheVariants as error
 use Rattle.sbe_encode.specs.Faults.{encode_fault}
 use Rattle.sbe_text.specs.declared.error.Refusal.{Refusal}
 use Rattle.sbe_text.specs.declared.error.Refusal.TheVariants as refusal
@@ -18,8 +16,8 @@ use Rattle.cmd_base.specs.declared.status.Bad.TheVariants as bad
 use Rattle.cmd_base.specs.declared.status.Status.{Status}
 use Rattle.cmd_base.specs.declared.status.Status.TheVariants as status
 use Rattle.cmd_codec.specs.declared.writing.Place.{Place}
-use Rattle.cmd_codec.specs.declared.writing.Stop.{Stop}
-use Rattle.cmd_codec.specs.declared.writing.Stop.TheVariants as stop
+use Rattle.sbe_from_text.specs.declared.front.Unwritten.{Unwritten}
+use Rattle.sbe_from_text.specs.declared.front.Unwritten.TheVariants as unwritten
 use Rattle.cmd_codec.specs.Encoded.{AreRead, AreSpelled, frame_of, behind, written, written_from}
 
 -- a text is messages in a row
@@ -55,11 +53,6 @@ pub record Faulty (plan : Plan) (m : Message) (fault : EncodeFault) (old new : L
   pub is : encode_fault plan m ≡ Some fault
   pub kept : new ≡ old
 
-abbrev pub AddsFrame : {A : Type 0} → Plan → Message → List ℕ → List ℕ → Result A EncodeError → Type 0
-AddsFrame plan m old new (Ok done) = AddedFrame plan m old new
-AddsFrame plan m old new (Err (error.Fault fault)) = Faulty plan m fault old new
-AddsFrame plan m old new (Err error.Memory) = ⊤
-
 -- the message at the front was read, and its frame added
 pub record WroteOne (plan : Plan) (left rest : List ℕ) (old new : List ℕ) : Type 0 where
   pub message : Message
@@ -67,6 +60,7 @@ pub record WroteOne (plan : Plan) (left rest : List ℕ) (old new : List ℕ) : 
   pub frame : AddedFrame plan message old new
   pub shorter : length (lines_in rest) < length (lines_in left)
 
+-- or it may not be written
 pub record WroteNone (plan : Plan) (left : List ℕ) (fault : EncodeFault) (old new : List ℕ) : Type 0 where
   pub message : Message
   pub rest : List (List ℕ)
@@ -78,12 +72,12 @@ pub record WroteAll (plan : Plan) (left : List ℕ) (old new : List ℕ) : Type 
   pub empty : front_of plan (lines_in left) ≡ Ok None
   pub kept : new ≡ old
 
-abbrev pub WritesOne : Plan → List ℕ → List ℕ → List ℕ → Result (Option (Bor (List ℕ))) Stop → Type 0
+abbrev pub WritesOne : Plan → List ℕ → List ℕ → List ℕ → Result (Option (Bor (List ℕ))) Unwritten → Type 0
 WritesOne plan left old new (Ok (Some rest)) = WroteOne plan left rest.now old new
 WritesOne plan left old new (Ok None) = WroteAll plan left old new
-WritesOne plan left old new (Err (stop.Line at)) = front_of plan (lines_in left) ≡ Err (length (lines_in at.now))
-WritesOne plan left old new (Err (stop.Fault fault)) = WroteNone plan left fault old new
-WritesOne plan left old new (Err stop.Memory) = ⊤
+WritesOne plan left old new (Err (unwritten.Line at)) = front_of plan (lines_in left) ≡ Err (length (lines_in at.now))
+WritesOne plan left old new (Err (unwritten.Fault fault)) = WroteNone plan left fault old new
+WritesOne plan left old new (Err unwritten.Memory) = ⊤
 
 -- bytes that waited were pushed, from the front on
 pub record Pushed (before after : Option (List ℕ)) (old new : List ℕ) : Type 0 where

@@ -7,11 +7,10 @@ ghost use Rattle.cmd_codec.specs.Encoding.{IsMade, Makes, MakesFront, Pushed, Pu
 ghost use Rattle.cmd_codec.specs.Encoded.{text_limit};
 ghost use Rattle.cmd_codec.specs.Encodes.{LeavesWire, Writes};
 
-use crate::frame::{add_bytes, add_frame};
+use crate::frame::add_bytes;
 use cmd_base::{Bad, Status};
 use gw_outside::{Failed, Sink, push_all};
-use sbe_encode::{EncodeError, EncodeFault};
-use sbe_from_text::{Sheet, write_text};
+use sbe_from_text::{Rooms, Unwritten, write_front};
 use sbe_layout::Plan;
 use sbe_text::Refusal;
 use std::alloc::Global;
@@ -36,34 +35,6 @@ fn read_all<'a>(alloc: Global, plan: &Plan, text: &'a [u8]) -> Result<(), Refusa
     Ok(())
 }
 
-/// Room that serves one message after another: for its bytes, and for its strict lines.
-#[derive(Drop)]
-pub struct Rooms {
-    sheet: Sheet,
-    narrow: Narrow,
-}
-
-impl Rooms {
-    /// No room yet.
-    fn new(alloc: Global) -> Rooms {
-        Rooms {
-            sheet: Sheet::new(alloc),
-            narrow: Narrow::new(alloc),
-        }
-    }
-}
-
-/// Why no frame is made of the message at the front of a text.
-#[derive(Drop)]
-pub enum Stop<'a> {
-    /// The first line of this text is refused.
-    Line(&'a [u8]),
-    /// The message may not be written.
-    Fault(EncodeFault),
-    /// There is not enough memory.
-    Memory,
-}
-
 // Adds the frame of the message at the front of a text, and gives the text behind it. None where no message is left.
 fn write_message<'a>(
     alloc: Global,
@@ -71,40 +42,16 @@ fn write_message<'a>(
     left: &'a [u8],
     rooms: &mut Rooms,
     frames: &mut Vec<u8>,
-) -> Result<Option<&'a [u8]>, Stop<'a>>
+) -> Result<Option<&'a [u8]>, Unwritten<'a>>
     ensures { WritesOne plan.now left.now frames.old.items frames.new.items result }
 {
-    // the wider form, and what is wrong with a message, are told by its tree
-    let Some(rest) = write_text(alloc, plan, left, &mut rooms.sheet) else {
-        return write_tree(alloc, plan, left, rooms, frames);
-    };
-    match add_bytes(plan.order, rooms.sheet.bytes.as_slice(), frames) {
-        Ok(()) => Ok(Some(rest)),
-        Err(_) => Err(Stop::Memory),
-    }
-}
-
-// The same by a tree of the message.
-fn write_tree<'a>(
-    alloc: Global,
-    plan: &Plan,
-    left: &'a [u8],
-    rooms: &mut Rooms,
-    frames: &mut Vec<u8>,
-) -> Result<Option<&'a [u8]>, Stop<'a>>
-    ensures { WritesOne plan.now left.now frames.old.items frames.new.items result }
-{
-    match front_message(alloc, plan, left, &mut rooms.narrow) {
+    match write_front(alloc, plan, left, rooms) {
+        Ok(Some(rest)) => match add_bytes(plan.order, rooms.sheet.bytes.as_slice(), frames) {
+            Ok(()) => Ok(Some(rest)),
+            Err(_) => Err(Unwritten::Memory),
+        },
         Ok(None) => Ok(None),
-        Ok(Some((message, rest))) => {
-            match add_frame(alloc, plan, &message, &mut rooms.sheet.bytes, frames) {
-                Ok(()) => Ok(Some(rest)),
-                Err(EncodeError::Fault(fault)) => Err(Stop::Fault(fault)),
-                Err(EncodeError::Memory) => Err(Stop::Memory),
-            }
-        }
-        Err(Refusal::At(at)) => Err(Stop::Line(at)),
-        Err(Refusal::Memory) => Err(Stop::Memory),
+        Err(unwritten) => Err(unwritten),
     }
 }
 
@@ -139,9 +86,9 @@ fn make_front<'a>(
                 left = rest;
             }
             Ok(None) => return Ok(Place { left, number }),
-            Err(Stop::Line(at)) => return Err(Refusal::At(at)),
-            Err(Stop::Fault(_)) => return Ok(Place { left, number }),
-            Err(Stop::Memory) => return Err(Refusal::Memory),
+            Err(Unwritten::Line(at)) => return Err(Refusal::At(at)),
+            Err(Unwritten::Fault(_)) => return Ok(Place { left, number }),
+            Err(Unwritten::Memory) => return Err(Refusal::Memory),
         }
     }
     Ok(Place { left, number })
@@ -228,7 +175,7 @@ pub fn write_all<K: Sink>(
                 left = rest;
             }
             Ok(None) => return push_last(wire, frames.as_slice()),
-            Err(Stop::Fault(fault)) => {
+            Err(Unwritten::Fault(fault)) => {
                 let Ok(()) = push_all(wire, frames.as_slice()) else {
                     return Status::OutputFault;
                 };
@@ -238,7 +185,7 @@ pub fn write_all<K: Sink>(
                 });
             }
             // A text that was read once is read again.
-            Err(Stop::Line(_)) | Err(Stop::Memory) => return Status::Memory,
+            Err(Unwritten::Line(_)) | Err(Unwritten::Memory) => return Status::Memory,
         }
     }
     push_last(wire, frames.as_slice())

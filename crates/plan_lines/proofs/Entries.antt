@@ -7,31 +7,30 @@ use Rattle.sbe_layout.specs.declared.plan.Plan.{Plan}
 use Rattle.plan_text.specs.Plans.{Gift, payloads_of_sender}
 use Rattle.plan_text.proofs.Gifts.{of_sender_more}
 use Rattle.plan_lines.specs.declared.form.Form.{Form}
-use Rattle.plan_lines.specs.Entries.{AreEntries, Begins, Entry, size_of, names, gives, finishes}
+use Rattle.plan_lines.specs.Entries.{AreEntries, Begins, Entry, passes, names, gives, finishes}
 use Rattle.plan_lines.specs.Lines.{first_of, gift_line, gift_of, gifts_from, gifts_of, line_behind, lines_behind, lines_of, number_behind, sender_behind, sender_from}
-use Rattle.plan_lines.proofs.Fronts.{message_steady}
-use Rattle.plan_lines.proofs.Texts.{size_append}
 
 -- ---- entries
 
 -- lines more behind those of an entry
 begins_more : (plan : Plan) (lines : List (List ℕ)) (entry : Entry) (rest more : List (List ℕ)) → Begins plan lines entry rest → Begins plan (lines ++ more) entry (rest ++ more)
+begins_more plan lines passes rest more b = (b.0, ap (λ (ls : List (List ℕ)). ls ++ more) b.1, b.2)
 begins_more plan lines (names sender) rest more b = (b.0, ap (λ (ls : List (List ℕ)). ls ++ more) b.1, b.2)
 begins_more plan lines (gives message) rest more b = record {
-  read = (message_steady plan.messages).fixed.more lines more message rest b.read;
+  own = b.own;
+  split = ap (λ (ls : List (List ℕ)). ls ++ more) b.split ∙ append_assoc b.own rest more;
+  whole = b.whole;
+  read = b.read;
   faultless = b.faultless;
-  within = let here = b.within in let all = size_append lines more in let left = size_append rest more in omega (arith, here, all, left);
+  within = b.within;
 }
-begins_more plan lines finishes rest more b = ap (λ (ls : List (List ℕ)). ls ++ more) b
+begins_more plan lines finishes rest more b = (b.0, ap (λ (ls : List (List ℕ)). ls ++ more) b.1, b.2)
 
 begins_short : (plan : Plan) (lines : List (List ℕ)) (entry : Entry) (rest : List (List ℕ)) → Begins plan lines entry rest → length rest ≤ length lines
+begins_short plan lines passes rest b = let long = ap length b.1 in omega (arith, long)
 begins_short plan lines (names sender) rest b = let long = ap length b.1 in omega (arith, long)
-begins_short plan lines (gives message) rest b =
-    let ends = (message_steady plan.messages).ends lines message rest b.read in
-    let long = ap length ends.split in
-    let more = length-append ends.front (codes "end" ∷ rest) in
-    omega (arith, long, more)
-begins_short plan lines finishes rest b = let long = ap length b in omega (arith, long)
+begins_short plan lines (gives message) rest b = let long = ap length b.split in let more = length-append b.own rest in omega (arith, long, more)
+begins_short plan lines finishes rest b = let long = ap length b.1 in omega (arith, long)
 
 -- lines more behind those that are left
 pub entries_more : (plan : Plan) (lines : List (List ℕ)) (entries : List Entry) (left more : List (List ℕ)) → AreEntries plan lines entries left → AreEntries plan (lines ++ more) entries (left ++ more)
@@ -52,14 +51,23 @@ left_short plan lines (x ∷ entries) left b =
 
 -- ---- whose the messages are
 
+pub gifts_passed : (plan : Plan) (sender : ℕ) (entries : List Entry) → gifts_from plan sender (entries ++ passes ∷ []) ≡ gifts_from plan sender entries
+gifts_passed plan sender [] = refl
+gifts_passed plan sender (passes ∷ entries) = gifts_passed plan sender entries
+gifts_passed plan sender (names s ∷ entries) = gifts_passed plan s entries
+gifts_passed plan sender (gives m ∷ entries) = ap (λ (gs : List Gift). gift_of plan sender m ∷ gs) (gifts_passed plan sender entries)
+gifts_passed plan sender (finishes ∷ entries) = gifts_passed plan sender entries
+
 pub gifts_named : (plan : Plan) (sender other : ℕ) (entries : List Entry) → gifts_from plan sender (entries ++ names other ∷ []) ≡ gifts_from plan sender entries
 gifts_named plan sender other [] = refl
+gifts_named plan sender other (passes ∷ entries) = gifts_named plan sender other entries
 gifts_named plan sender other (names s ∷ entries) = gifts_named plan s other entries
 gifts_named plan sender other (gives m ∷ entries) = ap (λ (gs : List Gift). gift_of plan sender m ∷ gs) (gifts_named plan sender other entries)
 gifts_named plan sender other (finishes ∷ entries) = gifts_named plan sender other entries
 
 pub gifts_finished : (plan : Plan) (sender : ℕ) (entries : List Entry) → gifts_from plan sender (entries ++ finishes ∷ []) ≡ gifts_from plan sender entries
 gifts_finished plan sender [] = refl
+gifts_finished plan sender (passes ∷ entries) = gifts_finished plan sender entries
 gifts_finished plan sender (names s ∷ entries) = gifts_finished plan s entries
 gifts_finished plan sender (gives m ∷ entries) = ap (λ (gs : List Gift). gift_of plan sender m ∷ gs) (gifts_finished plan sender entries)
 gifts_finished plan sender (finishes ∷ entries) = gifts_finished plan sender entries
@@ -67,24 +75,35 @@ gifts_finished plan sender (finishes ∷ entries) = gifts_finished plan sender e
 pub gifts_given : (plan : Plan) (sender : ℕ) (message : Message) (entries : List Entry)
     → gifts_from plan sender (entries ++ gives message ∷ []) ≡ gifts_from plan sender entries ++ gift_of plan (sender_from sender entries) message ∷ []
 gifts_given plan sender message [] = refl
+gifts_given plan sender message (passes ∷ entries) = gifts_given plan sender message entries
 gifts_given plan sender message (names s ∷ entries) = gifts_given plan s message entries
 gifts_given plan sender message (gives m ∷ entries) = ap (λ (gs : List Gift). gift_of plan sender m ∷ gs) (gifts_given plan sender message entries)
 gifts_given plan sender message (finishes ∷ entries) = gifts_given plan sender message entries
 
+pub sender_passed : (sender : ℕ) (entries : List Entry) → sender_from sender (entries ++ passes ∷ []) ≡ sender_from sender entries
+sender_passed sender [] = refl
+sender_passed sender (passes ∷ entries) = sender_passed sender entries
+sender_passed sender (names s ∷ entries) = sender_passed s entries
+sender_passed sender (gives m ∷ entries) = sender_passed sender entries
+sender_passed sender (finishes ∷ entries) = sender_passed sender entries
+
 pub sender_named : (sender other : ℕ) (entries : List Entry) → sender_from sender (entries ++ names other ∷ []) ≡ other
 sender_named sender other [] = refl
+sender_named sender other (passes ∷ entries) = sender_named sender other entries
 sender_named sender other (names s ∷ entries) = sender_named s other entries
 sender_named sender other (gives m ∷ entries) = sender_named sender other entries
 sender_named sender other (finishes ∷ entries) = sender_named sender other entries
 
 pub sender_given : (sender : ℕ) (message : Message) (entries : List Entry) → sender_from sender (entries ++ gives message ∷ []) ≡ sender_from sender entries
 sender_given sender message [] = refl
+sender_given sender message (passes ∷ entries) = sender_given sender message entries
 sender_given sender message (names s ∷ entries) = sender_given s message entries
 sender_given sender message (gives m ∷ entries) = sender_given sender message entries
 sender_given sender message (finishes ∷ entries) = sender_given sender message entries
 
 pub sender_finished : (sender : ℕ) (entries : List Entry) → sender_from sender (entries ++ finishes ∷ []) ≡ sender_from sender entries
 sender_finished sender [] = refl
+sender_finished sender (passes ∷ entries) = sender_finished sender entries
 sender_finished sender (names s ∷ entries) = sender_finished s entries
 sender_finished sender (gives m ∷ entries) = sender_finished sender entries
 sender_finished sender (finishes ∷ entries) = sender_finished sender entries
@@ -102,7 +121,10 @@ lines_more plan form before (x ∷ entries) entry =
     ∙ ap (λ (es : List Entry). first ++ (rest ++ line_behind plan form es entry)) (append_assoc before (x ∷ []) entries)
     ∙ sym (append_assoc first rest (line_behind plan form (before ++ x ∷ entries) entry))
 
--- a line that names a sender adds none
+-- a line that says nothing adds none, and so does one that names a sender
+pub lines_passed : (plan : Plan) (form : Form) (entries : List Entry) → lines_of plan form (entries ++ passes ∷ []) ≡ lines_of plan form entries
+lines_passed plan form entries = lines_more plan form [] entries passes ∙ append-nil (lines_of plan form entries)
+
 pub lines_named : (plan : Plan) (form : Form) (entries : List Entry) (sender : ℕ) → lines_of plan form (entries ++ names sender ∷ []) ≡ lines_of plan form entries
 lines_named plan form entries sender = lines_more plan form [] entries (names sender) ∙ append-nil (lines_of plan form entries)
 

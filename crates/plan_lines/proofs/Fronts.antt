@@ -20,7 +20,10 @@ use Rattle.sbe_text.specs.Read.{Read, next, taken, read_line, read_each}
 use Rattle.sbe_text.specs.Tokens.{also, behind, count_of, datum_of, is_line, value_of, value_on}
 use Rattle.sbe_text.specs.Written.{before_in}
 use Rattle.sbe_text.specs.Reading.{alone, entry_at, layout_on, message_with, read_body, read_counted, read_datum, read_element, read_elements, read_group, read_groups, read_item, read_message, repeated}
-use Rattle.plan_lines.specs.Progress.{GoesOn}
+
+-- a line is another than `end`
+abbrev pub GoesOn : List ℕ → Type 0
+GoesOn line = line ≢ codes "end"
 
 -- lines that are read end so, behind others of which none ends a message
 pub record Ends (tail ls rest : List (List ℕ)) : Type 0 where
@@ -290,80 +293,12 @@ message_steady messages =
     (elements_steady [] layout.root.items (read_groups [] layout.root.groups) layout.root.vars (groups_steady layout.root.groups []))
     (λ e. end_steady (message_with layout.template e)))
 
--- ---- lines that are cut at `end`
-
-no_end_in : (front first rest : List (List ℕ)) → All GoesOn front → front ≡ first ++ (codes "end" ∷ rest) → ⊥
-no_end_in [] [] rest all e = cc
-no_end_in [] (y ∷ first) rest all e = cc
-no_end_in (x ∷ front) [] rest all e = let same : x ≡ codes "end" = cc in All-head GoesOn x front all same
-no_end_in (x ∷ front) (y ∷ first) rest all e = let same : front ≡ first ++ (codes "end" ∷ rest) = cc in no_end_in front first rest (All-tail GoesOn x front all) same
-
-last_end : (front first rest : List (List ℕ)) → All GoesOn front → front ++ codes "end" ∷ [] ≡ first ++ (codes "end" ∷ rest) → rest ≡ []
-last_end [] [] rest all e = cc
-last_end [] (y ∷ first) rest all e = let long = ap length e in let more = length-append first (codes "end" ∷ rest) in absurd (omega (arith, long, more))
-last_end (x ∷ front) [] rest all e = let same : x ≡ codes "end" = cc in absurd (All-head GoesOn x front all same)
-last_end (x ∷ front) (y ∷ first) rest all e = let same : front ++ codes "end" ∷ [] ≡ first ++ (codes "end" ∷ rest) = cc in last_end front first rest (All-tail GoesOn x front all) same
+-- ---- the line `end`
 
 has_end : (front : List (List ℕ)) → All GoesOn (front ++ codes "end" ∷ []) → ⊥
 has_end [] all = All-head GoesOn (codes "end") [] all refl
 has_end (x ∷ front) all = has_end front (All-tail GoesOn x (front ++ codes "end" ∷ []) all)
 
--- lines stand behind what was read
-alone_err : (x : Message) (left : ℕ) (rest : List (List ℕ)) → alone {A = Message} (Ok (x, rest)) ≡ Err left → rest ≡ [] → ⊥
-alone_err x left [] e none = cc
-alone_err x left (line ∷ rest) e none = cc
-
-module _ (messages : List MessagePlan) where
-  read_pair : (ls : List (List ℕ)) (m x : Message) (rest : List (List ℕ)) → read_message messages ls ≡ Ok (x, rest) → alone {A = Message} (Ok (x, rest)) ≡ Ok m → read_message messages ls ≡ Ok (m, [])
-  read_pair ls m x [] is e = let same : x ≡ m = cc in is ∙ ap (λ (y : Message). Ok (y, [])) same
-  read_pair ls m x (line ∷ rest) is e = cc
-
-  read_ok : (ls : List (List ℕ)) (m : Message) (t : Read Message) → read_message messages ls ≡ t → alone t ≡ Ok m → read_message messages ls ≡ Ok (m, [])
-  read_ok ls m (Ok read) is e = read_pair ls m read.0 read.1 is e
-  read_ok ls m (Err left) is e = cc
-
-  -- a message whose lines these are, and others behind it
-  pub whole_read : (ls more : List (List ℕ)) (m : Message) → alone (read_message messages ls) ≡ Ok m → read_message messages (ls ++ more) ≡ Ok (m, more)
-  whole_read ls more m e = (message_steady messages).fixed.more ls more m [] (read_ok ls m (read_message messages ls) refl e)
-
-  pub whole_alone : (ls : List (List ℕ)) (m : Message) → alone (read_message messages ls) ≡ Ok m → read_message messages ls ≡ Ok (m, [])
-  whole_alone ls m e = read_ok ls m (read_message messages ls) refl e
-
-  whole_left : (front : List (List ℕ)) (left : ℕ) → All GoesOn front → (t : Read Message) → read_message messages (front ++ codes "end" ∷ []) ≡ t → alone t ≡ Err left
-      → (0 < left) × (read_message messages (front ++ codes "end" ∷ []) ≡ Err left)
-  whole_left front left all (Ok read) is e =
-      let ends = (message_steady messages).ends (front ++ codes "end" ∷ []) read.0 read.1 is in
-      absurd (alone_err read.0 left read.1 e (last_end front ends.front read.1 all ends.split))
-  whole_left front left all (Err zero) is e = absurd (has_end front ((message_steady messages).needs (front ++ codes "end" ∷ []) is))
-  whole_left front left all (Err (suc k)) is e = let same : suc k ≡ left = cc in (omega (arith, same), is ∙ ap (λ (n : ℕ). Err n) same)
-
-  -- or a line of it that is refused
-  pub whole_refused : (front more : List (List ℕ)) (left : ℕ) → All GoesOn front → alone (read_message messages (front ++ codes "end" ∷ [])) ≡ Err left
-      → read_message messages ((front ++ codes "end" ∷ []) ++ more) ≡ Err (left + length more)
-  whole_refused front more left all e =
-      let w = whole_left front left all (read_message messages (front ++ codes "end" ∷ [])) refl e in
-      (message_steady messages).fixed.fails (front ++ codes "end" ∷ []) more left w.0 w.1
-
-  -- the front of a message is none
-  open_left : (front : List (List ℕ)) (left : ℕ) → All GoesOn front → (t : Read Message) → read_message messages front ≡ t → alone t ≡ Err left → read_message messages front ≡ Err left
-  open_left front left all (Ok read) is e =
-      let ends = (message_steady messages).ends front read.0 read.1 is in
-      absurd (no_end_in front ends.front read.1 all ends.split)
-  open_left front left all (Err k) is e = let same : k ≡ left = cc in is ∙ ap (λ (n : ℕ). Err n) same
-
-  pub open_ended : (front : List (List ℕ)) (left : ℕ) → All GoesOn front → alone (read_message messages front) ≡ Err left → read_message messages front ≡ Err left
-  open_ended front left all e = open_left front left all (read_message messages front) refl e
-
-  pub open_refused : (front more : List (List ℕ)) (left : ℕ) → All GoesOn front → 0 < left → alone (read_message messages front) ≡ Err left
-      → read_message messages (front ++ more) ≡ Err (left + length more)
-  open_refused front more left all some e = (message_steady messages).fixed.fails front more left some (open_ended front left all e)
-
-  open_none : (front : List (List ℕ)) → All GoesOn front → (t : Read Message) → read_message messages front ≡ t → ((left : ℕ) → 0 < left → alone t ≡ Err left → ⊥) → read_message messages front ≡ Err 0
-  open_none front all (Ok read) is none =
-      let ends = (message_steady messages).ends front read.0 read.1 is in
-      absurd (no_end_in front ends.front read.1 all ends.split)
-  open_none front all (Err zero) is none = is
-  open_none front all (Err (suc k)) is none = absurd (none (suc k) (omega arith) refl)
-
-  pub open_needs : (front : List (List ℕ)) → All GoesOn front → ((left : ℕ) → 0 < left → alone (read_message messages front) ≡ Err left → ⊥) → read_message messages front ≡ Err 0
-  open_needs front all none = open_none front all (read_message messages front) refl none
+-- the strict form asks for nothing behind it
+pub asks_none : (messages : List MessagePlan) (front : List (List ℕ)) → read_message messages (front ++ codes "end" ∷ []) ≡ Err 0 → ⊥
+asks_none messages front e = has_end front ((message_steady messages).needs (front ++ codes "end" ∷ []) e)

@@ -1,8 +1,11 @@
 mod Giving
 mod Fronts
+mod Ending
 mod Texts
 mod Entries
 mod OneReading
+mod StrictPlanned
+mod AsEncode
 mod Taking
 mod Reading
 mod Rounds

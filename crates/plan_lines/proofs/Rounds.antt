@@ -73,6 +73,7 @@ after_push plan pushed p q lines s same none =
       entries = s.entries;
       front = s.front;
       are = s.are;
+      starts = s.starts;
       is_open = s.is_open;
       feedless = s.feedless;
       text_is = s.text_is;

@@ -1,5 +1,5 @@
 -- What a line more makes of what stands.
-use Rattle.std.proofs.Common.{◌≡◌, ◌≢◌, ◌⊎◌, inl, inr, ℕ, zero, suc, ◌+◌, ◌-◌, ◌^◌, ◌<◌, ◌≤◌, min, List, [], ◌∷◌, ◌++◌, length, refl, ap, sym, subst, ◌∙◌, append_assoc, append-nil, length-append, arith}
+use Rattle.std.proofs.Common.{◌≡◌, ◌≢◌, ◌⊎◌, inl, inr, ℕ, zero, suc, ◌+◌, ◌-◌, ◌^◌, ◌<◌, ◌≤◌, min, true, List, [], ◌∷◌, ◌++◌, length, refl, ap, sym, subst, ◌∙◌, append_assoc, append-nil, length-append, arith}
 use Rattle.std.specs.Prelude.{All, Result, Ok, Err, OnOk, IfErr, None, Some, codes, decimal}
 use Rattle.std.proofs.lemmas.List.Elements.{All-append, All-cons, All-nil}
 use Rattle.text_words.specs.Lines.{lines_in}
@@ -8,9 +8,9 @@ use Rattle.gw_lines.specs.declared.found.Found.TheVariants.{Whole, TooLong}
 use Rattle.gw_lines.specs.Lines.{IsFeedless, IsTold, longest}
 use Rattle.sbe_value.specs.declared.message.Message.{Message}
 use Rattle.sbe_layout.specs.declared.plan.Plan.{Plan}
-use Rattle.sbe_text.specs.Reading.{read_message, alone}
+use Rattle.text_names.specs.Bare.{bare}
+use Rattle.text_names.specs.Fronts.{front_of}
 use Rattle.sbe_encode.specs.declared.fault.EncodeFault.{EncodeFault}
-use Rattle.sbe_encode.specs.Faults.{encode_fault}
 use Rattle.plan_text.specs.Plans.{Gift}
 use Rattle.plan_lines.specs.declared.form.Form.{Form}
 use Rattle.plan_lines.specs.declared.end.Wrong.{Wrong}
@@ -19,11 +19,10 @@ use Rattle.plan_lines.specs.declared.end.Stop.{Stop}
 use Rattle.plan_lines.specs.declared.end.Stop.TheVariants as stops
 use Rattle.plan_lines.specs.declared.numbers.Numbers.{Numbers}
 use Rattle.plan_lines.specs.declared.place.Place.{Place}
-use Rattle.plan_lines.specs.Entries.{AreEntries, BeginsMessage, BeginsSender, Entry, HasFault, HasOtherLine, IsBetween, IsRefused, NamesSender, Reaches, most_bytes, size_of, names, gives, finishes}
+use Rattle.plan_lines.specs.Entries.{AreEntries, Ends, Entry, HasOtherLine, IsBetween, IsOpen, IsStuck, IsWhole, MayStand, Reaches, StartsMessage, all_of, most_bytes, size_of, passes, names, gives, finishes}
 use Rattle.plan_lines.specs.Lines.{first_of, gift_line, gift_of, gifts_of, lines_of, number_behind, sender_behind}
-use Rattle.plan_lines.specs.Progress.{Adds, Counts, Finishes, Gives, GivesMessage, Goes, GoesOn, Halts, HaltsAtEnd, IsAll, IsOpen, Names, NamesNobody, Refuses, RefusesEarlier, RefusesHere, Stands, StartsMessage, Starts, StopsSo, TakesText, TextEnds, TextGoes, line_of, number_in, read_alone, returned}
-use Rattle.plan_lines.proofs.Fronts.{whole_read, whole_alone, whole_refused, open_ended, open_refused, open_needs}
-use Rattle.plan_lines.proofs.Entries.{entries_more, entry_closed, left_short, gifts_named, gifts_given, gifts_finished, sender_named, sender_given, sender_finished, lines_named, lines_given, lines_finished, number_more, number_other}
+use Rattle.plan_lines.specs.Progress.{Adds, Counts, Finishes, Gives, Goes, Halts, HaltsAtEnd, IsAll, Names, NamesNobody, RefusedFrom, RefusesEarlier, RefusesHere, RefusesOne, Stands, Starts, StopsAtEnd, StopsSo, TakesText, TellsEnd, TextEnds, TextGoes, line_of, number_in, returned}
+use Rattle.plan_lines.proofs.Entries.{entries_more, entry_closed, left_short, gifts_passed, gifts_named, gifts_given, gifts_finished, sender_passed, sender_named, sender_given, sender_finished, lines_passed, lines_named, lines_given, lines_finished, number_more, number_other}
 use Rattle.plan_lines.proofs.Texts.{lines_returned, returned_more, returned_long, size_more, none_returned}
 
 -- ---- a line behind the front of a message
@@ -31,10 +30,35 @@ use Rattle.plan_lines.proofs.Texts.{lines_returned, returned_more, returned_long
 all_one : (P : List ℕ → Type 0) (line : List ℕ) → P line → All P (line ∷ [])
 all_one P line p = All-cons P line [] p (All-nil P)
 
--- the front with a line more is open
-open_more : (front : List (List ℕ)) (line : List ℕ) → IsOpen front → (front ≡ [] → IsBetween line → ⊥) → GoesOn line → IsOpen (front ++ line ∷ [])
-open_more [] line o starts goes = record { starts = starts refl; each = all_one GoesOn line goes }
-open_more (first ∷ front) line o starts goes = record { starts = o.starts; each = All-append GoesOn (first ∷ front) (line ∷ []) o.each (all_one GoesOn line goes) }
+-- ---- fronts
+
+-- a line stands among these behind some, or is the one behind all of them
+data Splits (front a : List (List ℕ)) (line l : List ℕ) : Type 0 where
+  among : (b : List (List ℕ)) → front ≡ a ++ l ∷ b → Splits front a line l
+  behind_all : a ≡ front → l ≡ line → Splits front a line l
+
+splits : (front a b : List (List ℕ)) (line l : List ℕ) → front ++ line ∷ [] ≡ a ++ l ∷ b → Splits front a line l
+splits [] [] b line l e = behind_all refl (cc)
+splits [] (y ∷ a) b line l e = let long = ap length e in let more = length-append a (l ∷ b) in absurd (omega (arith, long, more))
+splits (x ∷ front) [] b line l e = let same : x ≡ l = cc in among front (ap (λ (z : List ℕ). z ∷ front) same)
+splits (x ∷ front) (y ∷ a) b line l e =
+    let first : x ≡ y = cc in
+    let rest : front ++ line ∷ [] ≡ a ++ l ∷ b = cc in
+    elim (splits front a b line l rest) as (λ _. Splits (x ∷ front) (y ∷ a) line l) [
+      | among c f ↦ among c (ap (λ (z : List ℕ). z ∷ front) first ∙ ap (λ (zs : List (List ℕ)). y ∷ zs) f)
+      | behind_all f g ↦ behind_all (ap (λ (z : List ℕ). z ∷ a) (sym first) ∙ ap (λ (zs : List (List ℕ)). x ∷ zs) f) g
+    ]
+
+-- no lines are open, and the front with a line more that does not end the message
+none_open : (plan : Plan) → IsOpen plan []
+none_open plan = λ a b l e ends. let long = ap length e in let more = length-append a (l ∷ b) in absurd (omega (arith, long, more))
+
+open_more : (plan : Plan) (front : List (List ℕ)) (line : List ℕ) → IsOpen plan front → (Ends plan front line → ⊥) → IsOpen plan (front ++ line ∷ [])
+open_more plan front line o goes = λ a b l e ends.
+    elim (splits front a b line l e) as (λ _. ⊥) [
+      | among c f ↦ o a c l f ends
+      | behind_all f g ↦ goes (subst (λ (ls : List (List ℕ)). Ends plan ls line) f (subst (Ends plan a) g ends))
+    ]
 
 -- the number of the first line of a message, where this line was its first or is behind others
 first_more : (front lines : List (List ℕ)) (line : List ℕ) (first number : ℕ) → length front ≤ length lines
@@ -56,9 +80,23 @@ front_begun : (plan : Plan) (pushed : List ℕ) (p : Place) (lines : List (List 
     → s.front ≡ [] → (IsBetween line → ⊥) × (p.first ≡ number)
 front_begun plan pushed p lines line number s begun none = begun (s.text_is ∙ ap returned none)
 
+-- the text of a message and its lines
+whole_is : (plan : Plan) (pushed : List ℕ) (p mid : Place) (lines : List (List ℕ)) (line : List ℕ) (s : Stands plan pushed p lines) → IsFeedless line → Adds line p mid
+    → lines_in mid.text.items ≡ s.front ++ line ∷ []
+whole_is plan pushed p mid lines line s feedless a =
+    ap lines_in (a.text ∙ ap (λ (bs : List ℕ). bs ++ (line ++ 13 ∷ 10 ∷ [])) s.text_is ∙ sym (returned_more s.front line))
+    ∙ lines_returned (s.front ++ line ∷ []) (All-append IsFeedless s.front (line ∷ []) s.feedless (all_one IsFeedless line feedless))
+
+front_is : (plan : Plan) (pushed : List ℕ) (p : Place) (lines : List (List ℕ)) (s : Stands plan pushed p lines) → lines_in p.text.items ≡ s.front
+front_is plan pushed p lines s = ap lines_in s.text_is ∙ lines_returned s.front s.feedless
+
+starts_more : (front : List (List ℕ)) (line : List ℕ) → StartsMessage front → (front ≡ [] → IsBetween line → ⊥) → StartsMessage (front ++ line ∷ [])
+starts_more [] line starts here = here refl
+starts_more (first ∷ front) line starts here = starts
+
 -- ---- a line that goes on with a message
 
-pub text_goes : (plan : Plan) (p new : Place) (line : List ℕ) (number : ℕ) → Begun p line number → TextGoes line p new → Goes plan p new line number
+pub text_goes : (plan : Plan) (p new : Place) (line : List ℕ) (number : ℕ) → Begun p line number → TextGoes plan line p new → Goes plan p new line number
 text_goes plan p new line number begun t = λ pushed lines feedless n s.
     let none = front_begun plan pushed p lines line number s begun in
     let short = left_short plan lines s.entries s.front s.are in
@@ -66,7 +104,8 @@ text_goes plan p new line number begun t = λ pushed lines feedless n s.
       entries = s.entries;
       front = s.front ++ line ∷ [];
       are = entries_more plan lines s.entries s.front (line ∷ []) s.are;
-      is_open = open_more s.front line s.is_open (λ e. (none e).0) t.goes;
+      starts = starts_more s.front line s.starts (λ e. (none e).0);
+      is_open = open_more plan s.front line s.is_open (t.goes s.front (whole_is plan pushed p new lines line s feedless t.adds));
       feedless = All-append IsFeedless s.front (line ∷ []) s.feedless (all_one IsFeedless line feedless);
       text_is = t.adds.text ∙ ap (λ (bs : List ℕ). bs ++ (line ++ 13 ∷ 10 ∷ [])) s.text_is ∙ sym (returned_more s.front line);
       small = t.small;
@@ -80,7 +119,7 @@ text_goes plan p new line number begun t = λ pushed lines feedless n s.
 
 -- ---- a line that names a sender
 
-pub named : (plan : Plan) (p new : Place) (line digits : List ℕ) (number : ℕ) → p.text.items ≡ [] → line ≡ codes "sender " ++ digits → Names digits p new → Goes plan p new line number
+pub named : (plan : Plan) (p new : Place) (line digits : List ℕ) (number : ℕ) → p.text.items ≡ [] → bare line ≡ codes "sender " ++ digits → Names digits p new → Goes plan p new line number
 named plan p new line digits number empty written n = λ pushed lines feedless numbered s.
     let none = none_returned s.front (sym s.text_is ∙ empty) in
     let are = entries_more plan lines s.entries s.front (line ∷ []) s.are in
@@ -90,7 +129,8 @@ named plan p new line digits number empty written n = λ pushed lines feedless n
       front = [];
       are = entry_closed plan (lines ++ line ∷ []) s.entries (s.front ++ line ∷ []) (names n.sender) are
           (line, here, record { is = n.is; written = written ∙ ap (λ (ds : List ℕ). codes "sender " ++ ds) n.written });
-      is_open = record { starts = tt; each = All-nil GoesOn };
+      starts = tt;
+      is_open = none_open plan;
       feedless = All-nil IsFeedless;
       text_is = empty;
       small = s.small;
@@ -101,18 +141,42 @@ named plan p new line digits number empty written n = λ pushed lines feedless n
       given = s.given ∙ sym (lines_named plan p.form s.entries n.sender);
     })
 
+-- ---- a line that says nothing
+
+pub passed : (plan : Plan) (p : Place) (line : List ℕ) (number : ℕ) → p.text.items ≡ [] → bare line ≡ [] → Goes plan p p line number
+passed plan p line number empty nothing = λ pushed lines feedless numbered s.
+    let none = none_returned s.front (sym s.text_is ∙ empty) in
+    let are = entries_more plan lines s.entries s.front (line ∷ []) s.are in
+    let here : s.front ++ line ∷ [] ≡ line ∷ [] = ap (λ (ls : List (List ℕ)). ls ++ line ∷ []) none in
+    record {
+      entries = s.entries ++ passes ∷ [];
+      front = [];
+      are = entry_closed plan (lines ++ line ∷ []) s.entries (s.front ++ line ∷ []) passes are (line, here, nothing);
+      starts = tt;
+      is_open = none_open plan;
+      feedless = All-nil IsFeedless;
+      text_is = empty;
+      small = s.small;
+      first_is = λ some. absurd (some refl);
+      sender_is = s.sender_is ∙ sym (sender_passed 1 s.entries);
+      sender = s.sender;
+      numbers_are = λ sender is. s.numbers_are sender is ∙ ap (λ (gs : List Gift). number_behind p.form gs sender) (sym (gifts_passed plan 1 s.entries));
+      given = s.given ∙ sym (lines_passed plan p.form s.entries);
+    }
+
 -- ---- a line that says that nothing more will be sent
 
-pub finished : (plan : Plan) (p new : Place) (line : List ℕ) (number : ℕ) → p.text.items ≡ [] → line ≡ codes "finish" → Finishes p new → Goes plan p new line number
+pub finished : (plan : Plan) (p new : Place) (line : List ℕ) (number : ℕ) → p.text.items ≡ [] → bare line ≡ codes "finish" → Finishes p new → Goes plan p new line number
 finished plan p new line number empty written f = λ pushed lines feedless numbered s.
     let none = none_returned s.front (sym s.text_is ∙ empty) in
     let are = entries_more plan lines s.entries s.front (line ∷ []) s.are in
-    let here : s.front ++ line ∷ [] ≡ codes "finish" ∷ [] = ap (λ (ls : List (List ℕ)). ls ++ line ∷ []) none ∙ ap (λ (l : List ℕ). l ∷ []) written in
+    let here : s.front ++ line ∷ [] ≡ line ∷ [] = ap (λ (ls : List (List ℕ)). ls ++ line ∷ []) none in
     subst (λ (q : Place). Stands plan pushed q (lines ++ line ∷ [])) (sym f.kept) (record {
       entries = s.entries ++ finishes ∷ [];
       front = [];
-      are = entry_closed plan (lines ++ line ∷ []) s.entries (s.front ++ line ∷ []) finishes are here;
-      is_open = record { starts = tt; each = All-nil GoesOn };
+      are = entry_closed plan (lines ++ line ∷ []) s.entries (s.front ++ line ∷ []) finishes are (line, here, written);
+      starts = tt;
+      is_open = none_open plan;
       feedless = All-nil IsFeedless;
       text_is = empty;
       small = s.small;
@@ -124,7 +188,7 @@ finished plan p new line number empty written f = λ pushed lines feedless numbe
           ∙ sym (lines_finished plan p.form s.entries);
     })
 
-pub names_nobody : (plan : Plan) (p new : Place) (line digits : List ℕ) (number : ℕ) (stop : Stop) → p.text.items ≡ [] → line ≡ codes "sender " ++ digits → NamesNobody digits number p new stop
+pub names_nobody : (plan : Plan) (p new : Place) (line digits : List ℕ) (number : ℕ) (stop : Stop) → p.text.items ≡ [] → bare line ≡ codes "sender " ++ digits → NamesNobody digits number p new stop
     → Halts plan p new line number stop
 names_nobody plan p new line digits number stop empty written n =
     subst (λ (x : Stop). Halts plan p new line number x) (sym n.stop_is) (λ pushed lines feedless numbered s.
@@ -142,7 +206,7 @@ names_nobody plan p new line digits number stop empty written n =
         behind = more;
         split = refl;
         begins = record { behind = digits; written = written };
-        none = λ sender names. n.none sender names.is (same_digits digits line sender written names.written);
+        none = λ sender names. n.none sender names.is (same_digits digits (bare line) sender written names.written);
         number_is = refl;
       };
       line_is = omega (arith, long, numbered);
@@ -154,19 +218,9 @@ names_nobody plan p new line digits number stop empty written n =
 
 -- ---- the last line of a message
 
--- the text of a message and its lines
-whole_is : (plan : Plan) (pushed : List ℕ) (p mid : Place) (lines : List (List ℕ)) (line : List ℕ) (s : Stands plan pushed p lines) → IsFeedless line → Adds line p mid
-    → lines_in mid.text.items ≡ s.front ++ line ∷ []
-whole_is plan pushed p mid lines line s feedless a =
-    ap lines_in (a.text ∙ ap (λ (bs : List ℕ). bs ++ (line ++ 13 ∷ 10 ∷ [])) s.text_is ∙ sym (returned_more s.front line))
-    ∙ lines_returned (s.front ++ line ∷ []) (All-append IsFeedless s.front (line ∷ []) s.feedless (all_one IsFeedless line feedless))
-
-front_is : (plan : Plan) (pushed : List ℕ) (p : Place) (lines : List (List ℕ)) (s : Stands plan pushed p lines) → lines_in p.text.items ≡ s.front
-front_is plan pushed p lines s = ap lines_in s.text_is ∙ lines_returned s.front s.feedless
-
 -- its text is not too long
 whole_small : (plan : Plan) (pushed : List ℕ) (p mid : Place) (lines : List (List ℕ)) (line : List ℕ) (s : Stands plan pushed p lines) → Adds line p mid → length mid.text.items ≤ most_bytes
-    → size_of (s.front ++ line ∷ []) ≤ 0 + most_bytes
+    → size_of (s.front ++ line ∷ []) ≤ most_bytes
 whole_small plan pushed p mid lines line s a small =
     let same = ap length (a.text ∙ ap (λ (bs : List ℕ). bs ++ (line ++ 13 ∷ 10 ∷ [])) s.text_is ∙ sym (returned_more s.front line)) ∙ returned_long (s.front ++ line ∷ []) in
     omega (arith, same, small)
@@ -204,12 +258,18 @@ numbers_more plan entries message form old new its sender_is numbers counts is s
     decide (suc a) zero = inr (λ e. cc e)
     decide (suc a) (suc b) = elim (decide a b) as (λ _. (suc a ≡ suc b) ⊎ (suc a ≡ suc b → ⊥)) [ inl e ↦ inl (ap suc e) | inr h ↦ inr (λ e. h (omega (arith, e))) ]
 
+-- the line ends the message
+is_whole : (plan : Plan) (front : List (List ℕ)) (line : List ℕ) → StartsMessage (front ++ line ∷ []) → IsOpen plan front → Ends plan front line → IsWhole plan (front ++ line ∷ [])
+is_whole plan front line starts is_open ends = record { front = front; last = line; split = refl; starts = starts; is_open = is_open; ends = ends }
+
 -- a message was ended and given
-pub text_ends : (plan : Plan) (p new : Place) (line : List ℕ) (number : ℕ) → TextEnds {A = Unit {0}} plan line p new (Ok tt) → Goes plan p new line number
-text_ends plan p new line number t = λ pushed lines feedless n s.
-    let whole = whole_is plan pushed p t.mid lines line s feedless t.adds in
-    let read : alone (read_message plan.messages (s.front ++ line ∷ [])) ≡ Ok t.gives.message = ap (λ (ls : List (List ℕ)). alone (read_message plan.messages ls)) (sym whole) ∙ t.gives.read in
-    let size : size_of (s.front ++ line ∷ []) ≤ 0 + most_bytes = whole_small plan pushed p t.mid lines line s t.adds t.small in
+pub text_ends : (plan : Plan) (p new : Place) (line : List ℕ) (number : ℕ) → Begun p line number → TextEnds {A = Unit {0}} plan line p new (Ok tt) → Goes plan p new line number
+text_ends plan p new line number begun t = λ pushed lines feedless n s.
+    let none = front_begun plan pushed p lines line number s begun in
+    let part = s.front ++ line ∷ [] in
+    let whole : lines_in t.mid.text.items ≡ part = whole_is plan pushed p t.mid lines line s feedless t.adds in
+    let read : front_of plan part ≡ Ok (Some (t.gives.message, [])) = ap (front_of plan) (sym whole) ∙ t.gives.read in
+    let size : size_of part ≤ most_bytes = whole_small plan pushed p t.mid lines line s t.adds t.small in
     let sender : t.mid.sender ≡ sender_behind s.entries = t.adds.sender ∙ s.sender_is in
     let is : IsSender t.mid.sender = subst IsSender (sym t.adds.sender) s.sender in
     let numbers = λ (k : ℕ) (one : IsSender k).
@@ -219,9 +279,17 @@ text_ends plan p new line number t = λ pushed lines feedless n s.
     record {
       entries = s.entries ++ gives t.gives.message ∷ [];
       front = [];
-      are = entry_closed plan (lines ++ line ∷ []) s.entries (s.front ++ line ∷ []) (gives t.gives.message) (entries_more plan lines s.entries s.front (line ∷ []) s.are)
-          (record { read = whole_alone plan.messages (s.front ++ line ∷ []) t.gives.message read; faultless = t.gives.faultless; within = size });
-      is_open = record { starts = tt; each = All-nil GoesOn };
+      are = entry_closed plan (lines ++ line ∷ []) s.entries part (gives t.gives.message) (entries_more plan lines s.entries s.front (line ∷ []) s.are)
+          (record {
+            own = part;
+            split = sym (append-nil part);
+            whole = is_whole plan s.front line (starts_more s.front line s.starts (λ e. (none e).0)) s.is_open (t.ends s.front whole);
+            read = read;
+            faultless = t.gives.faultless;
+            within = size;
+          });
+      starts = tt;
+      is_open = none_open plan;
       feedless = All-nil IsFeedless;
       text_is = t.gives.text;
       small = let none = ap length t.gives.text in omega (arith, none);
@@ -233,20 +301,6 @@ text_ends plan p new line number t = λ pushed lines feedless n s.
       given = given_more plan s.entries t.gives.message pushed t.mid new sender numbers is given t.gives.form t.gives.lines;
     }
 
--- a message has to begin at these lines, and one of them is refused
-other_line : (plan : Plan) (part more : List (List ℕ)) (left : ℕ) → (part ≡ [] → ⊥) → StartsMessage part → read_message plan.messages (part ++ more) ≡ Err (left + length more)
-    → HasOtherLine plan (part ++ more) (length part - left + 1)
-other_line plan [] more left some starts e = absurd (some refl)
-other_line plan (here ∷ rest) more left some starts e = record {
-  here = here;
-  behind = rest ++ more;
-  split = refl;
-  starts = starts;
-  left = left + length more;
-  refused = e;
-  number_is = let long = length-append (here ∷ rest) more in omega (arith, long);
-}
-
 -- the number of a line of a message in the whole text
 line_in : (total part first before : ℕ) → first ≡ min (total - part + 1) (2 ^ 64 - 1) → min (first + before) (2 ^ 64 - 1) ≡ min (total - part + (before + 1)) (2 ^ 64 - 1)
 line_in total part first before f = omega (arith, f)
@@ -257,17 +311,6 @@ kept_given : (plan : Plan) (entries : List Entry) (pushed : List ℕ) (p mid new
 kept_given plan entries pushed p mid new given form lines new_form new_lines =
     ap (λ (ls : _). pushed ++ ls.items) (new_lines ∙ lines) ∙ given ∙ ap (λ (f : Form). lines_of plan f entries) (sym (new_form ∙ form))
 
--- a line behind the front of a message is its last
-ends_whole : (front : List (List ℕ)) (line : List ℕ) → line ≡ codes "end" → front ++ line ∷ [] ≡ front ++ codes "end" ∷ []
-ends_whole front line e = ap (λ (l : List ℕ). front ++ l ∷ []) e
-
-some_behind : (front : List (List ℕ)) (line : List ℕ) → front ++ line ∷ [] ≡ [] → ⊥
-some_behind front line e = let long = ap length e in let more = length-append front (line ∷ []) in omega (arith, long, more)
-
-starts_more : (front : List (List ℕ)) (line : List ℕ) → StartsMessage front → (front ≡ [] → IsBetween line → ⊥) → StartsMessage (front ++ line ∷ [])
-starts_more [] line starts here = here refl
-starts_more (first ∷ front) line starts here = starts
-
 -- a message was ended, and one of its lines is refused
 pub text_refused : (plan : Plan) (p new : Place) (line : List ℕ) (number told : ℕ) → Begun p line number → TextEnds {A = Unit {0}} plan line p new (Err (stops.Wrong told wrongs.Line))
     → Halts plan p new line number (stops.Wrong told wrongs.Line)
@@ -276,17 +319,25 @@ text_refused plan p new line number told begun t = λ pushed lines feedless n s.
     let short = left_short plan lines s.entries s.front s.are in
     let part = s.front ++ line ∷ [] in
     let whole : lines_in t.mid.text.items ≡ part = whole_is plan pushed p t.mid lines line s feedless t.adds in
-    let cut : part ≡ s.front ++ codes "end" ∷ [] = ends_whole s.front line t.ends in
-    let read : alone (read_message plan.messages (s.front ++ codes "end" ∷ [])) ≡ Err t.gives.left =
-    ap (λ (ls : List (List ℕ)). alone (read_message plan.messages ls)) (sym cut ∙ sym whole) ∙ t.gives.read in
+    let read : all_of (front_of plan part) ≡ Err t.gives.left = ap (λ (ls : List (List ℕ)). all_of (front_of plan ls)) (sym whole) ∙ t.gives.read in
     let first = t.adds.first ∙ first_more s.front lines line p.first number short s.first_is (λ e. (none e).1) n in
+    let starts = starts_more s.front line s.starts (λ e. (none e).0) in
+    let ends = t.ends s.front whole in
     record {
       entries = s.entries;
       behind = part;
       are = entries_more plan lines s.entries s.front (line ∷ []) s.are;
       number = length part - t.gives.left + 1;
-      refused = λ more. other_line plan part more t.gives.left (some_behind s.front line) (starts_more s.front line s.is_open.starts (λ e. (none e).0))
-          (ap (λ (ls : List (List ℕ)). read_message plan.messages (ls ++ more)) cut ∙ whole_refused plan.messages s.front more t.gives.left s.is_open.each read);
+      refused = λ more. inl (record {
+        own = part;
+        behind = more;
+        split = refl;
+        starts = starts;
+        left = t.gives.left;
+        reaches = inl (is_whole plan s.front line starts s.is_open ends);
+        refused = record { settled = ends.whole; read = read };
+        number_is = refl;
+      });
       line_is = t.gives.told_is ∙ ap (λ (ls : List (List ℕ)). min (t.mid.first + (length ls - t.gives.left)) (2 ^ 64 - 1)) whole
           ∙ line_in (length (lines ++ line ∷ [])) (length part) t.mid.first (length part - t.gives.left) first;
       given = kept_given plan s.entries pushed p t.mid new s.given t.adds.form t.adds.lines t.gives.form t.gives.lines;
@@ -298,19 +349,23 @@ pub text_faulty : (plan : Plan) (p new : Place) (line : List ℕ) (number told :
 text_faulty plan p new line number told fault begun t = λ pushed lines feedless n s.
     let none = front_begun plan pushed p lines line number s begun in
     let short = left_short plan lines s.entries s.front s.are in
-    let whole : lines_in t.mid.text.items ≡ s.front ++ line ∷ [] = whole_is plan pushed p t.mid lines line s feedless t.adds in
-    let read : alone (read_message plan.messages (s.front ++ line ∷ [])) ≡ Ok t.gives.message = ap (λ (ls : List (List ℕ)). alone (read_message plan.messages ls)) (sym whole) ∙ t.gives.read in
+    let part = s.front ++ line ∷ [] in
+    let whole : lines_in t.mid.text.items ≡ part = whole_is plan pushed p t.mid lines line s feedless t.adds in
     let first = t.adds.first ∙ first_more s.front lines line p.first number short s.first_is (λ e. (none e).1) n in
     record {
       entries = s.entries;
-      behind = s.front ++ line ∷ [];
+      behind = part;
       are = entries_more plan lines s.entries s.front (line ∷ []) s.are;
       number = 1;
       refused = λ more. record {
-        message = t.gives.message;
-        rest = more;
-        read = whole_read plan.messages (s.front ++ line ∷ []) more t.gives.message read;
-        faulty = t.gives.faulty;
+        own = part;
+        behind = more;
+        split = refl;
+        whole = is_whole plan s.front line (starts_more s.front line s.starts (λ e. (none e).0)) s.is_open (t.ends s.front whole);
+        message = t.gives.faulty.message;
+        rest = t.gives.faulty.rest;
+        read = ap (front_of plan) (sym whole) ∙ t.gives.faulty.read;
+        faulty = t.gives.faulty.faulty;
         number_is = refl;
       };
       line_is = t.gives.told_is ∙ first;
@@ -320,29 +375,42 @@ text_faulty plan p new line number told fault begun t = λ pushed lines feedless
 -- ---- a line that is too much, or too long
 
 -- one of the lines before it is refused
-earlier : (plan : Plan) (p : Place) (line : List ℕ) (told : ℕ) (pushed : List ℕ) (lines : List (List ℕ)) → Stands plan pushed p lines → RefusesEarlier plan p told wrongs.Line
-    → StopsSo plan pushed p (lines ++ line ∷ []) told wrongs.Line
-earlier plan p line told pushed lines s r =
+some_front : (plan : Plan) (front : List (List ℕ)) (left : ℕ) → RefusedFrom plan front left → front ≢ []
+some_front plan [] left r = λ e. r.refused.settled refl
+some_front plan (x ∷ front) left r = λ e. cc
+
+refused_line : (plan : Plan) (front behind : List (List ℕ)) (left : ℕ) → StartsMessage front → IsOpen plan front → IsStuck front behind → RefusedFrom plan front left
+    → HasOtherLine plan (front ++ behind) (length front - left + 1)
+refused_line plan front behind left starts is_open stuck r = record {
+  own = front;
+  behind = behind;
+  split = refl;
+  starts = starts;
+  left = left;
+  reaches = inr (is_open, (stuck, r.some));
+  refused = r.refused;
+  number_is = refl;
+}
+
+earlier : (plan : Plan) (p : Place) (line : List ℕ) (told : ℕ) (pushed : List ℕ) (lines : List (List ℕ)) → Stands plan pushed p lines
+    → ((front more : List (List ℕ)) → lines_in p.text.items ≡ front → IsStuck front (line ∷ more)) → RefusesEarlier plan p told wrongs.Line → StopsSo plan pushed p (lines ++ line ∷ []) told wrongs.Line
+earlier plan p line told pushed lines s stuck r =
     let front = front_is plan pushed p lines s in
     let short = left_short plan lines s.entries s.front s.are in
-    let read : alone (read_message plan.messages s.front) ≡ Err r.left = ap (λ (ls : List (List ℕ)). alone (read_message plan.messages ls)) (sym front) ∙ r.read in
-    let some = some_front s.front r.left (open_ended plan.messages s.front r.left s.is_open.each read) r.some in
+    let from : RefusedFrom plan s.front r.left = subst (λ (ls : List (List ℕ)). RefusedFrom plan ls r.left) front r.refused in
+    let some = some_front plan s.front r.left from in
     record {
       entries = s.entries;
       behind = s.front ++ line ∷ [];
       are = entries_more plan lines s.entries s.front (line ∷ []) s.are;
       number = length s.front - r.left + 1;
-      refused = λ more. subst (λ (ls : List (List ℕ)). HasOtherLine plan ls (length s.front - r.left + 1)) (sym (append_assoc s.front (line ∷ []) more))
-          (other_line plan s.front (line ∷ more) r.left some s.is_open.starts (open_refused plan.messages s.front (line ∷ more) r.left s.is_open.each r.some read));
+      refused = λ more. inl (subst (λ (ls : List (List ℕ)). HasOtherLine plan ls (length s.front - r.left + 1)) (sym (append_assoc s.front (line ∷ []) more))
+          (refused_line plan s.front (line ∷ more) r.left s.starts s.is_open (stuck s.front more front) from));
       line_is = r.told_is ∙ ap (λ (ls : List (List ℕ)). min (p.first + (length ls - r.left)) (2 ^ 64 - 1)) front
           ∙ line_in (length lines) (length s.front) p.first (length s.front - r.left) (s.first_is some) ∙ behind s.front (length s.front - r.left + 1);
       given = s.given;
     }
   where
-    some_front : (front : List (List ℕ)) (left : ℕ) → read_message plan.messages front ≡ Err left → 0 < left → front ≢ []
-    some_front [] left read some = λ e. let none : 0 ≡ left = cc in omega (arith, none, some)
-    some_front (x ∷ front) left read some = λ e. cc
-
     behind : (front : List (List ℕ)) (number : ℕ) → min (length lines - length front + number) (2 ^ 64 - 1) ≡ min (length (lines ++ line ∷ []) - length (front ++ line ∷ []) + number) (2 ^ 64 - 1)
     behind front number = let long = length-append lines (line ∷ []) in let more = length-append front (line ∷ []) in omega (arith, long, more)
 
@@ -354,20 +422,28 @@ here_line front lines line number short n =
 
 -- a message goes on to this line
 reaches : (plan : Plan) (pushed : List ℕ) (p : Place) (lines : List (List ℕ)) (s : Stands plan pushed p lines) (line : List ℕ) (rest : List (List ℕ))
-    → ((left : ℕ) → 0 < left → read_alone plan p.text.items ≡ Err left → ⊥) → Reaches plan ((s.front ++ line ∷ []) ++ rest) s.front line (length s.front + 1)
+    → MayStand plan (lines_in p.text.items) → Reaches plan ((s.front ++ line ∷ []) ++ rest) s.front line (length s.front + 1)
 reaches plan pushed p lines s line rest none = record {
   behind = rest;
   split = append_assoc s.front (line ∷ []) rest;
-  needs_more = open_needs plan.messages s.front s.is_open.each
-      (λ left some read. none left some (ap (λ (ls : List (List ℕ)). alone (read_message plan.messages ls)) (front_is plan pushed p lines s) ∙ read));
+  starts = s.starts;
+  is_open = s.is_open;
+  may_stand = subst (MayStand plan) (front_is plan pushed p lines s) none;
   number_is = refl;
 }
 
 pub past_limit : (plan : Plan) (p : Place) (line : List ℕ) (number told : ℕ) (told_wrong : Wrong) → most_bytes < length p.text.items + (length line + 2)
-    → Refuses plan p number wrongs.Endless (stops.Wrong told told_wrong) → Halts plan p p line number (stops.Wrong told told_wrong)
+    → RefusesOne plan p number wrongs.Endless (stops.Wrong told told_wrong) → Halts plan p p line number (stops.Wrong told told_wrong)
 past_limit plan p line number told told_wrong past (inl r) = λ pushed lines feedless n s.
     subst (λ (w : Wrong). StopsSo plan pushed p (lines ++ line ∷ []) told w) (sym r.wrong_is)
-    (earlier plan p line told pushed lines s (record { left = r.left; some = r.some; read = r.read; told_is = r.told_is; wrong_is = refl }))
+    (earlier plan p line told pushed lines s (λ front more is. inr (past_front s is)) (record { left = r.left; refused = r.refused; told_is = r.told_is; wrong_is = refl }))
+  where
+    past_front : {front : List (List ℕ)} {pushed : List ℕ} {lines : List (List ℕ)} (s : Stands plan pushed p lines) → lines_in p.text.items ≡ front → most_bytes < size_of (front ++ line ∷ [])
+    past_front {front} {pushed} {lines} s is =
+        let same : s.front ≡ front = sym (front_is plan pushed p lines s) ∙ is in
+        let size = ap length s.text_is ∙ returned_long s.front ∙ ap size_of same in
+        let more = size_more front line in
+        omega (arith, size, more, past)
 past_limit plan p line number told told_wrong past (inr r) = λ pushed lines feedless n s.
     let short = left_short plan lines s.entries s.front s.are in
     let size = ap length s.text_is ∙ returned_long s.front in
@@ -390,10 +466,10 @@ past_limit plan p line number told told_wrong past (inr r) = λ pushed lines fee
     })
 
 pub long_line : (plan : Plan) (p : Place) (line : List ℕ) (number told : ℕ) (told_wrong : Wrong) → longest ≤ length line
-    → Refuses plan p number wrongs.TooLong (stops.Wrong told told_wrong) → Halts plan p p line number (stops.Wrong told told_wrong)
+    → RefusesOne plan p number wrongs.TooLong (stops.Wrong told told_wrong) → Halts plan p p line number (stops.Wrong told told_wrong)
 long_line plan p line number told told_wrong long (inl r) = λ pushed lines feedless n s.
     subst (λ (w : Wrong). StopsSo plan pushed p (lines ++ line ∷ []) told w) (sym r.wrong_is)
-    (earlier plan p line told pushed lines s (record { left = r.left; some = r.some; read = r.read; told_is = r.told_is; wrong_is = refl }))
+    (earlier plan p line told pushed lines s (λ front more is. inl long) (record { left = r.left; refused = r.refused; told_is = r.told_is; wrong_is = refl }))
 long_line plan p line number told told_wrong long (inr r) = λ pushed lines feedless n s.
     let short = left_short plan lines s.entries s.front s.are in
     subst (λ (w : Wrong). StopsSo plan pushed p (lines ++ line ∷ []) told w) (sym r.wrong_is) (record {
@@ -414,16 +490,17 @@ text_small p mid line a fits =
     let more = length-append line (13 ∷ 10 ∷ []) in
     omega (arith, long, more, fits)
 
-pub text_takes : (plan : Plan) (line : List ℕ) (number : ℕ) (p mid new : Place) (result : Result (Unit {0}) Stop) → line ≡ codes "end" → Adds line p mid → length mid.text.items ≤ most_bytes
+pub text_takes : (plan : Plan) (line : List ℕ) (number : ℕ) (p mid new : Place) (result : Result (Unit {0}) Stop) → TellsEnd plan mid.text.items line true → Adds line p mid → length mid.text.items ≤ most_bytes
     → Gives plan mid new result → TakesText plan line number p new result
 text_takes plan line number p mid new (Ok x) ends adds small given = inr (record { ends = ends; mid = mid; adds = adds; small = small; gives = given })
 text_takes plan line number p mid new (Err stop) ends adds small given = inr (inl (record { ends = ends; mid = mid; adds = adds; small = small; gives = given }))
 
-pub not_between : (line : List ℕ) → ((behind : List ℕ) → line ≡ codes "sender " ++ behind → ⊥) → (line ≡ codes "finish" → ⊥) → IsBetween line → ⊥
-not_between line no_sender no_finish (inl b) = no_sender b.behind b.written
-not_between line no_sender no_finish (inr e) = no_finish e
+pub not_between : (line : List ℕ) → (bare line ≡ [] → ⊥) → ((behind : List ℕ) → bare line ≡ codes "sender " ++ behind → ⊥) → (bare line ≡ codes "finish" → ⊥) → IsBetween line → ⊥
+not_between line some no_sender no_finish (inl e) = some e
+not_between line some no_sender no_finish (inr (inl b)) = no_sender b.behind b.written
+not_between line some no_sender no_finish (inr (inr e)) = no_finish e
 
-pub finished_ok : (plan : Plan) (p new : Place) (line : List ℕ) (number : ℕ) (result : Result (Unit {0}) Stop) → p.text.items ≡ [] → line ≡ codes "finish" → OnOk result (Finishes p new)
+pub finished_ok : (plan : Plan) (p new : Place) (line : List ℕ) (number : ℕ) (result : Result (Unit {0}) Stop) → p.text.items ≡ [] → bare line ≡ codes "finish" → OnOk result (Finishes p new)
     → OnOk result (Goes plan p new line number)
 finished_ok plan p new line number (Ok _) empty written f = finished plan p new line number empty written f
 finished_ok plan p new line number (Err stop) empty written f = tt
@@ -431,7 +508,7 @@ finished_ok plan p new line number (Err stop) empty written f = tt
 pub takes_ok : (plan : Plan) (p new : Place) (line : List ℕ) (number : ℕ) (result : Result (Unit {0}) Stop) → Begun p line number → TakesText plan line number p new result
     → OnOk result (Goes plan p new line number)
 takes_ok plan p new line number (Ok _) begun (inl t) = text_goes plan p new line number begun t
-takes_ok plan p new line number (Ok _) begun (inr t) = text_ends plan p new line number t
+takes_ok plan p new line number (Ok _) begun (inr t) = text_ends plan p new line number begun t
 takes_ok plan p new line number (Err stop) begun t = tt
 
 pub takes_err : (plan : Plan) (p new : Place) (line : List ℕ) (number : ℕ) (result : Result (Unit {0}) Stop) → Begun p line number → TakesText plan line number p new result
@@ -453,6 +530,7 @@ with_first plan pushed p lines number empty s = record {
   entries = s.entries;
   front = s.front;
   are = s.are;
+  starts = s.starts;
   is_open = s.is_open;
   feedless = s.feedless;
   text_is = s.text_is;
@@ -475,12 +553,12 @@ first_err plan p new line number (Ok _) empty halts = tt
 first_err plan p new line number (Err stops.Memory) empty halts = tt
 first_err plan p new line number (Err (stops.Wrong told wrong)) empty halts = λ pushed lines feedless n s. halts pushed lines feedless n (with_first plan pushed p lines number empty s)
 
-pub named_ok : (plan : Plan) (p new : Place) (line digits : List ℕ) (number : ℕ) (result : Result (Unit {0}) Stop) → p.text.items ≡ [] → line ≡ codes "sender " ++ digits
+pub named_ok : (plan : Plan) (p new : Place) (line digits : List ℕ) (number : ℕ) (result : Result (Unit {0}) Stop) → p.text.items ≡ [] → bare line ≡ codes "sender " ++ digits
     → OnOk result (Names digits p new) → OnOk result (Goes plan p new line number)
 named_ok plan p new line digits number (Ok _) empty written n = named plan p new line digits number empty written n
 named_ok plan p new line digits number (Err stop) empty written n = tt
 
-pub named_err : (plan : Plan) (p new : Place) (line digits : List ℕ) (number : ℕ) (result : Result (Unit {0}) Stop) → p.text.items ≡ [] → line ≡ codes "sender " ++ digits
+pub named_err : (plan : Plan) (p new : Place) (line digits : List ℕ) (number : ℕ) (result : Result (Unit {0}) Stop) → p.text.items ≡ [] → bare line ≡ codes "sender " ++ digits
     → IfErr result (NamesNobody digits number p new) → IfErr result (Halts plan p new line number)
 named_err plan p new line digits number (Ok _) empty written n = tt
 named_err plan p new line digits number (Err stop) empty written n = names_nobody plan p new line digits number stop empty written n
@@ -499,7 +577,7 @@ whole_err plan p new lent line n number (Ok _) same numbered halts = tt
 whole_err plan p new lent line n number (Err stop) same numbered halts = λ says raw told long.
     subst (λ (k : ℕ). Halts plan p new says k stop) numbered (subst (λ (l : List ℕ). Halts plan p new l n stop) (same ∙ told.1) halts)
 
-pub long_err : (plan : Plan) (p : Place) (line : List ℕ) (n number : ℕ) (stop : Stop) → n ≡ number → Refuses plan p n wrongs.TooLong stop
+pub long_err : (plan : Plan) (p : Place) (line : List ℕ) (n number : ℕ) (stop : Stop) → n ≡ number → RefusesOne plan p n wrongs.TooLong stop
     → (says raw : List ℕ) → IsTold TooLong line says raw → length raw ≤ length says + 1 → Halts plan p p says number stop
 long_err plan p line n number stops.Memory numbered r says raw told long = tt
 long_err plan p line n number (stops.Wrong at wrong) numbered r says raw told long =
@@ -514,65 +592,53 @@ end_none plan p empty pushed lines s = record {
   given = s.given;
 }
 
-pub end_given : (plan : Plan) (p new : Place) → GivesMessage plan p new → (pushed : List ℕ) (lines : List (List ℕ)) → Stands plan pushed p lines → IsAll plan pushed new lines
-end_given plan p new g pushed lines s =
-    let read : alone (read_message plan.messages s.front) ≡ Ok g.message = ap (λ (ls : List (List ℕ)). alone (read_message plan.messages ls)) (sym (front_is plan pushed p lines s)) ∙ g.read in
-    let size = ap length s.text_is ∙ returned_long s.front in
-    let small = s.small in
-    let within : size_of s.front ≤ 0 + most_bytes = omega (arith, size, small) in
-    record {
-      entries = s.entries ++ gives g.message ∷ [];
-      are = entry_closed plan lines s.entries s.front (gives g.message) s.are
-          (record { read = whole_alone plan.messages s.front g.message read; faultless = g.faultless; within = within });
-      given = given_more plan s.entries g.message pushed p new s.sender_is s.numbers_are s.sender s.given g.form g.lines;
-    }
-
-pub ends_ok : (plan : Plan) (p new : Place) (result : Result (Unit {0}) Stop) → Gives plan p new result
-    → OnOk result ((pushed : List ℕ) (lines : List (List ℕ)) → Stands plan pushed p lines → IsAll plan pushed new lines)
-ends_ok plan p new (Ok _) g = end_given plan p new g
-ends_ok plan p new (Err stop) g = tt
+-- the number of the line behind the last of a message
+behind_line : (lines front : List (List ℕ)) (text : List ℕ) (first told : ℕ) → lines_in text ≡ front → told ≡ min (first + (length (lines_in text) - 0)) (2 ^ 64 - 1)
+    → first ≡ min (length lines - length front + 1) (2 ^ 64 - 1) → told ≡ min (length lines - length front + (length front + 1)) (2 ^ 64 - 1)
+behind_line lines front text first told is t f = let same = ap length is in omega (arith, same, t, f)
 
 some_text : (front : List (List ℕ)) (text : List ℕ) → text ≡ returned front → (text ≡ [] → ⊥) → front ≢ []
 some_text [] text is some = λ e. some is
 some_text (x ∷ front) text is some = λ e. cc e
 
-pub end_halts : (plan : Plan) (p new : Place) (stop : Stop) → (p.text.items ≡ [] → ⊥) → Gives {A = Unit {0}} plan p new (Err stop) → HaltsAtEnd plan p new stop
-end_halts plan p new stops.Memory some g = tt
-end_halts plan p new (stops.Wrong told wrongs.TooLong) some g = absurd g
-end_halts plan p new (stops.Wrong told wrongs.Sender) some g = absurd g
-end_halts plan p new (stops.Wrong told wrongs.Endless) some g = absurd g
-end_halts plan p new (stops.Wrong told wrongs.Line) some g = λ pushed lines s.
+end_line : (plan : Plan) (p : Place) (told : ℕ) (wrong : Wrong) (behind : ℕ) → (p.text.items ≡ [] → ⊥) → behind ≡ line_of p 0
+    → RefusesEarlier plan p told wrong ⊎ RefusesHere plan p behind wrongs.Line told wrong → (pushed : List ℕ) (lines : List (List ℕ)) → Stands plan pushed p lines
+    → StopsAtEnd plan pushed p lines told wrongs.Line
+end_line plan p told wrong behind some is (inl r) pushed lines s =
+    let front = front_is plan pushed p lines s in
+    let from : RefusedFrom plan s.front r.left = subst (λ (ls : List (List ℕ)). RefusedFrom plan ls r.left) front r.refused in
+    record {
+      entries = s.entries;
+      behind = s.front;
+      are = s.are;
+      number = length s.front - r.left + 1;
+      refused = inl (subst (λ (ls : List (List ℕ)). HasOtherLine plan ls (length s.front - r.left + 1)) (append-nil s.front)
+          (refused_line plan s.front [] r.left s.starts s.is_open tt from));
+      line_is = r.told_is ∙ ap (λ (ls : List (List ℕ)). min (p.first + (length ls - r.left)) (2 ^ 64 - 1)) front
+          ∙ line_in (length lines) (length s.front) p.first (length s.front - r.left) (s.first_is (some_text s.front p.text.items s.text_is some));
+      given = s.given;
+    }
+end_line plan p told wrong behind some is (inr r) pushed lines s =
     let front = front_is plan pushed p lines s in
     let some_line = some_text s.front p.text.items s.text_is some in
-    let read : alone (read_message plan.messages s.front) ≡ Err g.left = ap (λ (ls : List (List ℕ)). alone (read_message plan.messages ls)) (sym front) ∙ g.read in
-    let same : g.left ≡ g.left + length {A = List ℕ} [] = omega arith in
     record {
       entries = s.entries;
       behind = s.front;
       are = s.are;
-      number = length s.front - g.left + 1;
-      refused = subst (λ (ls : List (List ℕ)). HasOtherLine plan ls (length s.front - g.left + 1)) (append-nil s.front)
-          (other_line plan s.front [] g.left some_line s.is_open.starts
-          (ap (read_message plan.messages) (append-nil s.front) ∙ open_ended plan.messages s.front g.left s.is_open.each read ∙ ap (λ (n : ℕ). Err n) same));
-      line_is = g.told_is ∙ ap (λ (ls : List (List ℕ)). min (p.first + (length ls - g.left)) (2 ^ 64 - 1)) front
-          ∙ line_in (length lines) (length s.front) p.first (length s.front - g.left) (s.first_is some_line);
-      given = kept_given plan s.entries pushed p p new s.given refl refl g.form g.lines;
-    }
-end_halts plan p new (stops.Wrong told (wrongs.Message fault)) some g = λ pushed lines s.
-    let read : alone (read_message plan.messages s.front) ≡ Ok g.message = ap (λ (ls : List (List ℕ)). alone (read_message plan.messages ls)) (sym (front_is plan pushed p lines s)) ∙ g.read in
-    record {
-      entries = s.entries;
-      behind = s.front;
-      are = s.are;
-      number = 1;
-      refused = record { message = g.message; rest = []; read = whole_alone plan.messages s.front g.message read; faulty = g.faulty; number_is = refl };
-      line_is = g.told_is ∙ s.first_is (some_text s.front p.text.items s.text_is some);
-      given = kept_given plan s.entries pushed p p new s.given refl refl g.form g.lines;
+      number = length s.front + 1;
+      refused = inr (record { some = some_line; starts = s.starts; is_open = s.is_open; may_stand = subst (MayStand plan) front r.none; number_is = refl });
+      line_is = behind_line lines s.front p.text.items p.first told front (r.told_is ∙ is) (s.first_is some_line);
+      given = s.given;
     }
 
-pub ends_err : (plan : Plan) (p new : Place) (result : Result (Unit {0}) Stop) → (p.text.items ≡ [] → ⊥) → Gives plan p new result → IfErr result (HaltsAtEnd plan p new)
-ends_err plan p new (Ok _) some g = tt
-ends_err plan p new (Err stop) some g = end_halts plan p new stop some g
+wrong_is_line : (plan : Plan) (p : Place) (told behind : ℕ) (wrong : Wrong) → RefusesEarlier plan p told wrong ⊎ RefusesHere plan p behind wrongs.Line told wrong → wrong ≡ wrongs.Line
+wrong_is_line plan p told behind wrong (inl r) = r.wrong_is
+wrong_is_line plan p told behind wrong (inr r) = r.wrong_is
+
+pub end_halts : (plan : Plan) (p : Place) (stop : Stop) (behind : ℕ) → (p.text.items ≡ [] → ⊥) → behind ≡ line_of p 0 → RefusesOne plan p behind wrongs.Line stop → HaltsAtEnd plan p p stop
+end_halts plan p stops.Memory behind some is r = tt
+end_halts plan p (stops.Wrong told wrong) behind some is r = λ pushed lines s.
+    subst (λ (w : Wrong). StopsAtEnd plan pushed p lines told w) (sym (wrong_is_line plan p told behind wrong r)) (end_line plan p told wrong behind some is r pushed lines s)
 
 -- ---- the beginning
 
@@ -581,7 +647,8 @@ nothing_read plan form p b = record {
   entries = [];
   front = [];
   are = refl;
-  is_open = record { starts = tt; each = All-nil GoesOn };
+  starts = tt;
+  is_open = none_open plan;
   feedless = All-nil IsFeedless;
   text_is = b.text_is;
   small = let none = ap length b.text_is in omega (arith, none);

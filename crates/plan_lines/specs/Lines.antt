@@ -8,7 +8,7 @@ use Rattle.sbe_grammar.specs.Canonical.{canonical}
 use Rattle.plan_text.specs.Plans.{Gift, payloads_of_sender}
 use Rattle.plan_lines.specs.declared.form.Form.{Form}
 use Rattle.plan_lines.specs.declared.form.Form.TheVariants.{Plain, Numbered}
-use Rattle.plan_lines.specs.Entries.{Entry, names, gives, finishes}
+use Rattle.plan_lines.specs.Entries.{Entry, passes, names, gives, finishes}
 
 -- ---- whose the messages are
 
@@ -19,6 +19,7 @@ gift_of plan sender message = record { sender = sender; payload = payload_of (re
 -- messages are those of the sender that was named last; those before any are this sender's
 abbrev pub gifts_from : Plan → ℕ → List Entry → List Gift
 gifts_from plan sender [] = []
+gifts_from plan sender (passes ∷ entries) = gifts_from plan sender entries
 gifts_from plan sender (names other ∷ entries) = gifts_from plan other entries
 gifts_from plan sender (gives message ∷ entries) = gift_of plan sender message ∷ gifts_from plan sender entries
 gifts_from plan sender (finishes ∷ entries) = gifts_from plan sender entries
@@ -26,6 +27,7 @@ gifts_from plan sender (finishes ∷ entries) = gifts_from plan sender entries
 -- the sender that was named last
 abbrev pub sender_from : ℕ → List Entry → ℕ
 sender_from sender [] = sender
+sender_from sender (passes ∷ entries) = sender_from sender entries
 sender_from sender (names other ∷ entries) = sender_from other entries
 sender_from sender (gives message ∷ entries) = sender_from sender entries
 sender_from sender (finishes ∷ entries) = sender_from sender entries
@@ -57,8 +59,9 @@ number_part (Numbered firsts) number = decimal number ++ 32 ∷ []
 abbrev pub gift_line : Form → ℕ → Gift → List ℕ
 gift_line form number g = decimal g.sender ++ 32 ∷ [] ++ number_part form number ++ encode_lower g.payload ++ 10 ∷ []
 
--- the line of an entry behind others; one that names a sender has none
+-- the line of an entry behind others; one that says nothing and one that names a sender have none
 abbrev pub line_behind : Plan → Form → List Entry → Entry → List ℕ
+line_behind plan form before passes = []
 line_behind plan form before (names sender) = []
 line_behind plan form before (gives message) =
     gift_line form (number_behind form (gifts_of plan before) (sender_behind before)) (gift_of plan (sender_behind before) message)

@@ -1,5 +1,6 @@
 -- How far a text is read. These are steps of the proof: nothing that a user relies on needs them.
-use Rattle.std.specs.Prelude.{◌≡◌, ◌≢◌, ⊤, ◌⊎◌, ℕ, ◌+◌, ◌-◌, ◌^◌, ◌<◌, ◌≤◌, min, Bool, false, None, Option, Some, List, [], ◌∷◌, ◌++◌, length, map, slice_index, Result, Ok, Err, All, decimal, codes}
+use Rattle.std.specs.Prelude.{◌≡◌, ◌≢◌, ⊤, ◌⊎◌, ℕ, ◌+◌, ◌-◌, ◌^◌, ◌<◌, ◌≤◌, min, Bool, true, false, None, Option, Some, List, [], ◌∷◌, ◌++◌, length, map, slice_index, Result, Ok, Err, IsOk, All, decimal, codes}
+use Rattle.std.specs.Borrow.{Bor}
 use Rattle.std.specs.Io.KnownBytes.{Appends, Consumes, IsAtEnd}
 use Rattle.gw_outside.specs.Faults.{TakesFront}
 use Rattle.text_words.specs.Lines.{lines_in, unreturned}
@@ -8,11 +9,16 @@ use Rattle.gw_lines.specs.Lines.{IsFeedless}
 use Rattle.gw_lines.specs.Reading.{Reading, HasGiven}
 use Rattle.sbe_value.specs.declared.message.Message.{Message}
 use Rattle.sbe_layout.specs.declared.plan.Plan.{Plan}
-use Rattle.sbe_text.specs.Reading.{read_message, alone}
+use Rattle.sbe_grammar.specs.Canonical.{canonical}
 use Rattle.sbe_encode.specs.Faults.{encode_fault}
 use Rattle.sbe_encode.specs.declared.fault.EncodeFault.{EncodeFault}
-use Rattle.sbe_encode.specs.declared.fault.EncodeError.{EncodeError}
-use Rattle.sbe_encode.specs.declared.fault.EncodeError.TheVariants as errors
+use Rattle.sbe_text.specs.declared.error.Refusal.{Refusal}
+use Rattle.sbe_text.specs.Answers.{Fails}
+use Rattle.text_names.specs.Fronts.{front_of}
+use Rattle.sbe_from_text.specs.declared.front.Unwritten.{Unwritten}
+use Rattle.sbe_from_text.specs.declared.front.Unwritten.TheVariants as unwritten
+use Rattle.sbe_from_text.specs.Fronts.{IsFaulty}
+use Rattle.fixp_msgs.specs.Numbering.{payload_of}
 use Rattle.plan_lines.specs.declared.form.Form.{Form}
 use Rattle.plan_lines.specs.declared.end.Wrong.{Wrong}
 use Rattle.plan_lines.specs.declared.end.Wrong.TheVariants as wrongs
@@ -22,7 +28,7 @@ use Rattle.plan_lines.specs.declared.end.PlanEnd.{PlanEnd}
 use Rattle.plan_lines.specs.declared.end.PlanEnd.TheVariants as ends
 use Rattle.plan_lines.specs.declared.numbers.Numbers.{Numbers}
 use Rattle.plan_lines.specs.declared.place.Place.{Place}
-use Rattle.plan_lines.specs.Entries.{AreEntries, BeginsSender, Entry, IsBetween, IsRefused, most_bytes}
+use Rattle.plan_lines.specs.Entries.{AreEntries, Ends, Entry, IsOpen, IsRefused, MayStand, Refuses, StartsMessage, all_of, most_bytes}
 use Rattle.plan_lines.specs.Lines.{first_of, gift_line, gift_of, gifts_of, lines_of, number_behind, sender_behind}
 use Rattle.plan_lines.specs.Planned.{Gave}
 
@@ -55,9 +61,34 @@ pub record Finishes (old new : Place) : Type 0 where
   pub lines : new.lines.items ≡ old.lines.items ++ codes "finish\n"
   pub kept : new ≡ record old { lines = new.lines }
 
--- what the lines of a message are, where nothing stands behind them: it, or how many are left at the first that may not stand there
-abbrev pub read_alone : Plan → List ℕ → Result Message ℕ
-read_alone plan text = alone (read_message plan.messages (lines_in text))
+-- the lines of a text are those of a message that may be written, and these are its bytes
+pub record HasBytes (plan : Plan) (lines : List (List ℕ)) (bytes : List ℕ) : Type 0 where
+  pub message : Message
+  pub read : front_of plan lines ≡ Ok (Some (message, []))
+  pub faultless : encode_fault plan message ≡ None
+  pub is : bytes ≡ canonical plan message
+
+-- or what is wrong with them is told
+abbrev pub MakesBytes : {A : Type 0} → Plan → List ℕ → List ℕ → Result A Unwritten → Type 0
+MakesBytes plan text bytes (Ok _) = HasBytes plan (lines_in text) bytes
+MakesBytes plan text bytes (Err (unwritten.Line at)) = all_of (front_of plan (lines_in text)) ≡ Err (length (lines_in at.now))
+MakesBytes plan text bytes (Err (unwritten.Fault fault)) = IsFaulty plan text fault
+MakesBytes plan text bytes (Err unwritten.Memory) = ⊤
+
+-- all lines of a text are one message, or how many are left at the first that may not stand there
+abbrev pub ReadsAll : {A : Type 0} → Plan → List ℕ → Result A Refusal → Type 0
+ReadsAll plan text (Ok _) = IsOk (all_of (front_of plan (lines_in text)))
+ReadsAll plan text (Err refusal) = Fails refusal (all_of (front_of plan (lines_in text)))
+
+-- the first of some lines that is refused is the first of these that are left
+pub record RefusedFrom (plan : Plan) (lines : List (List ℕ)) (left : ℕ) : Type 0 where
+  pub some : 0 < left
+  pub refused : Refuses plan lines left
+
+-- or each may stand there
+abbrev pub RefusesIn : Plan → List (List ℕ) → Option (Bor (List ℕ)) → Type 0
+RefusesIn plan lines (Some left) = RefusedFrom plan lines (length (lines_in left.now))
+RefusesIn plan lines None = MayStand plan lines
 
 -- the number of the line of a message at which so many are left
 abbrev pub line_of : Place → ℕ → ℕ
@@ -66,20 +97,19 @@ line_of p left = min (p.first + (length (lines_in p.text.items) - left)) (2 ^ 64
 -- one of the lines of a message that has not ended is refused
 pub record RefusesEarlier (plan : Plan) (p : Place) (told : ℕ) (told_wrong : Wrong) : Type 0 where
   pub left : ℕ
-  pub some : 0 < left
-  pub read : read_alone plan p.text.items ≡ Err left
+  pub refused : RefusedFrom plan (lines_in p.text.items) left
   pub told_is : told ≡ line_of p left
   pub wrong_is : told_wrong ≡ wrongs.Line
 
 -- or none of them, and the line behind them is
 pub record RefusesHere (plan : Plan) (p : Place) (line : ℕ) (wrong : Wrong) (told : ℕ) (told_wrong : Wrong) : Type 0 where
-  pub none : (left : ℕ) → 0 < left → read_alone plan p.text.items ≡ Err left → ⊥
+  pub none : MayStand plan (lines_in p.text.items)
   pub told_is : told ≡ line
   pub wrong_is : told_wrong ≡ wrong
 
-abbrev pub Refuses : Plan → Place → ℕ → Wrong → Stop → Type 0
-Refuses plan p line wrong (stops.Wrong told told_wrong) = RefusesEarlier plan p told told_wrong ⊎ RefusesHere plan p line wrong told told_wrong
-Refuses plan p line wrong stops.Memory = ⊤
+abbrev pub RefusesOne : Plan → Place → ℕ → Wrong → Stop → Type 0
+RefusesOne plan p line wrong (stops.Wrong told told_wrong) = RefusesEarlier plan p told told_wrong ⊎ RefusesHere plan p line wrong told told_wrong
+RefusesOne plan p line wrong stops.Memory = ⊤
 
 -- a line was added to those of the message
 pub record Adds (line : List ℕ) (old new : Place) : Type 0 where
@@ -93,7 +123,7 @@ pub record Adds (line : List ℕ) (old new : Place) : Type 0 where
 -- the message of the text was given to its sender
 pub record GivesMessage (plan : Plan) (old new : Place) : Type 0 where
   pub message : Message
-  pub read : read_alone plan old.text.items ≡ Ok message
+  pub read : front_of plan (lines_in old.text.items) ≡ Ok (Some (message, []))
   pub faultless : encode_fault plan message ≡ None
   pub text : new.text.items ≡ []
   pub form : new.form ≡ old.form
@@ -103,15 +133,13 @@ pub record GivesMessage (plan : Plan) (old new : Place) : Type 0 where
 
 pub record RefusesText (plan : Plan) (old new : Place) (told : ℕ) : Type 0 where
   pub left : ℕ
-  pub read : read_alone plan old.text.items ≡ Err left
+  pub read : all_of (front_of plan (lines_in old.text.items)) ≡ Err left
   pub told_is : told ≡ line_of old left
   pub form : new.form ≡ old.form
   pub lines : new.lines ≡ old.lines
 
 pub record RefusesMessage (plan : Plan) (old new : Place) (told : ℕ) (fault : EncodeFault) : Type 0 where
-  pub message : Message
-  pub read : read_alone plan old.text.items ≡ Ok message
-  pub faulty : encode_fault plan message ≡ Some fault
+  pub faulty : IsFaulty plan old.text.items fault
   pub told_is : told ≡ old.first
   pub form : new.form ≡ old.form
   pub lines : new.lines ≡ old.lines
@@ -123,34 +151,29 @@ Gives plan old new (Err (stops.Wrong told (wrongs.Message fault))) = RefusesMess
 Gives plan old new (Err (stops.Wrong told _)) = ⊥
 Gives plan old new (Err stops.Memory) = ⊤
 
--- the same by the message that was read
-pub record GaveOne (plan : Plan) (message : Message) (old new : Place) : Type 0 where
-  pub faultless : encode_fault plan message ≡ None
+-- a message of these bytes was given to the sender
+pub record GivesBytes (plan : Plan) (message : List ℕ) (old new : Place) : Type 0 where
   pub text : new.text.items ≡ []
   pub form : new.form ≡ old.form
   pub sender : new.sender ≡ old.sender
   pub numbers : Counts old.numbers new.numbers old.sender
-  pub lines : new.lines.items ≡ old.lines.items ++ gift_line old.form (number_in old.numbers old.sender) (gift_of plan old.sender message)
+  pub lines : new.lines.items ≡ old.lines.items ++ gift_line old.form (number_in old.numbers old.sender) (record { sender = old.sender; payload = payload_of (record { order = plan.order; message = message }) })
 
-abbrev pub GivesOne : {A : Type 0} → Plan → Message → Place → Place → Result A EncodeError → Type 0
-GivesOne plan message old new (Ok _) = GaveOne plan message old new
-GivesOne plan message old new (Err (errors.Fault fault)) = (encode_fault plan message ≡ Some fault) × (new ≡ old)
-GivesOne plan message old new (Err errors.Memory) = ⊤
-
--- a message goes on behind this line
-abbrev pub GoesOn : List ℕ → Type 0
-GoesOn line = line ≢ codes "end"
+-- the last line of a text, which is this, ends the message or does not
+abbrev pub TellsEnd : Plan → List ℕ → List ℕ → Bool → Type 0
+TellsEnd plan text line true = (front : List (List ℕ)) → lines_in text ≡ front ++ line ∷ [] → Ends plan front line
+TellsEnd plan text line false = (front : List (List ℕ)) → lines_in text ≡ front ++ line ∷ [] → Ends plan front line → ⊥
 
 -- a line goes on with the text of a message
-pub record TextGoes (line : List ℕ) (old new : Place) : Type 0 where
-  pub goes : GoesOn line
+pub record TextGoes (plan : Plan) (line : List ℕ) (old new : Place) : Type 0 where
+  pub goes : TellsEnd plan new.text.items line false
   pub adds : Adds line old new
   pub small : length new.text.items ≤ most_bytes
 
 -- or ends it, and the message was given or refused
 pub record TextEnds {A : Type 0} (plan : Plan) (line : List ℕ) (old new : Place) (result : Result A Stop) : Type 0 where
-  pub ends : line ≡ codes "end"
   pub mid : Place
+  pub ends : TellsEnd plan mid.text.items line true
   pub adds : Adds line old mid
   pub small : length mid.text.items ≤ most_bytes
   pub gives : Gives plan mid new result
@@ -158,11 +181,11 @@ pub record TextEnds {A : Type 0} (plan : Plan) (line : List ℕ) (old new : Plac
 -- or is too much for it
 pub record TextPast (plan : Plan) (line : List ℕ) (number : ℕ) (old new : Place) (stop : Stop) : Type 0 where
   pub past : most_bytes < length old.text.items + (length line + 2)
-  pub refuses : Refuses plan old number wrongs.Endless stop
+  pub refuses : RefusesOne plan old number wrongs.Endless stop
   pub kept : new ≡ old
 
 abbrev pub TakesText : {A : Type 0} → Plan → List ℕ → ℕ → Place → Place → Result A Stop → Type 0
-TakesText plan line number old new (Ok x) = TextGoes line old new ⊎ TextEnds plan line old new (Ok x)
+TakesText plan line number old new (Ok x) = TextGoes plan line old new ⊎ TextEnds plan line old new (Ok x)
 TakesText {A} plan line number old new (Err stop) = TextPast plan line number old new stop ⊎ (TextEnds {A = A} plan line old new (Err stop) ⊎ (stop ≡ stops.Memory))
 
 -- a place where nothing was read
@@ -181,22 +204,13 @@ abbrev pub returned : List (List ℕ) → List ℕ
 returned [] = []
 returned (line ∷ lines) = line ++ 13 ∷ 10 ∷ returned lines
 
--- the first line of a message stands for nothing else
-abbrev pub StartsMessage : List (List ℕ) → Type 0
-StartsMessage [] = ⊤
-StartsMessage (line ∷ lines) = IsBetween line → ⊥
-
--- lines at the front of a message, whose `end` is not among them
-pub record IsOpen (front : List (List ℕ)) : Type 0 where
-  pub starts : StartsMessage front
-  pub each : All GoesOn front
-
 -- some lines are those of entries and the front of a message; what was pushed and what waits are the lines of the messages
 pub record Stands (plan : Plan) (pushed : List ℕ) (p : Place) (lines : List (List ℕ)) : Type 0 where
   pub entries : List Entry
   pub front : List (List ℕ)
   pub are : AreEntries plan lines entries front
-  pub is_open : IsOpen front
+  pub starts : StartsMessage front
+  pub is_open : IsOpen plan front
   pub feedless : All IsFeedless front
   pub text_is : p.text.items ≡ returned front
   pub small : length p.text.items ≤ most_bytes

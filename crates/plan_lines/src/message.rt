@@ -1,38 +1,121 @@
-//! One message of a text: what its lines spell, and the line that gives it to a sender.
+//! The text of one message: where it ends, the bytes that its lines spell, and the line that gives them to a sender.
 
-ghost use Rattle.std.specs.Prelude.{◌≡◌, ◌≤◌, ◌^◌, ◌++◌, length, OnOk};
+ghost use Rattle.std.specs.Prelude.{◌≡◌, ◌≤◌, ◌^◌, ◌↔◌, ◌++◌, Err, IfOk, IsTrue, OnOk, codes, length};
 ghost use Rattle.hex.specs.Hex.{encode_lower};
 ghost use Rattle.sofh_frame.specs.Framing.{encoding_of};
 ghost use Rattle.fixp_msgs.specs.Numbering.{payload_of};
-ghost use Rattle.sbe_text.specs.Answers.{Gives};
+ghost use Rattle.text_words.specs.Lines.{lines_in};
+ghost use Rattle.sbe_text.specs.Reading.{read_message};
+ghost use Rattle.text_names.specs.Bare.{bare};
 ghost use Rattle.plan_text.specs.Plans.{Gift};
 ghost use Rattle.plan_lines.specs.Lines.{gift_line, number_part};
-ghost use Rattle.plan_lines.specs.Progress.{read_alone};
+ghost use Rattle.plan_lines.specs.Progress.{MakesBytes, ReadsAll, RefusesIn, TellsEnd};
 
 use crate::form::Form;
+use sbe_from_text::{Rooms, Unwritten, write_front};
 use sbe_layout::Plan;
 use sbe_prim::Order;
-use sbe_text::{Refusal, Spare, next_message};
-use sbe_value::Message;
+use sbe_text::{Refusal, first_message};
 use std::alloc::{AllocError, Global};
+use text_names::{Narrow, bare_line, front_message};
 use text_words::{first_line, push_decimal, push_hex};
 
-/// The message that the lines of a text spell, with room of messages before it.
+/// Whether a line says `end`, with what a person may write around it.
+fn says_end(line: &[u8]) -> bool
+    ensures { IsTrue result ↔ (bare line.now ≡ codes "end") }
+{
+    bare_line(line) == b"end".as_slice()
+}
+
+/// Whether the strict form asks for more lines behind these.
+fn asks_for_more(alloc: Global, plan: &Plan, text: &[u8]) -> Result<bool, AllocError>
+    ensures { IfOk result (λ more. IsTrue more ↔ (read_message plan.now.messages (lines_in text.now) ≡ Err 0)) }
+{
+    match first_message(alloc, plan, text) {
+        Ok(_) => Ok(false),
+        Err(Refusal::At(left)) => Ok(first_line(left).is_none()),
+        Err(Refusal::Memory) => Err(AllocError),
+    }
+}
+
+/// Whether a text, whose last line this is, has the whole of a message.
+pub(crate) fn has_end(
+    alloc: Global,
+    plan: &Plan,
+    text: &[u8],
+    line: &[u8],
+) -> Result<bool, AllocError>
+    ensures { IfOk result (TellsEnd plan.now text.now line.now) }
+{
+    // the strict form goes on behind no such line
+    if line == b"end".as_slice() {
+        return Ok(true);
+    }
+    if !says_end(line) {
+        return Ok(false);
+    }
+    Ok(!asks_for_more(alloc, plan, text)?)
+}
+
+/// Whether all of a text is one message.
 ///
 /// # Errors
 /// `At` with the text from the first line on that may not stand there, and `Memory`.
-pub(crate) fn message_of<'a>(
+fn read_all<'a>(alloc: Global, plan: &Plan, text: &'a [u8]) -> Result<(), Refusal<'a>>
+    ensures { ReadsAll plan.now text.now result }
+{
+    let mut narrow = Narrow::new(alloc);
+    match front_message(alloc, plan, text, &mut narrow) {
+        Ok(Some((_, rest))) => match first_line(rest) {
+            None => Ok(()),
+            Some(_) => Err(Refusal::At(rest)),
+        },
+        Ok(None) => Err(Refusal::At(&[])),
+        Err(refusal) => Err(refusal),
+    }
+}
+
+/// The first of the lines at the front of a message that may not stand there, and the text behind it; none where each may.
+pub(crate) fn refused_in<'a>(
     alloc: Global,
     plan: &Plan,
-    spare: &mut Spare,
     text: &'a [u8],
-) -> Result<Message, Refusal<'a>>
-    ensures { Gives (λ m. m) result (read_alone plan.now text.now) }
+) -> Result<Option<&'a [u8]>, AllocError>
+    ensures { IfOk result (RefusesIn plan.now (lines_in text.now)) }
 {
-    let (message, rest) = next_message(alloc, spare, plan, text)?;
-    match first_line(rest) {
-        None => Ok(message),
-        Some(_) => Err(Refusal::At(rest)),
+    if asks_for_more(alloc, plan, text)? {
+        return Ok(None);
+    }
+    match read_all(alloc, plan, text) {
+        Ok(()) => Ok(None),
+        Err(Refusal::At(left)) => match first_line(left) {
+            None => Ok(None),
+            Some(_) => Ok(Some(left)),
+        },
+        Err(Refusal::Memory) => Err(AllocError),
+    }
+}
+
+/// Writes the bytes of the message that the lines of a text spell.
+///
+/// # Errors
+/// `Line` with the text from the first line on that may not stand there, `Fault` with the first fault of the message, and `Memory`.
+pub(crate) fn write_message<'a>(
+    alloc: Global,
+    plan: &Plan,
+    text: &'a [u8],
+    rooms: &mut Rooms,
+) -> Result<(), Unwritten<'a>>
+    ensures made { MakesBytes plan.now text.now rooms.new.sheet.bytes.items result }
+    ensures short { OnOk result (length rooms.new.sheet.bytes.items ≤ 16384) }
+{
+    match write_front(alloc, plan, text, rooms) {
+        Ok(Some(rest)) => match first_line(rest) {
+            None => Ok(()),
+            Some(_) => Err(Unwritten::Line(rest)),
+        },
+        Ok(None) => Err(Unwritten::Line(&[])),
+        Err(unwritten) => Err(unwritten),
     }
 }
 

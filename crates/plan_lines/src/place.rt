@@ -3,39 +3,21 @@
 ghost use Rattle.std.specs.Prelude.{◌≡◌, ◌≤◌, ◌+◌, ◌++◌, ◌↔◌, ℕ, List, codes, decimal, length, IfSome, IfNone, IfErr, IsTrue, OnOk};
 ghost use Rattle.jr_record.specs.Records.{IsSender};
 ghost use Rattle.gw_lines.specs.Lines.{IsTold};
-ghost use Rattle.plan_lines.specs.Progress.{Adds, Finishes, Gives, GivesOne, Goes, Halts, HaltsAtEnd, IsAll, Names, NamesNobody, Refuses, Stands, Starts, TakesText, line_of};
+ghost use Rattle.plan_lines.specs.Progress.{Adds, Finishes, Gives, GivesBytes, Goes, Halts, HaltsAtEnd, IsAll, Names, NamesNobody, RefusesOne, Stands, Starts, TakesText, line_of};
 
 use crate::end::{Stop, Wrong};
 use crate::form::{Form, SENDERS};
-use crate::message::{Given, message_of, push_gift};
+use crate::message::{Given, has_end, push_gift, refused_in, write_message};
 use crate::numbers::Numbers;
 use gw_lines::{Found, LineReader};
-use sbe_encode::{EncodeError, encode_into};
+use sbe_from_text::{Rooms, Unwritten};
 use sbe_layout::Plan;
-use sbe_text::{Refusal, Spare};
-use sbe_value::Message;
 use std::alloc::{AllocError, Global};
+use text_names::bare_line;
 use text_words::{count_lines, number};
 
 /// The most bytes of one message's text.
 pub(crate) const LIMIT: usize = 67_108_864;
-
-/// Room that serves one message after another: for its items, and for its bytes.
-#[derive(Drop)]
-pub(crate) struct Rooms {
-    items: Spare,
-    bytes: Vec<u8>,
-}
-
-impl Rooms {
-    /// No room yet.
-    pub(crate) fn new(alloc: Global) -> Rooms {
-        Rooms {
-            items: Spare::new(alloc),
-            bytes: Vec::new(alloc),
-        }
-    }
-}
 
 /// How far a text was read.
 #[derive(Drop)]
@@ -134,19 +116,16 @@ impl Place {
     }
 
     /// Why a line behind the front of a message is refused: one of those before it is, or else this one, for this reason.
-    fn refuse(&self, alloc: Global, plan: &Plan, rooms: &mut Rooms, line: u64, wrong: Wrong) -> Stop
-        ensures { Refuses plan.now self.now line wrong result }
+    fn refuse(&self, alloc: Global, plan: &Plan, line: u64, wrong: Wrong) -> Stop
+        ensures { RefusesOne plan.now self.now line wrong result }
     {
-        match message_of(alloc, plan, &mut rooms.items, self.text.as_slice()) {
-            Err(Refusal::At(left)) => match count_lines(left) {
-                0 => Stop::Wrong { line, wrong },
-                left => Stop::Wrong {
-                    line: self.line_of(left),
-                    wrong: Wrong::Line,
-                },
+        match refused_in(alloc, plan, self.text.as_slice()) {
+            Ok(Some(left)) => Stop::Wrong {
+                line: self.line_of(count_lines(left)),
+                wrong: Wrong::Line,
             },
-            Err(Refusal::Memory) => Stop::Memory,
-            Ok(_) => Stop::Wrong { line, wrong },
+            Ok(None) => Stop::Wrong { line, wrong },
+            Err(_) => Stop::Memory,
         }
     }
 
@@ -159,24 +138,18 @@ impl Place {
         self.text.extend_from_slice(b"\r\n")
     }
 
-    /// Adds the line of a message, and counts it.
-    fn give(
-        &mut self,
-        alloc: Global,
-        plan: &Plan,
-        rooms: &mut Rooms,
-        message: &Message,
-    ) -> Result<(), EncodeError>
-        requires { IsSender self.old.sender }
-        ensures gives { GivesOne plan.now message.now self.old self.new result }
+    /// Adds the line of a message of these bytes, and counts it.
+    fn give(&mut self, plan: &Plan, message: &[u8]) -> Result<(), AllocError>
+        requires sender { IsSender self.old.sender }
+        requires short { length message.now ≤ 16384 }
+        ensures gives { OnOk result (GivesBytes plan.now message.now self.old self.new) }
         ensures form { self.new.form ≡ self.old.form }
     {
-        encode_into(alloc, plan, message, &mut rooms.bytes)?;
         let given = Given {
             sender: self.sender,
             number: self.numbers.of(self.sender),
             order: plan.order,
-            message: rooms.bytes.as_slice(),
+            message,
         };
         push_gift(&mut self.lines, self.form, given)?;
         self.numbers.count(self.sender);
@@ -190,25 +163,25 @@ impl Place {
         ensures gives { Gives plan.now self.old self.new result }
         ensures form { self.new.form ≡ self.old.form }
     {
-        let message = match message_of(alloc, plan, &mut rooms.items, self.text.as_slice()) {
-            Ok(message) => message,
-            Err(Refusal::At(left)) => {
+        match write_message(alloc, plan, self.text.as_slice(), rooms) {
+            Ok(()) => {}
+            Err(Unwritten::Line(left)) => {
                 return Err(Stop::Wrong {
                     line: self.line_of(count_lines(left)),
                     wrong: Wrong::Line,
                 });
             }
-            Err(Refusal::Memory) => return Err(Stop::Memory),
-        };
-        let given = self.give(alloc, plan, rooms, &message);
-        rooms.items.keep(message);
-        match given {
+            Err(Unwritten::Fault(fault)) => {
+                return Err(Stop::Wrong {
+                    line: self.first,
+                    wrong: Wrong::Message(fault),
+                });
+            }
+            Err(Unwritten::Memory) => return Err(Stop::Memory),
+        }
+        match self.give(plan, rooms.sheet.bytes.as_slice()) {
             Ok(()) => Ok(()),
-            Err(EncodeError::Fault(fault)) => Err(Stop::Wrong {
-                line: self.first,
-                wrong: Wrong::Message(fault),
-            }),
-            Err(EncodeError::Memory) => Err(Stop::Memory),
+            Err(_) => Err(Stop::Memory),
         }
     }
 
@@ -227,15 +200,16 @@ impl Place {
         ensures sender { OnOk result (IsSender self.new.sender) }
     {
         if line.len() + 2 > LIMIT.saturating_sub(self.text.len()) {
-            return Err(self.refuse(alloc, plan, rooms, number, Wrong::Endless));
+            return Err(self.refuse(alloc, plan, number, Wrong::Endless));
         }
         let Ok(()) = self.add(line) else {
             return Err(Stop::Memory);
         };
-        if line == b"end".as_slice() {
-            return self.take_message(alloc, plan, rooms);
+        match has_end(alloc, plan, self.text.as_slice(), line) {
+            Ok(true) => self.take_message(alloc, plan, rooms),
+            Ok(false) => Ok(()),
+            Err(_) => Err(Stop::Memory),
         }
-        Ok(())
     }
 
     /// Takes a line of this number.
@@ -256,10 +230,14 @@ impl Place {
         if !self.text.is_empty() {
             return self.take_text(alloc, plan, rooms, line, number);
         }
-        if is_finish(line) {
+        let words = bare_line(line);
+        if words.is_empty() {
+            return Ok(());
+        }
+        if is_finish(words) {
             return self.finish();
         }
-        match behind_sender(line) {
+        match behind_sender(words) {
             Some(digits) => self.name(digits, number),
             None => {
                 self.first = number;
@@ -285,27 +263,18 @@ impl Place {
     {
         match found {
             Found::Whole => self.take_line(alloc, plan, rooms, reader.line(), reader.number()),
-            Found::TooLong => {
-                Err(self.refuse(alloc, plan, rooms, reader.number(), Wrong::TooLong))
-            }
+            Found::TooLong => { Err(self.refuse(alloc, plan, reader.number(), Wrong::TooLong)) }
         }
     }
 
-    /// Takes the end of the text: a message whose lines end there is given to its sender.
-    pub(crate) fn take_end(
-        &mut self,
-        alloc: Global,
-        plan: &Plan,
-        rooms: &mut Rooms,
-    ) -> Result<(), Stop>
-        requires { IsSender self.old.sender }
-        ensures ends { OnOk result ((pushed : List ℕ) (lines : List (List ℕ)) → Stands plan.now pushed self.old lines → IsAll plan.now pushed self.new lines) }
-        ensures halts { IfErr result (λ stop. HaltsAtEnd plan.now self.old self.new stop) }
-        ensures form { self.new.form ≡ self.old.form }
+    /// Takes the end of the text: a message whose `end` did not come is refused.
+    pub(crate) fn take_end(&self, alloc: Global, plan: &Plan) -> Result<(), Stop>
+        ensures ends { OnOk result ((pushed : List ℕ) (lines : List (List ℕ)) → Stands plan.now pushed self.now lines → IsAll plan.now pushed self.now lines) }
+        ensures halts { IfErr result (λ stop. HaltsAtEnd plan.now self.now self.now stop) }
     {
         if self.text.is_empty() {
             return Ok(());
         }
-        self.take_message(alloc, plan, rooms)
+        Err(self.refuse(alloc, plan, self.line_of(0), Wrong::Line))
     }
 }

@@ -10,9 +10,10 @@ ghost use Rattle.plan_lines.specs.Progress.{AfterRound, IsAll, KeepsTo, Pushes, 
 
 use crate::end::{PlanEnd, Stop};
 use crate::form::Form;
-use crate::place::{Place, Rooms};
+use crate::place::Place;
 use gw_lines::LineReader;
 use gw_outside::{Failed, Sink, Source, push_all};
+use sbe_from_text::Rooms;
 use sbe_layout::Plan;
 use std::alloc::Global;
 use std::sync::Wait;
@@ -76,7 +77,7 @@ fn take_last(
     ensures stops { IfErr result (λ stop. (read : List ℕ) → StopsLast plan.now place.old place.new reader.old read stop) }
 {
     match take_rest(alloc, plan, reader, rooms, place) {
-        Ok(()) => place.take_end(alloc, plan, rooms),
+        Ok(()) => place.take_end(alloc, plan),
         Err(stop) => Err(stop),
     }
 }

@@ -306,7 +306,7 @@ pub fn push_encode_fault(
     fault: &EncodeFault,
 ) -> Result<(), AllocError> {
     write!(line, "message {number}: ")?;
-    let strict = Strict::of(alloc, plan, text)?;
+    let strict = Strict::of(alloc, plan, text, 0)?;
     let text = strict.text.as_slice();
     let left = from_message(alloc, plan, text, number).unwrap_or(&[]);
     let placed = Placed {
@@ -402,30 +402,25 @@ pub fn push_text_fault(
     number: u64,
 ) -> Result<(), AllocError> {
     write!(line, "line {number}: ")?;
-    let strict = Strict::of(alloc, plan, text)?;
-    let place = strict.place_of(number);
-    push_awaited_at(
-        alloc,
-        line,
-        plan,
-        strict.text.as_slice(),
-        place,
-        line_at(text, number),
-    )
+    push_text_fault_in(alloc, line, plan, text, 0, number)
 }
 
-/// Adds what has to stand at the line of this number in a text.
-pub(crate) fn push_text_fault_at(
+/// Adds what has to stand at the line of this number in a text, before which so many lines stand.
+pub(crate) fn push_text_fault_in(
     alloc: Global,
     line: &mut String,
     plan: &Plan,
     text: &[u8],
+    before: u64,
     number: u64,
 ) -> Result<(), AllocError> {
-    push_awaited_at(alloc, line, plan, text, number, line_at(text, number))
+    let strict = Strict::of(alloc, plan, text, before)?;
+    let place = strict.place_of(number);
+    let shown = line_at(text, number.saturating_sub(before));
+    push_awaited_at(alloc, line, plan, strict.text.as_slice(), place, shown)
 }
 
-/// The same, where the line is shown so.
+/// Adds what has to stand at the line of this number in a strict text, where the line is shown so.
 fn push_awaited_at(
     alloc: Global,
     line: &mut String,

@@ -38,15 +38,15 @@ fn in_front<'a>(text: &'a [u8], rest: &[u8]) -> &'a [u8] {
 }
 
 impl Strict {
-    /// The strict lines of a text.
-    pub fn of(alloc: Global, plan: &Plan, text: &[u8]) -> Result<Strict, AllocError> {
+    /// The strict lines of a text, before which so many lines stand.
+    pub fn of(alloc: Global, plan: &Plan, text: &[u8], before: u64) -> Result<Strict, AllocError> {
         let mut strict = Strict {
             text: Vec::new(alloc),
             numbers: Vec::new(alloc),
         };
         let mut narrow = Narrow::new(alloc);
         let mut left = text;
-        let mut before = 0u64;
+        let mut before = before;
         for _ in 0..text.len() {
             if left.is_empty() {
                 break;

@@ -1,40 +1,75 @@
 //! What is wrong with a text of messages for senders.
 
-use crate::codec::{Placed, line_at, push_message_fault, push_quoted_line, push_text_fault_at};
+use crate::codec::{Placed, line_at, push_message_fault, push_quoted_line, push_text_fault_in};
+use crate::strict::Strict;
 use gw_lines::LONGEST;
 use plan_lines::{SENDERS, Wrong};
 use sbe_encode::EncodeFault;
 use sbe_layout::Plan;
 use std::alloc::{AllocError, Global};
+use text_names::bare_line;
 use text_words::first_line;
 
-/// Whether a line stands for itself between messages.
-fn is_between(line: &[u8]) -> bool {
-    line == b"finish".as_slice() || line.starts_with(b"sender ")
+/// Lines of a text that are those of one message.
+#[derive(Clone, Copy)]
+struct Own<'a> {
+    /// How many lines stand before them.
+    before: u64,
+    text: &'a [u8],
 }
 
-/// Where the message begins in which a line of this number stands: behind the last line before it that ends a message, or stands between two.
-fn message_with(text: &[u8], number: u64) -> Placed<'_> {
+/// Whether what stands on a line stands for itself between messages.
+fn is_between(words: &[u8]) -> bool {
+    words.is_empty() || words == b"finish".as_slice() || words.starts_with(b"sender ")
+}
+
+/// Whether a line says `end`.
+fn says_end(line: &[u8]) -> bool {
+    bare_line(line) == b"end".as_slice()
+}
+
+/// The lines of a text up to the first that says `end`.
+fn up_to_end(text: &[u8]) -> &[u8] {
     let mut left = text;
-    let mut placed = Placed {
-        lines_before: 0,
-        text,
-        came_from: None,
-    };
-    for at in 1..number {
+    for _ in 0..text.len() {
         let Some((line, rest)) = first_line(left) else {
-            return placed;
+            return text;
         };
         left = rest;
-        if line == b"end".as_slice() || is_between(line) {
-            placed = Placed {
-                lines_before: at,
+        if says_end(line) {
+            let size = text.len().saturating_sub(left.len());
+            return text.get(..size).unwrap_or(text);
+        }
+    }
+    text
+}
+
+/// The lines of the message in which a line of this number stands.
+fn message_with(text: &[u8], number: u64) -> Own<'_> {
+    let mut left = text;
+    let mut begun = Own { before: 0, text };
+    let mut inside = false;
+    for at in 1..number {
+        let Some((line, rest)) = first_line(left) else {
+            break;
+        };
+        left = rest;
+        inside = if inside {
+            !says_end(line)
+        } else {
+            !is_between(bare_line(line))
+        };
+        if !inside {
+            begun = Own {
+                before: at,
                 text: left,
-                came_from: None,
             };
         }
     }
-    placed
+    Own {
+        before: begun.before,
+        text: up_to_end(begun.text),
+    }
 }
 
 /// Adds a line in quotes, where the text is at hand.
@@ -62,9 +97,8 @@ fn push_other_line(
 ) -> Result<(), AllocError> {
     match (plan, text) {
         (Some(plan), Some(text)) => {
-            let placed = message_with(text, number);
-            let within = number.saturating_sub(placed.lines_before);
-            push_text_fault_at(alloc, line, plan, placed.text, within)
+            let own = message_with(text, number);
+            push_text_fault_in(alloc, line, plan, own.text, own.before, number)
         }
         _ => line.push_str("it may not stand here"),
     }
@@ -81,7 +115,14 @@ fn push_unwritable(
 ) -> Result<(), AllocError> {
     match (plan, text) {
         (Some(plan), Some(text)) => {
-            push_message_fault(alloc, line, plan, &message_with(text, number), fault)
+            let own = message_with(text, number);
+            let strict = Strict::of(alloc, plan, own.text, own.before)?;
+            let placed = Placed {
+                lines_before: 0,
+                text: strict.text.as_slice(),
+                came_from: Some(&strict),
+            };
+            push_message_fault(alloc, line, plan, &placed, fault)
         }
         _ => line.push_str("the message that begins here may not be written"),
     }

@@ -18,7 +18,7 @@ use Rattle.sbe_encode.specs.declared.fault.EncodeFault.{EncodeFault}
 use Rattle.sbe_encode.specs.declared.fault.EncodeFault.TheVariants.{Range}
 use Rattle.sbe_value.specs.declared.path.Step.TheVariants.{Key}
 use Rattle.sbe_encode.specs.Faults.{shape_of, item_fault}
-use Rattle.text_words.specs.Lines.{lines_in}
+use Rattle.text_words.specs.Lines.{lines_in, in_first}
 use Rattle.sbe_text.specs.declared.token.Count.TheVariants as count
 use Rattle.sbe_text.specs.Held.{is_word}
 use Rattle.sbe_text.specs.Read.{Read, next, taken, read_line}
@@ -26,7 +26,7 @@ use Rattle.sbe_text.specs.Tokens.{AreInFront, also, value_on, is_digit, are_digi
 use Rattle.sbe_text.specs.Written.{element_line}
 use Rattle.sbe_text.specs.Reading.{read_element, read_item}
 use Rattle.sbe_text.proofs.Texts.{both_left, both, other_first, digit_no}
-use Rattle.sbe_text.proofs.Printed.{digits_word, element_back}
+use Rattle.sbe_text.proofs.Printed.{digits_word, element_back, word_append}
 use Rattle.sbe_from_text.specs.Written.{written}
 use Rattle.sbe_from_text.proofs.Parts.{made, left_behind}
 
@@ -42,7 +42,7 @@ path_front path text first front others rest a b c d same (Some x) h =
     ∙ sym (append_assoc (take 8 path) (drop 8 path) x.now)
     ∙ ap (λ z. z ++ x.now) (take-append-drop 8 path)
 
-pub line_found : (before name left own rest text behind_number : List ℕ) (k n : ℕ) → is_word before ≡ true → is_word name ≡ true → left ≡ before ++ own → own ≡ name ++ rest → rest ≡ codes " = " ++ text → natural_of (take k text) ≡ Some n → is_word (take k text) ≡ true → drop k text ≡ 10 ∷ behind_number → read_element before name natural_of (lines_in left) ≡ Ok (n, lines_in behind_number)
+line_found : (before name left own rest text behind_number : List ℕ) (k n : ℕ) → is_word before ≡ true → is_word name ≡ true → left ≡ before ++ own → own ≡ name ++ rest → rest ≡ codes " = " ++ text → natural_of (take k text) ≡ Some n → is_word (take k text) ≡ true → drop k text ≡ 10 ∷ behind_number → read_element before name natural_of (lines_in left) ≡ Ok (n, lines_in behind_number)
 line_found before name left own rest text behind_number k n w v a b c told digits end =
     let number = take k text in
     let parts : text ≡ number ++ (10 ∷ behind_number) = sym (take-append-drop k text) ∙ ap (λ z. number ++ z) end in
@@ -54,6 +54,43 @@ line_found before name left own rest text behind_number k n w v a b c told digit
     let whole : left ≡ element_line before name number ++ behind_number =
     a ∙ ap (λ z. before ++ z) (b ∙ ap (λ z. name ++ z) (c ∙ ap (λ z. codes " = " ++ z) parts)) ∙ sym line in
     ap (λ z. read_element before name natural_of (lines_in z)) whole ∙ element_back before name number behind_number natural_of n w v digits told
+
+-- ---- lines that end with a carriage return and a line feed
+
+no_end_by : (s r : Bool) (bs : List ℕ) → ((not s && not r) && is_word bs) ≡ true → (s ≡ false) × (r ≡ false) × (is_word bs ≡ true)
+no_end_by true r bs h = absurd (cc)
+no_end_by false true bs h = absurd (cc)
+no_end_by false false bs h = (refl, refl, h)
+
+in_front : (b : ℕ) (bs : List ℕ) → (b == 10) ≡ false → (b == 13) ≡ false → lines_in (b ∷ bs) ≡ in_first b (lines_in bs)
+in_front b bs e f = rw (e, f) refl
+
+-- behind a word such an end is one of a line feed alone
+returned_same : (word rest : List ℕ) → is_word word ≡ true → lines_in (word ++ 13 ∷ 10 ∷ rest) ≡ lines_in (word ++ 10 ∷ rest)
+returned_same [] rest h = refl
+returned_same (b ∷ bs) rest h =
+    let ends = no_end_by (b == 10) (b == 13) bs h in
+    in_front b (bs ++ 13 ∷ 10 ∷ rest) ends.0 ends.1 ∙ ap (in_first b) (returned_same bs rest ends.2) ∙ sym (in_front b (bs ++ 10 ∷ rest) ends.0 ends.1)
+
+line_returned : (before name left own rest text behind_number : List ℕ) (k n : ℕ) → is_word before ≡ true → is_word name ≡ true → left ≡ before ++ own → own ≡ name ++ rest → rest ≡ codes " = " ++ text → natural_of (take k text) ≡ Some n → is_word (take k text) ≡ true → drop k text ≡ 13 ∷ 10 ∷ behind_number → read_element before name natural_of (lines_in left) ≡ Ok (n, lines_in behind_number)
+line_returned before name left own rest text behind_number k n w v a b c told digits end =
+    let number = take k text in
+    let word : List ℕ = before ++ name ++ codes " = " ++ number in
+    let parts : text ≡ number ++ (13 ∷ 10 ∷ behind_number) = sym (take-append-drop k text) ∙ ap (λ z. number ++ z) end in
+    let line : word ++ (13 ∷ 10 ∷ behind_number) ≡ before ++ (name ++ (codes " = " ++ (number ++ (13 ∷ 10 ∷ behind_number)))) =
+    append_assoc (before ++ name ++ codes " = ") number (13 ∷ 10 ∷ behind_number)
+    ∙ append_assoc (before ++ name) (codes " = ") (number ++ (13 ∷ 10 ∷ behind_number))
+    ∙ append_assoc before name (codes " = " ++ (number ++ (13 ∷ 10 ∷ behind_number))) in
+    let whole : left ≡ word ++ (13 ∷ 10 ∷ behind_number) =
+    a ∙ ap (λ z. before ++ z) (b ∙ ap (λ z. name ++ z) (c ∙ ap (λ z. codes " = " ++ z) parts)) ∙ sym line in
+    let is : is_word word ≡ true = word_append (before ++ name ++ codes " = ") number (word_append (before ++ name) (codes " = ") (word_append before name w v) refl) digits in
+    let same : lines_in left ≡ lines_in (element_line before name number ++ behind_number) =
+    ap lines_in whole ∙ returned_same word behind_number is ∙ ap lines_in (sym (append_assoc word (10 ∷ []) behind_number)) in
+    ap (λ z. read_element before name natural_of z) same ∙ element_back before name number behind_number natural_of n w v digits told
+
+pub line_ended : (before name left own rest text back behind_number : List ℕ) (k n : ℕ) → is_word before ≡ true → is_word name ≡ true → left ≡ before ++ own → own ≡ name ++ rest → rest ≡ codes " = " ++ text → natural_of (take k text) ≡ Some n → is_word (take k text) ≡ true → drop k text ≡ back → (back ≡ 10 ∷ behind_number) ⊎ (back ≡ 13 ∷ 10 ∷ behind_number) → read_element before name natural_of (lines_in left) ≡ Ok (n, lines_in behind_number)
+line_ended before name left own rest text back behind_number k n w v a b c told digits is (inl end) = line_found before name left own rest text behind_number k n w v a b c told digits (is ∙ end)
+line_ended before name left own rest text back behind_number k n w v a b c told digits is (inr end) = line_returned before name left own rest text behind_number k n w v a b c told digits (is ∙ end)
 
 -- the first byte, and those behind it
 pub first_and_rest : (bytes : List ℕ) (b : ℕ) → 1 ≤ length bytes → get_or bytes 0 0 ≡ b → bytes ≡ b ∷ take (length bytes - 1) (drop 1 bytes)

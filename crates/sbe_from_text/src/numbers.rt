@@ -1,6 +1,6 @@
 //! Numbers without a sign, on lines whose path is awaited. No end of a line is sought: a path and digits have none.
 
-ghost use Rattle.std.specs.Prelude.{◌≡◌, ◌↔◌, ◌≤◌, ◌++◌, true, Some, Ok, IfSome, IsTrue, length, take};
+ghost use Rattle.std.specs.Prelude.{◌≡◌, ◌↔◌, ◌⊎◌, ◌≤◌, ◌∷◌, ◌++◌, true, Some, Ok, IfSome, IsTrue, length, take};
 ghost use Rattle.text_words.specs.Lines.{lines_in};
 ghost use Rattle.sbe_text.specs.Held.{is_word};
 ghost use Rattle.sbe_text.specs.Tokens.{natural_of};
@@ -73,6 +73,17 @@ fn behind_path<'a>(path: &[u8], text: &'a [u8]) -> Option<&'a [u8]>
     behind_word(others, rest)
 }
 
+// The text behind the end of a line, where that stands in front: a line feed, or a carriage return and one.
+fn behind_end(text: &[u8]) -> Option<&[u8]>
+    ensures { IfSome result (λ rest. (text.now ≡ 10 ∷ rest.now) ⊎ (text.now ≡ 13 ∷ 10 ∷ rest.now)) }
+{
+    match text {
+        [b'\n', rest @ ..] => Some(rest),
+        [b'\r', b'\n', rest @ ..] => Some(rest),
+        _ => None,
+    }
+}
+
 /// The number on the first line of a text, behind the path of an element, and the text behind that line. None where another line
 /// stands there, or such a number that more than 64 bits hold; and where the path has a byte below a blank.
 pub fn natural_line<'a>(before: &[u8], name: &[u8], left: &'a [u8]) -> Option<(u64, &'a [u8])>
@@ -86,8 +97,6 @@ pub fn natural_line<'a>(before: &[u8], name: &[u8], left: &'a [u8]) -> Option<(u
     };
     let (number, count) = leading_natural(text)?;
     let (_, rest) = text.split_at(count);
-    let [b'\n', rest @ ..] = rest else {
-        return None;
-    };
+    let rest = behind_end(rest)?;
     Some((number, rest))
 }

@@ -96,8 +96,8 @@ fn uncommented(line: &[u8]) -> &[u8]
     line
 }
 
-/// A line without its indentation, its comment and the blanks at its end.
-pub(crate) fn bare(line: &[u8]) -> &[u8]
+/// A line without its indentation, its comment and the blanks at its end, as a person may write them.
+pub fn bare_line(line: &[u8]) -> &[u8]
     ensures { result.now ≡ bare line.now }
 {
     trimmed(uncommented(line))

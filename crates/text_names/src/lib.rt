@@ -15,6 +15,7 @@ mod rows;
 mod show;
 mod value;
 
+pub use bare::bare_line;
 pub use front::front_message;
 pub use laws::{shown_reads_back, shown_stands_at_front, strict_stays};
 pub use mistake::{NarrowError, Wrong};

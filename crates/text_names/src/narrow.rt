@@ -8,7 +8,7 @@ ghost use Rattle.text_words.specs.Lines.{lines_in};
 ghost use Rattle.text_names.specs.Lines.{Narrowed, begins_blank, by_line, element_line, layout_from, narrowed, narrowed_message, spaced, with_told, without_element};
 ghost use Rattle.text_names.specs.Steps.{Adds, Goes, Narrows, ahead, words_added};
 
-use crate::bare::{bare, cut_at, is_blank, trimmed, unindented};
+use crate::bare::{bare_line, cut_at, is_blank, trimmed, unindented};
 use crate::mistake::{NarrowError, Slip};
 use crate::path::meaning_of;
 use crate::value::{strict_value, write_strict};
@@ -208,7 +208,7 @@ impl Narrow {
     ) -> Result<Step<'p>, NarrowError<'a>>
         ensures { (ls : List (List ℕ)) → Goes plan.now number ls (ahead self.old.text.items self.old.numbers.items (narrowed plan.now (option_copied layout.entry) number (line.now ∷ ls))) self.new.text.items self.new.numbers.items result }
     {
-        let line = bare(line);
+        let line = bare_line(line);
         let Some((path, value)) = cut_at(b'=', line) else {
             return self.add_other(plan, layout, number, line);
         };

@@ -9,7 +9,7 @@ ghost use Rattle.text_words.specs.Lines.{lines_in};
 ghost use Rattle.text_names.specs.Lines.{without_element};
 ghost use Rattle.text_names.specs.Named.{bits_in, choices_in, is_in, joined, named_by, named_choices, named_datum, named_by_line, named_lines, named_number, named_text, named_value, short};
 
-use crate::bare::{bare, cut_at, trimmed};
+use crate::bare::{bare_line, cut_at, trimmed};
 use crate::names::{has_bit, has_meaning, with_bit};
 use crate::narrow::{layout_from, space};
 use crate::path::{Meaning, meaning_of};
@@ -166,7 +166,7 @@ fn write_line<'p>(
 ) -> Result<Option<&'p MessagePlan>, AllocError>
     ensures { IfOk result (λ next. (ls : List (List ℕ)) → lines.new.items ++ named_lines plan.now (option_copied next) ls ≡ lines.old.items ++ named_lines plan.now (option_copied layout.entry) (line.now ∷ ls)) }
 {
-    let line = bare(line);
+    let line = bare_line(line);
     let Some((path, value)) = cut_at(b'=', line) else {
         return write_words(plan, layout, line, room, lines);
     };

@@ -11,11 +11,11 @@ returns-in_default c = λ ls.
     let old = c.args.self.now in
     let new = c.add_other.new.self in
     let layout = option_copied c.args.layout in
-    let none : cut_at 61 (bare c.args.line.now) ≡ None = sym (c.in_default.ensures ∙ ap (cut_at 61) c.bare-line.ensures) in
+    let none : cut_at 61 (bare c.args.line.now) ≡ None = sym (c.in_default.ensures ∙ ap (cut_at 61) c.bare_line-line.ensures) in
     subst (λ (n : Narrowed). Goes c.args.plan.now c.args.number ls (ahead old.text.items old.numbers.items n) new.text.items new.numbers.items c.add_other.result)
     (sym (other_step c.args.plan.now layout c.args.number c.args.line.now ls none))
     (subst (λ (l : List ℕ). Goes c.args.plan.now c.args.number ls (ahead old.text.items old.numbers.items (by_line c.args.plan.now layout c.args.number (without_element l) ls (λ following. narrowed c.args.plan.now following (c.args.number + 1) ls))) new.text.items new.numbers.items c.add_other.result)
-    c.bare-line.ensures (c.add_other.ensures ls))
+    c.bare_line-line.ensures (c.add_other.ensures ls))
 
 pub returns-in-Err : goal.returns-in-Err
 returns-in-Err c = λ ls.
@@ -24,7 +24,7 @@ returns-in-Err c = λ ls.
     let layout = option_copied c.args.layout in
     let path = c.in-Some.path.now in
     let value = c.in-Some.value.now in
-    let some : cut_at 61 (bare c.args.line.now) ≡ Some (path, value) = sym (c.in-Some.ensures ∙ ap (cut_at 61) c.bare-line.ensures) in
+    let some : cut_at 61 (bare c.args.line.now) ≡ Some (path, value) = sym (c.in-Some.ensures ∙ ap (cut_at 61) c.bare_line-line.ensures) in
     let more = narrowed c.args.plan.now layout (c.args.number + 1) ls in
     let told : Adds (ahead old.text.items old.numbers.items (with_told c.args.number (element_line c.args.plan.now.listings layout (trimmed path) (trimmed value)) more)) new.text.items new.numbers.items more (Err c.in-Err.e) =
     subst (λ (v : List ℕ). Adds (ahead old.text.items old.numbers.items (with_told c.args.number (element_line c.args.plan.now.listings layout (trimmed path) v) more)) new.text.items new.numbers.items more (Err c.in-Err.e)) c.trimmed-2.ensures
