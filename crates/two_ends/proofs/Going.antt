@@ -27,7 +27,7 @@ use Rattle.turn_laws.proofs.Adding.{cut_adds}
 use Rattle.turn_laws.proofs.Sent.{given_up_begins}
 use Rattle.two_ends.specs.Driving.{EndNow, Beginning, Awaits, WereMade, machine_behind, list_behind, with_turn, IsBetween, IsDuring}
 use Rattle.turn_laws.specs.Legs.{cut_leg}
-use Rattle.two_ends.specs.Stories.{IsOver, life_of, served_by}
+use Rattle.two_ends.specs.Stories.{IsOver}
 use Rattle.turn_laws.proofs.Failing.{FailsOn, failed_leg, fails_on}
 use Rattle.two_ends.specs.DrivingLaws.{LegBegins, TurnGoesOn, LegEnds, CutEnds, LifeEnds, LifeFails}
 

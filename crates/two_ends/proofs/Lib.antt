@@ -3,6 +3,7 @@ pub mod Refused
 pub mod Deaf
 pub mod Heard
 pub mod GoingOn
+pub mod GoingOnSampled
 pub mod Sessions
 pub mod Sampled
 pub mod Whole

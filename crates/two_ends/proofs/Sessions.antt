@@ -187,7 +187,7 @@ contracts own peer plan [] all outboxes = tt
 contracts own peer plan (l ∷ later) all outboxes = (record { connections = keeps own peer l all.0; outbox = outboxes.0 }, contracts own peer plan later all.1 outboxes.1)
 
 -- two ends, whose journals held this at first, in the session model's words
-pub record SessionFrom (from_a from_b : Boxes) (a b : OneEnd model.Flow Life) : Type 0 where
+record SessionFrom (from_a from_b : Boxes) (a b : OneEnd model.Flow Life) : Type 0 where
   chained_a : Chained from_a.outbox from_a.inbox a.lives a.outbox a.inbox
   chained_b : Chained from_b.outbox from_b.inbox b.lives b.outbox b.inbox
   contract_a : AllByRecursion (KeepsContract a.flow b.flow a.plan) a.lives
@@ -261,7 +261,7 @@ module _ (from_a from_b : Boxes) (a b : OneEnd model.Flow Life) (s : SessionFrom
     grown_of : GrownThrough kind read.events from_b.inbox b.inbox
     grown_of = subst (λ f. GrownThrough f read.events from_b.inbox b.inbox) is read.grown
 
-  pub goes_on : (flow : Flow) → a.flow ≡ model_flow flow → HoldsOn flow (entries from_a.outbox) (entries a.outbox) from_b.inbox b.inbox
+  goes_on : (flow : Flow) → a.flow ≡ model_flow flow → HoldsOn flow (entries from_a.outbox) (entries a.outbox) from_b.inbox b.inbox
   goes_on flows.Recoverable is =
       applies_on (entries a.outbox) read.events from_b.inbox b.inbox
       (read_true (wrote_true model.recoverable b.flow a.plan a.lives from_a.outbox a.outbox from_a.inbox a.inbox (λ _ _ _ w. w) (contract_of model.recoverable is) s.chained_a))

@@ -2,7 +2,7 @@
 use Rattle.std.specs.Prelude.{◌≡◌, ◌⊎◌, ℕ, List, [], ◌∷◌, ◌++◌, length, Option, None}
 use Rattle.std.specs.List.{AllZip}
 use mathlib.Core.List.{IsPrefix}
-use Rattle.session_model.specs.Journal.{Entry, OutboxRecord, entries}
+use Rattle.session_model.specs.Journal.{OutboxRecord, entries}
 use Rattle.session_model.specs.Inbox.{InboxRecord}
 use Rattle.fixp_msgs.specs.declared.flow.Flow.{Flow}
 use Rattle.fixp_machine.specs.Machine.{taken, link_end, run}

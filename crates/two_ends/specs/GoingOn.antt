@@ -1,5 +1,5 @@
 -- An inbox that goes on from what it held: what it comes to hold of the other end's outbox behind that (this project's profile).
-use Rattle.std.specs.Prelude.{◌≡◌, ℕ, ◌+◌, ◌-◌, ◌≤◌, max, List, [], ◌++◌, length}
+use Rattle.std.specs.Prelude.{◌≡◌, ◌+◌, ◌-◌, ◌≤◌, max, List, [], ◌++◌, length}
 use Rattle.std.specs.List.{AllByRecursion}
 use Rattle.session_model.specs.Journal.{Entry, OutboxRecord, IsEntry, counts_from}
 use Rattle.session_model.specs.Inbox.{Numbered, InboxRecord, applied, skips, settled, next_number, numbers_of, payloads_of, SameNumbers}

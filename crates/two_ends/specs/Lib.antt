@@ -2,6 +2,7 @@ pub mod Reading
 pub mod Refusing
 pub mod Hearing
 pub mod GoingOn
+pub mod GoingOnSamples
 pub mod Meeting
 pub mod Samples
 pub mod Loops

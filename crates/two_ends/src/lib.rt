@@ -21,4 +21,4 @@ pub use loops::{loops_are_a_session, loops_are_ends, loops_go_on, loops_hold, se
 pub use meeting::{ends_go_on, ends_hold, links_hold, session_of_ends};
 pub use reading::{all_is_read, event_is_carried, written_is_read};
 pub use refusing::{closing_is_deaf, nothing_more, refusal_ends};
-pub use samples::{handshake_sample, port_sample, turns_sample};
+pub use samples::{going_on_sample, handshake_sample, port_sample, turns_sample};

@@ -1,5 +1,6 @@
 //! The premises of the laws, met by two ends.
 
+ghost use Rattle.two_ends.specs.GoingOnSamples.{GoingOnSample};
 ghost use Rattle.two_ends.specs.Samples.{HandshakeSample, PortSample};
 ghost use Rattle.two_ends.specs.LoopSamples.{TurnsSample};
 
@@ -17,4 +18,9 @@ pub fn turns_sample()
 /// whose credentials lacked their last byte.
 pub fn port_sample()
     ensures law { PortSample }
+{}
+
+/// An inbox of each kind of flow goes on from one message.
+pub fn going_on_sample()
+    ensures law { GoingOnSample }
 {}
