@@ -8,7 +8,7 @@ use say_words::quoted;
 use session_files::{are_both_standard, named, role_of};
 use std::alloc::{AllocError, Global};
 
-pub const VERSION: &str = "fixpgw 0.9.0";
+pub const VERSION: &str = "fixpgw 0.10.0";
 
 const USAGE: &str =
     "fixpgw: an order gateway for sessions of the FIX Performance Session Layer (FIXP) 1.1
@@ -35,7 +35,7 @@ const USAGE: &str =
   fixpgw plan SCHEMA TEXT OUT           prints the messages in TEXT as lines of INPUT for their senders
   fixpgw datagram CONFIG OUT            packs messages into datagrams, delivers those that CONFIG lists, and prints what comes to OUT
   fixpgw rehearse CONFIG OUT            runs two ends in memory by the script in CONFIG, and prints what both hold to OUT
-  fixpgw show [--json] SCHEMA JOURNAL OUT [FROM [COUNT]]
+  fixpgw show [--follow] [--json] SCHEMA JOURNAL OUT [FROM [COUNT]]
                                         prints the records of one journal, with their dates and messages, as text or JSON to OUT
   fixpgw soak N OUT                     runs two ends in memory over N messages, with cuts, and prints what both hold to OUT
   fixpgw COMMAND --help                 what a command takes and does
@@ -59,7 +59,7 @@ With ACCEPTED, each line of INPUT is sent as it comes, until INPUT ends; desks a
 and of each line that it is stable, or why it was not sent. OUT is not emptied: it goes on behind what earlier runs told.
 
   ADDRESS  where it listens, as 127.0.0.1:15617
-  N        how many connections there may be, 1 to 65535; each counts, also that of a stranger
+  N        how many connections there may be, 1 to 65535; one without the session's credentials does not count
   CONFIG   the configuration of the session, as TOML (read)
   INPUT    what the senders send: lines `SENDER HEX` (read, but not where CONFIG has desks); - is standard input
   OUTBOX   the journal of what is sent, made by fixpgw format (read and written)
@@ -187,7 +187,7 @@ Prints the messages of a text as lines of INPUT for accept and connect, each as 
 it, and those behind it, to sender S, from 1 to 16; messages before any such line are those of sender 1. A line `finish` between messages is printed as it is.
 
   SCHEMA      the schema of the messages, as TOML (read); - is standard input
-  TEXT        the lines of the messages, as decode prints them, and of their senders (read); - is standard input, where SCHEMA is not
+  TEXT        the lines of the messages, as encode takes them, and of their senders (read); - is standard input, where SCHEMA is not
   OUT         lines `S HEX` (written); - is standard output, and then the status goes to standard error
   --numbered  lines `S K HEX`, where K counts the messages of S from 1
   --from S K  the first message of sender S is its K-th; once for each sender";
@@ -211,11 +211,15 @@ opened.
   CONFIG   the script, as TOML (read); - is standard input
   OUT      a line for each sender, a line for each end, and `finished` (written); - is standard output";
 
-const SHOW: &str = "usage: fixpgw show [--json] SCHEMA JOURNAL OUT [FROM [COUNT]]
+const SHOW: &str = "usage: fixpgw show [--follow] [--json] SCHEMA JOURNAL OUT [FROM [COUNT]]
 
 Prints the records of one journal, each with its date and time in UTC and with its message as text, and then where they end. No lock is taken, so that a
 journal may be looked at while a session writes it: what is printed is what stands behind an open gate as it is read.
 
+With --follow it goes on as records come, until COUNT are printed or it is ended, or whoever reads OUT is gone: each is printed within about 50
+milliseconds. It ends with status 6 where the journal is cut off or replaced meanwhile, as far as that is seen.
+
+  --follow go on as records come; JOURNAL is a file then, and not -
   --json   each record is a JSON object on a line of its own
   SCHEMA   the schema of the messages, as TOML (read); - is standard input
   JOURNAL  the journal, of either box (read); - is standard input, where SCHEMA is not and FROM counts from the first record
