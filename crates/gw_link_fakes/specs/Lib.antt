@@ -1,3 +1,4 @@
+pub mod Clocks
 pub mod Dialing
 pub mod Lanes
 pub mod Pipes

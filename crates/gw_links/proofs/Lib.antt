@@ -1,2 +1,3 @@
 mod EchoSteps
 pub mod Moving
+pub mod Reading

@@ -1,3 +1,4 @@
+pub mod Clocks
 pub mod Dialers
 pub mod Echoes
 pub mod Links

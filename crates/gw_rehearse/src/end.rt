@@ -2,6 +2,7 @@
 
 ghost use Rattle.std.specs.Prelude.{◌≡◌, ℕ, ◌+◌, ◌≤◌, ◌<◌, ◌^◌, ◌||◌, All, List, [], ◌∷◌, ◌++◌, length, vec_len, true, false, if◌then◌else◌, Some, None, Err, IfErr, IfOk, IfSome, IsTrue, OnOk};
 ghost use Rattle.gw_outside.specs.Faults.{HasRisen};
+ghost use Rattle.gw_link_fakes.specs.Clocks.{moment_of};
 ghost use Rattle.fixp_machine.specs.Machine.{fresh};
 ghost use Rattle.session_model.specs.Journal.{BeginsHistory};
 ghost use Rattle.session_model.specs.Inbox.{InboxRecord};
@@ -470,10 +471,10 @@ impl DrivenEnd {
         ensures flow { flow_of self.new.inbox ≡ flow_of self.old.inbox }
         ensures sound { is_given self.new.standing ≡ false → is_given self.old.standing ≡ false }
         ensures turned { TurnsOn self.old self.new (L.told link.old) (L.told link.new) }
-        ensures made { self.old.standing ≡ standings.Open → is_given self.new.standing ≡ false → is_failed self.new.standing ≡ false → MadeIts (HasRisen (L.faults link.old) (L.faults link.new)) L.eager clock.old self.old self.new (L.told link.old) (L.told link.new) (L.carried link.old) (L.carried link.new) }
+        ensures made { self.old.standing ≡ standings.Open → is_given self.new.standing ≡ false → is_failed self.new.standing ≡ false → MadeIts (HasRisen (L.faults link.old) (L.faults link.new)) L.eager (moment_of clock.old) self.old self.new (L.told link.old) (L.told link.new) (L.carried link.old) (L.carried link.new) }
         ensures rests { (self.old.standing ≡ standings.Open → ⊥) → (self.new ≡ self.old) × (L.told link.new ≡ L.told link.old) }
         ensures finished { is_given self.new.standing ≡ false → self.old.standing ≡ standings.Open → self.new.finished ≡ (self.old.finished || is_finished (line_of self.new.conn).machine.ending) }
-        ensures clock { clock.new ≡ clock.old }
+        ensures clock { moment_of clock.new ≡ moment_of clock.old }
         ensures never_falls { L.faults link.old ≤ L.faults link.new }
         ensures place { L.place link.new ≡ L.place link.old }
     {

@@ -2,6 +2,7 @@
 
 ghost use Rattle.std.specs.Prelude.{◌≡◌, ◌+◌, ◌==◌, ◌<◌, ◌≤◌, ◌^◌, [], length, false};
 ghost use Rattle.gw_outside.specs.Faults.{HasRisen};
+ghost use Rattle.gw_link_fakes.specs.Clocks.{moment_of};
 ghost use Rattle.gate_turn.specs.Places.{known};
 ghost use Rattle.gate_turn.specs.Calls.{IsFree};
 ghost use Rattle.gate_senders.specs.Gate.{IsPassAt};
@@ -50,13 +51,13 @@ pub(crate) fn make_turn<L: Link, R: Wait>(
     ensures own { IsPassAt gate.now pass.new }
     ensures free { IsFree pass.new }
     ensures looks { Looks (known pass.old) (known pass.new) }
-    ensures turned { WasMade result (HasRisen (L.faults link.old) (L.faults link.new)) L.eager clock.old clock.new (live_end (L.told link.old) (L.carried link.old) (known pass.old).seen (line_of conn.old) inbox.old []) (live_end (L.told link.new) (L.carried link.new) (known pass.new).seen (line_of conn.new) inbox.new (items_of news.new)) }
+    ensures turned { WasMade result (HasRisen (L.faults link.old) (L.faults link.new)) L.eager (moment_of clock.old) (moment_of clock.new) (live_end (L.told link.old) (L.carried link.old) (known pass.old).seen (line_of conn.old) inbox.old []) (live_end (L.told link.new) (L.carried link.new) (known pass.new).seen (line_of conn.new) inbox.new (items_of news.new)) }
     ensures flow { flow_of inbox.new ≡ flow_of inbox.old }
     ensures place { L.place link.new ≡ L.place link.old }
     ensures number { (known pass.new).number ≡ (known pass.old).number }
     ensures made { (known pass.new).made ≡ (known pass.old).made }
     ensures stands { Stands result (line_of conn.new) ((line_of conn.old).place + 4195840) (known pass.new) inbox.new }
-    ensures clock { clock.new ≡ clock.old }
+    ensures clock { moment_of clock.new ≡ moment_of clock.old }
     ensures never_falls { L.faults link.old ≤ L.faults link.new }
     ensures sent { is_given result ≡ false → is_failed result ≡ false → (line_of conn.new).machine.unsent ≡ [] }
 {

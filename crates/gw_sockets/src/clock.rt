@@ -23,6 +23,8 @@ pub struct MachineClock<'a, R> {
     /// How far the clock of the day was ahead of the monotonic one, in milliseconds.
     ahead: u64,
     last: u64,
+    /// How often it was read.
+    readings: u64,
     ghost below: { last < 2 ^ 44 },
 }
 
@@ -35,7 +37,12 @@ impl<'a, R: time::Clock> MachineClock<'a, R> {
             (Ok(day), Ok(run)) => millis(day).saturating_sub(millis(run)),
             _ => 0,
         };
-        MachineClock { rt, ahead, last: 0 }
+        MachineClock {
+            rt,
+            ahead,
+            last: 0,
+            readings: 0,
+        }
     }
 }
 
@@ -44,7 +51,10 @@ impl<R: time::Clock> Clock for MachineClock<'_, R> {
 
     ghost last = { λ c. c.last };
 
+    ghost readings = { λ c. c.readings };
+
     fn now(&mut self) -> u64 {
+        self.readings = self.readings.saturating_add(1);
         if let Ok(run) = self.rt.monotonic() {
             let moment = self.ahead.saturating_add(millis(run)).min(LAST);
             self.last = self.last.max(moment);
