@@ -78,6 +78,10 @@ goes_after now mid new p s limit k facts little goes untold none = record {
   credentials = omega (arith, ap (λ (x : EndConfig). length x.credentials) k.config, s.credentials);
 }
 
+-- the machine's moment does not pass the turn's as it sends, or loses its link
+pub lasts_until : (now : ℕ) (m n : State) → m.moment ≤ now → KeepsAll m n m.moment → n.moment ≤ now
+lasts_until now m n time k = omega (arith, k.time (omega arith), time)
+
 -- the same of a turn that only sent
 pub goes_still : (now : ℕ) (old l new : State) → GoesOn old → now < 17592186044416 → l.begun ≡ true → l.pending ≡ None → front_of l ≡ None → l.untold ≡ [] → l.moment ≡ now → l.config ≡ old.config → l.facts ≡ old.facts
     → (l.ending ≡ None → length l.unsent ≤ length old.unsent) → KeepsAll l new l.moment → new.facts ≡ l.facts → length new.unsent ≤ length l.unsent → (new.ending ≡ None → l.ending ≡ None) → new.ending ≡ None → GoesOn new

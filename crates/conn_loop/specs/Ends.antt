@@ -2,6 +2,7 @@
 use Rattle.std.specs.Prelude.{◌≡◌, ◌≤◌, List, Option}
 use Rattle.gw_links.specs.Links.{LinkTold, Carried}
 use Rattle.gw_links.specs.declared.clock.Clock.{Ghosts as ClockGhosts}
+use Rattle.gw_links.specs.Clocks.{clock_at, IsLater}
 use Rattle.jr_dated.specs.declared.journal.Journal.{Ghosts}
 use Rattle.jr_kept.specs.declared.inbox.Inbox.{Inbox}
 use Rattle.jr_kept.specs.Inbox.{faults_of}
@@ -44,10 +45,9 @@ module _ {O I C : Type 0} {G : Ghosts O} {H : Ghosts I} where
     pub seen : HasSeen (line_in e).machine (pass_in e)
     pub agrees : Agrees (line_in e).machine (box_in e)
 
-  -- the pass of the new one made and lost nothing, its inbox is of the same kind, and its counts and its clock did not fall
+  -- the pass of the new one made and lost nothing, its inbox is of the same kind, its count did not fall, and its clock is a later one
   pub record Stays (clock : ClockGhosts C) (old new : LiveEnd O I C G H) : Type 0 where
     pub looks : Looks (pass_in old) (pass_in new)
     pub kind : SameKind (box_in old) (box_in new)
     pub faults : faults_of (box_in old) ≤ faults_of (box_in new)
-    pub told : clock.told (clock_in new) ≡ clock.told (clock_in old)
-    pub ticks : clock.last (clock_in old) ≤ clock.last (clock_in new)
+    pub ticks : IsLater (clock_at clock (clock_in old)) (clock_at clock (clock_in new))

@@ -33,6 +33,7 @@ pub struct Conn {
 }
 
 impl Conn {
+    ghost use Rattle.gw_links.specs.Clocks.{clock_at, IsRead};
     ghost use Rattle.conn_loop.specs.Conn.{line_of, new_line, line_begun, line_cut, GoesOn};
 
     /// A connection that has not begun, of a new end. Each turn takes so many frames at most, 1 to 256, and sends as many entries of
@@ -71,6 +72,7 @@ impl Conn {
         ensures config { (line_of self.new).machine.config ≡ (line_of self.old).machine.config }
         ensures most { (line_of self.new).machine.most ≡ (line_of self.old).machine.most }
         ensures told { C.told clock.new ≡ C.told clock.old }
+        ensures read { IsRead (clock_at C.Clock clock.old) (clock_at C.Clock clock.new) }
     {
         let now = self.moment(clock);
         self.drop_held();
@@ -112,6 +114,7 @@ impl Conn {
         ensures limit { result < 2 ^ 44 }
         ensures never_falls { C.last clock.old ≤ C.last clock.new }
         ensures told { C.told clock.new ≡ C.told clock.old }
+        ensures read { IsRead (clock_at C.Clock clock.old) (clock_at C.Clock clock.new) }
     {
         clock.now().max(self.end.moment())
     }

@@ -3,6 +3,7 @@
 
 ghost use Rattle.std.specs.Prelude.{◌≡◌, ◌⊎◌, ◌<◌, ◌≤◌, ◌^◌, ℕ, [], max, true, length, Ok, Err, Some, None, IfOk, IfErr, IsSome, OnOk, is_some};
 ghost use Rattle.gw_outside.specs.Faults.{HasRisen};
+ghost use Rattle.gw_links.specs.Clocks.{clock_at, IsRead};
 ghost use Rattle.fixp_replies.specs.declared.act.Ending.TheVariants as endings;
 ghost use Rattle.jr_kept.specs.Inbox.{faults_of, is_broken, size_of, count_of, peer_last_of};
 ghost use Rattle.gate_turn.specs.Views.{HasFailed};
@@ -82,6 +83,7 @@ impl<O: Journal, I: Journal, C: Clock> LiveEnd<O, I, C> {
         ensures most { (line_in self.new).machine.most ≡ (line_in self.old).machine.most }
         ensures pass { pass_of self.new ≡ pass_of self.old }
         ensures inbox { box_in self.new ≡ box_in self.old }
+        ensures read { IsRead (clock_at C.Clock (clock_in self.old)) (clock_at C.Clock (clock_in self.new)) }
     {
         self.conn.begin(&mut self.clock);
     }
@@ -120,6 +122,9 @@ impl<O: Journal, I: Journal, C: Clock> LiveEnd<O, I, C> {
         ensures full { (entries bytes : ℕ) → result ≡ Err (faults.Full entries bytes) → (entries ≡ count_of (box_in self.new)) × (bytes ≡ size_of (box_in self.new)) }
         ensures never_falls { L.faults link.old ≤ L.faults link.new }
         ensures place { L.place link.new ≡ L.place link.old }
+        ensures read { IsRead (clock_at C.Clock (clock_in self.old)) (clock_at C.Clock (clock_in self.new)) }
+        ensures moment { OnOk result ((line_in self.new).machine.moment ≤ max (C.last (clock_in self.new)) (line_in self.old).machine.moment) }
+        ensures moment_lost { result ≡ Err faults.Link → (line_in self.new).machine.moment ≤ max (C.last (clock_in self.new)) (line_in self.old).machine.moment }
     {
         self.conn.turn(
             link,

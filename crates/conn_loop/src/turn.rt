@@ -2,6 +2,7 @@
 
 ghost use Rattle.std.specs.Prelude.{◌≡◌, ◌⊎◌, ℕ, ◌+◌, ◌^◌, ◌<◌, ◌≤◌, [], length, max, true, false, Ok, Err, Some, None, IfOk, IfErr, OnOk};
 ghost use Rattle.gw_outside.specs.Faults.{HasRisen};
+ghost use Rattle.gw_links.specs.Clocks.{clock_at, IsRead};
 ghost use Rattle.fixp_shake.specs.Flows.{is_absent};
 ghost use Rattle.fixp_replies.specs.declared.act.Ending.TheVariants as endings;
 ghost use Rattle.jr_kept.specs.Inbox.{faults_of, is_broken, size_of, count_of};
@@ -72,6 +73,8 @@ impl Conn {
         ensures kind { SameKind inbox.old inbox.new }
         ensures never_falls { (faults_of inbox.old ≤ faults_of inbox.new) × (L.faults link.old ≤ L.faults link.new) }
         ensures stays { L.place link.new ≡ L.place link.old }
+        ensures moment { OnOk result ((line_of self.new).machine.moment ≤ now) }
+        ensures moment_lost { result ≡ Err faults.Link → (line_of self.new).machine.moment ≤ now }
     {
         let Ok(_) = self.receive(link) else {
             return self.lose_link();
@@ -84,7 +87,8 @@ impl Conn {
 
     /// One turn. `news` is emptied first, and has then what was delivered and told. Where output is unsent at its start, or its
     /// tick ends the connection, the turn only sends. Else it receives once, takes at most as many frames as the connection's number, serves the outbox, and
-    /// sends until the link takes nothing. What it records, and what senders add later, carries the turn's moment or a later one.
+    /// sends until the link takes nothing. It reads the clock once, and its moment is what the clock gave then, or the machine's last where that is
+    /// later. What it records, and what senders add later, carries the turn's moment or a later one.
     ///
     /// # Errors
     /// `Link` where the link failed before the connection had ended and both finishes were exchanged: `begin` may follow. After
@@ -131,6 +135,9 @@ impl Conn {
         ensures stays { L.place link.new ≡ L.place link.old }
         ensures clock { C.told clock.new ≡ C.told clock.old }
         ensures ticks { C.last clock.old ≤ C.last clock.new }
+        ensures read { IsRead (clock_at C.Clock clock.old) (clock_at C.Clock clock.new) }
+        ensures moment { OnOk result ((line_of self.new).machine.moment ≤ max (C.last clock.new) (line_of self.old).machine.moment) }
+        ensures moment_lost { result ≡ Err faults.Link → (line_of self.new).machine.moment ≤ max (C.last clock.new) (line_of self.old).machine.moment }
     {
         news.clear();
         let now = self.moment(clock);

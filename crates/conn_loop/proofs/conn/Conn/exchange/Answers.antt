@@ -6,7 +6,7 @@ use Rattle.conn_turns.specs.Lines.{Line}
 use Rattle.conn_loop.specs.Conn.{line_of, KeepsAll}
 use Rattle.conn_loop.specs.Live.{live_end}
 use Rattle.conn_loop.specs.Moving.{IsLossOf}
-use Rattle.conn_loop.proofs.Exchanging.{did_work, on_ok_any, loss_cut, loss_ends, loss_answer, loss_goes, goes_after, leaves_of}
+use Rattle.conn_loop.proofs.Exchanging.{did_work, on_ok_any, loss_cut, loss_ends, loss_answer, loss_goes, goes_after, lasts_until, leaves_of}
 use Rattle.conn_loop.proofs.conn.Conn.exchange.Goals as goal
 
 pub returns-in_default-clause-did : goal.returns-in_default-clause-did
@@ -106,3 +106,22 @@ returns-in_default-clause-leaves_lost g c = λ _.
 
 pub returns-clause-least : goal.returns-clause-least
 returns-clause-least g c = λ e waits flow. c.in_default-work.ensures.least (ap (λ (l : Line). l.waits) c.in-Ok.ensures.received.line ∙ waits) (ap (λ (l : Line). is_absent l.machine.config.own_flow) c.in-Ok.ensures.received.line ∙ flow)
+
+pub returns-in_default-clause-moment : goal.returns-in_default-clause-moment
+returns-in_default-clause-moment g c =
+    let same = ap (λ (l : Line). l.machine) c.in_default.ensures.failed.0 in
+    let keeps = subst (λ (x : State). KeepsAll x c.lose_link.new.self.end x.moment) same c.lose_link.ensures.keeps in
+    on_ok_any _ c.lose_link.result (lasts_until c.args.now c.args.self.now.end c.lose_link.new.self.end c.requires.in_turn.time keeps)
+
+pub returns-in_default-clause-moment_lost : goal.returns-in_default-clause-moment_lost
+returns-in_default-clause-moment_lost g c = λ _.
+    let same = ap (λ (l : Line). l.machine) c.in_default.ensures.failed.0 in
+    lasts_until c.args.now c.args.self.now.end c.lose_link.new.self.end c.requires.in_turn.time
+    (subst (λ (x : State). KeepsAll x c.lose_link.new.self.end x.moment) same c.lose_link.ensures.keeps)
+
+pub returns-clause-moment : goal.returns-clause-moment
+returns-clause-moment g c =
+    on_ok_any _ c.send.result (lasts_until c.args.now c.work.new.self.end c.send.new.self.end c.in_default-work.ensures.serve.time c.send.ensures.keeps)
+
+pub returns-clause-moment_lost : goal.returns-clause-moment_lost
+returns-clause-moment_lost g c = λ _. lasts_until c.args.now c.work.new.self.end c.send.new.self.end c.in_default-work.ensures.serve.time c.send.ensures.keeps

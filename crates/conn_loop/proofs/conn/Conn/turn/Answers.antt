@@ -7,7 +7,7 @@ use Rattle.conn_turns.specs.Lines.{Line}
 use Rattle.conn_loop.specs.Conn.{line_of}
 use Rattle.conn_loop.specs.Live.{live_end}
 use Rattle.conn_loop.proofs.Working.{seen_same}
-use Rattle.conn_loop.proofs.Exchanging.{on_ok_any, loss_cut, loss_ends, loss_answer, loss_goes, goes_still, no_look, looked_on, agrees_same, leaves_of, only_sent, did_more, cut_as, cut_none}
+use Rattle.conn_loop.proofs.Exchanging.{on_ok_any, loss_cut, loss_ends, loss_answer, loss_goes, goes_still, lasts_until, no_look, looked_on, agrees_same, leaves_of, only_sent, did_more, cut_as, cut_none}
 use Rattle.conn_loop.proofs.conn.Conn.turn.Goals as goal
 
 pub returns-in_default-clause-cut : goal.returns-in_default-clause-cut
@@ -88,3 +88,18 @@ pub returns-clause-looked : goal.returns-clause-looked
 returns-clause-looked g c =
     looked_on (line_of c.args.self.now) c.start.new.self.end (line_of c.start.new.self).waits (known c.args.pass.now) (known c.exchange.new.pass) c.exchange.result (ap (λ (l : Line). l.waits) c.in-Ok.ensures.ticked)
     c.in-Ok.ensures.config c.exchange.ensures.most c.exchange.ensures.least
+
+pub returns-then-not-works-clause-moment : goal.returns-then-not-works-clause-moment
+returns-then-not-works-clause-moment g c =
+    on_ok_any _ c.send.result
+    (lasts_until _ c.start.new.self.end c.send.new.self.end (omega (arith, c.in-Ok.ensures.moment, c.moment-now.ensures.now)) c.send.ensures.keeps)
+
+pub returns-then-not-works-clause-moment_lost : goal.returns-then-not-works-clause-moment_lost
+returns-then-not-works-clause-moment_lost g c = λ _.
+    lasts_until _ c.start.new.self.end c.send.new.self.end (omega (arith, c.in-Ok.ensures.moment, c.moment-now.ensures.now)) c.send.ensures.keeps
+
+pub returns-clause-moment : goal.returns-clause-moment
+returns-clause-moment g c = on_ok_weaker c.exchange.result (λ most. omega (arith, most, c.moment-now.ensures.now)) c.exchange.ensures.moment
+
+pub returns-clause-moment_lost : goal.returns-clause-moment_lost
+returns-clause-moment_lost g c = λ e. let most = c.exchange.ensures.moment_lost e in omega (arith, most, c.moment-now.ensures.now)

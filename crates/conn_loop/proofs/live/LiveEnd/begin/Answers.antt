@@ -1,0 +1,8 @@
+use Rattle.std.proofs.Common.{arith}
+use Rattle.conn_steps.proofs.Inboxes.{kind_self}
+use Rattle.conn_loop.specs.Ends.{pass_in, box_in}
+use Rattle.conn_loop.proofs.Working.{looks_self}
+use Rattle.conn_loop.proofs.live.LiveEnd.begin.Goals as goal
+
+pub returns-clause-stays : goal.returns-clause-stays
+returns-clause-stays g c = record { looks = looks_self (pass_in c.args.self.now); kind = kind_self (box_in c.args.self.now); faults = omega arith; ticks = c.begin.ensures.read.later }
