@@ -37,7 +37,7 @@ use Rattle.cmd_feed.proofs.Statuses.{status_says}
 
 module _ {J O K N C : Type 0} {G : Ghosts J} {H : Ghosts O} (hears : Hears K N C) (config : EndConfig) (senders : ℕ) (gate : Gate O H) (passes : Passes (Kept O H)) (old new : Live K N C) (outbox closed : Outbox O H) (box since : Inbox J G)
     (left left' taken taken' : Option (List ℕ)) (fed : Fed) (status : Status) (o : OpensOn gate outbox) (sound : is_broken outbox ≡ false) (in_sound : inboxes.is_broken box ≡ false) (k : ClosedWith gate passes closed) (few : front_of closed < 2 ^ 40)
-    (f : FedAt (clocked H.tells hears.links (hears.last old.clock) (hears.last new.clock)) (opening_of gate) senders (known_at passes) (fed_beside (beside (hears.carried old.dialer) (hears.taken old.out) box) left taken)
+    (f : FedAt (clocked H.tells hears.links (hears.clock old.clock) (hears.clock new.clock)) (opening_of gate) senders (known_at passes) (fed_beside (beside (hears.carried old.dialer) (hears.taken old.out) box) left taken)
     (fed_beside (beside (hears.carried new.dialer) (hears.taken new.out) since) left' taken') (fresh config (opened_state (opening_of gate).history box) (2 ^ 26)) fed) (is : status ≡ status_of_feeding fed.connections fed.end fed.refused) where
   -- it was fed so up to a history, with the lines that were answered
   abbrev FedUpTo : History → Type 0
@@ -45,7 +45,7 @@ module _ {J O K N C : Type 0} {G : Ghosts J} {H : Ghosts O} (hears : Hears K N C
 
   pub lived_fed : HasLivedFed hears config senders (over_boxes old outbox box) (over_boxes new closed since) (streams left taken) (streams left' taken') status
   lived_fed =
-      let l = lived_by (clocked H.tells hears.links (hears.last old.clock) (hears.last new.clock)) gate passes (fed_plans senders (opening_of gate).history.made f.gifts) (hears.carried old.dialer) (hears.carried new.dialer) (hears.taken old.out) (hears.taken new.out) config
+      let l = lived_by (clocked H.tells hears.links (hears.clock old.clock) (hears.clock new.clock)) gate passes (fed_plans senders (opening_of gate).history.made f.gifts) (hears.carried old.dialer) (hears.carried new.dialer) (hears.taken old.out) (hears.taken new.out) config
       outbox closed box since (answer_of fed.connections (fed_refusal fed.end fed.refused)) o sound in_sound k few f.lived in
       let w : FedUpTo l.0.closing = subst FedUpTo (sym l.2) (f.told (account closed k.history k.refused) k.closed) in
       record {

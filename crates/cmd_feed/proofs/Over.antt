@@ -19,6 +19,8 @@ use Rattle.connection_laws.specs.Living.{Opens}
 use Rattle.turn_laws.specs.Standing.{Has}
 use Rattle.turn_laws.specs.MachineLives.{life_in}
 use Rattle.turn_laws.specs.LoopLives.{machine_life}
+use Rattle.gw_links.specs.Clocks.{ClockAt, IsLater}
+use Rattle.conn_serve.proofs.Reading.{read_before}
 use Rattle.jr_dated.specs.declared.journal.Journal.{Ghosts}
 use Rattle.jr_record.specs.declared.record.Record.{Record}
 use Rattle.jr_dated.specs.declared.limits.Limits.{Limits as JournalLimits}
@@ -84,7 +86,7 @@ module _ {S K D N C J : Type 0} {H : Ghosts J} (outbox : Outbox J H) (sees : See
       (o : HoldsTold (sees.told before.out_disk) outbox) (i : OpensInbox (sees.told before.in_disk) box) (limit : ((outboxes.limits_of outbox).entries ≡ 2 ^ 26) × ((outboxes.limits_of outbox).bytes ≡ 2 ^ 33))
       (in_limit : (inboxes.limits_of box).bytes ≡ 2 ^ 33) (now_out_is : after.out_disk ≡ disk_at (outboxes.journal_of closed)) (now_in_is : after.in_disk ≡ disk_at (inboxes.journal_of since))
       (out_least : sees.disk before.out_disk ≤ outboxes.faults_of outbox) (in_least : sees.disk before.in_disk ≤ inboxes.faults_of box) (out_count : sees.disk after.out_disk ≡ outboxes.faults_of closed) (in_count : sees.disk after.in_disk ≡ inboxes.faults_of since)
-      (at : ℕ) (least : sees.last before.clock ≤ at) (l : LivedBoxes (clocked H.tells sees.links at (sees.last after.clock)) config senders (beside (sees.carried before.dialer) (sees.taken before.out) box) (beside (sees.carried after.dialer) (sees.taken after.out) since) outbox closed result) where
+      (at : ClockAt) (least : IsLater (sees.clock before.clock) at) (l : LivedBoxes (clocked H.tells sees.links at (sees.clock after.clock)) config senders (beside (sees.carried before.dialer) (sees.taken before.out) box) (beside (sees.carried after.dialer) (sees.taken after.out) since) outbox closed result) where
     abbrev machine : State
     machine = fresh config (opened_state l.opening box) (2 ^ 26)
 
@@ -175,7 +177,7 @@ module _ {S K D N C J : Type 0} {H : Ghosts J} (outbox : Outbox J H) (sees : See
       out_opened = λ content is. subst (λ (rs : List Record). IsJournal content rs) (same_records content is) (o.told content is);
       in_opened = i.told;
       holds = i.holds;
-      served = record { life = l.served.life; links = l.served.links; clock = by_earlier (sees.last before.clock) at (sees.last after.clock) (all_of l.served.life.ended l.served.life.given_up) least l.served.clock };
+      served = record { life = l.served.life; links = l.served.links; clock = by_earlier (sees.clock before.clock).last at.last (sees.clock after.clock).last (all_of l.served.life.ended l.served.life.given_up) least.last l.served.clock; read = read_before (sees.clock before.clock) at (sees.clock after.clock) _ _ least l.served.read };
       answer = l.answer;
       refusal = l.refusal;
       finished = λ e. let both = finishes_stand H.tells config (2 ^ 26) (life_at (sees.carried before.dialer) (sees.taken before.out) l.opening box) (life_at (sees.carried after.dialer) (sees.taken after.out) l.seen since) l.opening i.inbox i.holds refl l.connections l.served.life e in
@@ -215,7 +217,7 @@ module _ {S I K A D N C J : Type 0} {H : Ghosts J} (outbox : Outbox J H) (seen :
       (o : HoldsTold (seen.session.told before.out_disk) outbox) (i : OpensInbox (seen.session.told before.in_disk) box) (limit : ((outboxes.limits_of outbox).entries ≡ 2 ^ 26) × ((outboxes.limits_of outbox).bytes ≡ 2 ^ 33))
       (in_limit : (inboxes.limits_of box).bytes ≡ 2 ^ 33) (now_out_is : after.out_disk ≡ disk_at (outboxes.journal_of closed)) (now_in_is : after.in_disk ≡ disk_at (inboxes.journal_of since))
       (out_least : seen.session.disk before.out_disk ≤ outboxes.faults_of outbox) (in_least : seen.session.disk before.in_disk ≤ inboxes.faults_of box) (out_count : seen.session.disk after.out_disk ≡ outboxes.faults_of closed) (in_count : seen.session.disk after.in_disk ≡ inboxes.faults_of since)
-      (clock : C) (least : seen.session.last before.clock ≤ seen.session.last clock) (mid : Option (List ℕ)) (pushed : Appends (seen.taken before.accepted) mid []) where
+      (clock : C) (least : IsLater (seen.session.clock before.clock) (seen.session.clock clock)) (mid : Option (List ℕ)) (pushed : Appends (seen.taken before.accepted) mid []) where
     -- what was lived and fed over the boxes, behind a push of nothing to ACCEPTED and a look at the clock, was lived and fed over their disks
     pub fed_over_disks : HasLivedFed (heard seen.session) config count (over_boxes (record { out = before.out; dialer = before.dialer; clock = clock }) outbox box) (over_boxes (live_of (session_of after)) closed since)
         (streams (seen.left before.input) mid) (streams (seen.left after.input) (seen.taken after.accepted)) status
@@ -228,7 +230,7 @@ module _ {S I K A D N C J : Type 0} {H : Ghosts J} (outbox : Outbox J H) (seen :
       opening = h.opening;
       gifts = h.gifts;
       over = lived_over outbox seen.session disk_at leaves_are sizes config (submitting (fed_plans count h.opening.made h.gifts)) (session_of before) (session_of after) closed box since h.lived.result
-          o i limit in_limit now_out_is now_in_is out_least in_least out_count in_count (seen.session.last clock) least h.lived.boxes;
+          o i limit in_limit now_out_is now_in_is out_least in_least out_count in_count (seen.session.clock clock) least h.lived.boxes;
       opened = h.opened;
       end = h.end;
       mark = h.mark;

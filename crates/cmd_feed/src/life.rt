@@ -5,6 +5,7 @@ ghost use Rattle.std.specs.Prelude.{◌≡◌, ◌⊎◌, ◌+◌, ◌<◌, ◌�
 ghost use Rattle.gw_outside.specs.Faults.{HasRisen};
 ghost use Rattle.fixp_msgs.specs.declared.flow.Flow.TheVariants as flows;
 ghost use Rattle.fixp_machine.specs.Machine.{fresh};
+ghost use Rattle.gw_links.specs.Clocks.{clock_at};
 ghost use Rattle.jr_kept.specs.Outbox as outboxes;
 ghost use Rattle.jr_kept.specs.Inbox as inboxes;
 ghost use Rattle.gate_turn.specs.Listed.{known_at};
@@ -132,7 +133,7 @@ fn serve_seated<
     requires greatest { config.keepalive ≤ 60000 }
     requires credentials { length config.credentials ≤ 2048 }
     ensures back { AllBackAt gate.now passes.new }
-    ensures fed { FedAt (clocked O.tells N.Link.Link (C.last devices.clock) (C.last result.devices.clock)) (opening_of gate.now) (vec_len places.0) (known_at passes.new)
+    ensures fed { FedAt (clocked O.tells N.Link.Link (clock_at C.Clock devices.clock) (clock_at C.Clock result.devices.clock)) (opening_of gate.now) (vec_len places.0) (known_at passes.new)
         (fed_beside (beside (N.told devices.dialer) (K.taken devices.out) inbox) (S.left input.old) (A.taken accepted))
         (fed_beside (beside (N.told result.devices.dialer) (K.taken result.devices.out) result.inbox) (S.left input.new) (A.taken result.accepted))
         (fresh config (opened_state (opening_of gate.now).history inbox) (2 ^ 26)) result.fed }

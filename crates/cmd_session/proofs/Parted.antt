@@ -6,6 +6,7 @@ use Rattle.session_model.specs.Inbox.{InboxRecord}
 use Rattle.session_model.specs.Plans.{GoesOn}
 use Rattle.fixp_shake.specs.declared.config.EndConfig.{EndConfig}
 use Rattle.fixp_machine.specs.Machine.{State, fresh}
+use Rattle.gw_links.specs.Clocks.{ClockAt}
 use Rattle.gw_links.specs.Dialers.{DialerTold}
 use Rattle.gw_links.specs.declared.link.Link.{Ghosts as LinkGhosts}
 use Rattle.jr_dated.specs.declared.journal.Journal.{Ghosts}
@@ -41,7 +42,7 @@ use Rattle.cmd_session.specs.declared.answering.Answerer.{Answerer}
 use Rattle.cmd_session.specs.declared.answering.Answerer.TheVariants as answerers
 
 -- a fault that no business is refused for is one of the connections
-pub blamed_so : {J : Type 0} {G : Ghosts J} {L : Type 0} (tells : Type 0) (links : LinkGhosts L) (before behind : ℕ) (old new : AnsweringAt J G) (m : State) (result : Result (Unit {0}) ServeFault)
+pub blamed_so : {J : Type 0} {G : Ghosts J} {L : Type 0} (tells : Type 0) (links : LinkGhosts L) (before behind : ClockAt) (old new : AnsweringAt J G) (m : State) (result : Result (Unit {0}) ServeFault)
     → AnsweredSo tells links before behind old new m result → (x : ServeFault) → (x ≡ faults.Memory → ⊥) → (IsOfBusiness x → ⊥) → result ≡ Err x → IsBlamed tells (faults_around old) (faults_around new) x
 blamed_so tells links before behind old new m result s x memory no_business e = ⊎_elim
     (λ c. blamed_at (IsBlamed tells (faults_around old) (faults_around new)) s.connections x s.blamed c)
@@ -62,7 +63,7 @@ looks_self p = record {
 }
 
 -- so it was lived over the boxes, by senders who sent nothing
-pub none_began : {J : Type 0} {G : Ghosts J} {O : Type 0} {H : Ghosts O} {L : Type 0} (links : LinkGhosts L) (clock : ℕ) (gate : Gate O H) (passes : Passes (Kept O H)) (config : EndConfig)
+pub none_began : {J : Type 0} {G : Ghosts J} {O : Type 0} {H : Ghosts O} {L : Type 0} (links : LinkGhosts L) (clock : ClockAt) (gate : Gate O H) (passes : Passes (Kept O H)) (config : EndConfig)
     (dialed : Option DialerTold) (out : Option (List ℕ)) (box : Inbox J G) (plan : ℕ → List (List ℕ) → List (List ℕ)) (count : ℕ) (part : ℕ → Part) (pass : Part)
     → is_broken box ≡ false → ∥ ((i : List InboxRecord) × HoldsBox box i []) ∥₁ → GoesOn plan → AreParted (made_part (count + 1) (opening_of gate)) count part pass → AreParted (known_at passes) count part pass
     → LivesOnceClosed (clocked H.tells links clock clock) config (answering plan count) (beside dialed out box) (beside dialed out box) gate passes (Err faults.Memory)

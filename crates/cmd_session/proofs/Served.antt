@@ -8,6 +8,7 @@ use Rattle.std.specs.Io.KnownBytes.{Keeps, Appends}
 use Rattle.fixp_shake.specs.declared.config.EndConfig.{EndConfig}
 use Rattle.fixp_machine.specs.Machine.{State, fresh}
 use Rattle.session_model.specs.Journal.{History}
+use Rattle.gw_links.specs.Clocks.{ClockAt, IsLater}
 use Rattle.jr_dated.specs.declared.journal.Journal.{Ghosts}
 use Rattle.jr_kept.specs.declared.inbox.Inbox.{Inbox}
 use Rattle.jr_kept.specs.declared.outbox.Outbox.{Outbox}
@@ -26,6 +27,7 @@ use Rattle.conn_door.specs.Answers.{answer_of}
 use Rattle.conn_door.specs.Senders.{refusal_of, IsRefusal, FinishedFirst, SubmittedAll}
 use Rattle.conn_serve.specs.Causes.{TellsAll}
 use Rattle.conn_serve.specs.Connections.{Connection, ByClock, all_of}
+use Rattle.conn_serve.proofs.Reading.{read_before}
 use Rattle.conn_serve.specs.Lines.{lines_from}
 use Rattle.conn_serve.specs.Served.{lacks_lines, ServedLife, ServedOver}
 use Rattle.conn_serve.specs.Moments.{Beside, beside, with_seen}
@@ -153,18 +155,19 @@ module _ {J : Type 0} {G : Ghosts J} (taken : Option (List ℕ)) (old new : Besi
     past = s.past;
   }
 
-  over_earlier : {L : Type 0} (over : Clocked L) (least : ℕ) (before seen : History) (m : State) (result : Result LifeEnd ServeFault) → Appends taken old.out [] → least ≤ over.before
+  over_earlier : {L : Type 0} (over : Clocked L) (least : ClockAt) (before seen : History) (m : State) (result : Result LifeEnd ServeFault) → Appends taken old.out [] → IsLater least over.before
       → ServedOver over.tells over.links over.before over.behind (with_seen old before) (with_seen new seen) m result
       → ServedOver over.tells over.links least over.behind (with_seen (record old { out = taken }) before) (with_seen new seen) m result
   unfolding served_earlier
   over_earlier over least before seen m result h le s = record {
     life = served_earlier before seen m result h s.life;
     links = s.links;
-    clock = by_earlier least over.before over.behind (all_of s.life.ended s.life.given_up) le s.clock;
+    clock = by_earlier least.last over.before.last over.behind.last (all_of s.life.ended s.life.given_up) le.last s.clock;
+    read = read_before least over.before over.behind m _ le s.read;
   }
 
-  boxes_earlier : {O : Type 0} {H : Ghosts O} {L : Type 0} (over : Clocked L) (least : ℕ) (config : EndConfig) (senders : Senders) (outbox closed : Outbox O H) (result : Result (Unit {0}) ServeFault)
-      → Appends taken old.out [] → least ≤ over.before → LivedBoxes over config senders old new outbox closed result
+  boxes_earlier : {O : Type 0} {H : Ghosts O} {L : Type 0} (over : Clocked L) (least : ClockAt) (config : EndConfig) (senders : Senders) (outbox closed : Outbox O H) (result : Result (Unit {0}) ServeFault)
+      → Appends taken old.out [] → IsLater least over.before → LivedBoxes over config senders old new outbox closed result
       → LivedBoxes (clocked over.tells over.links least over.behind) config senders (record old { out = taken }) new outbox closed result
   unfolding over_earlier
   boxes_earlier over least config senders outbox closed result h le l = record {
@@ -202,13 +205,13 @@ module _ {J : Type 0} {G : Ghosts J} (taken : Option (List ℕ)) (old new : Besi
 -- what was lived behind a push of nothing, and a look at the clock
 pub lived_from : {J : Type 0} {G : Ghosts J} {O : Type 0} {H : Ghosts O} {K N C : Type 0} (hears : Hears K N C) (config : EndConfig) (senders : Senders)
     (old : Live K N C) (out : K) (clock : C) (outbox : Outbox O H) (box : Inbox J G) (after : OverBoxes K N C (Outbox O H) (Inbox J G)) (status : Status)
-    → Appends (hears.taken old.out) (hears.taken out) [] → hears.last old.clock ≤ hears.last clock
+    → Appends (hears.taken old.out) (hears.taken out) [] → IsLater (hears.clock old.clock) (hears.clock clock)
     → HasLived hears config senders (over_boxes (record { out = out; dialer = old.dialer; clock = clock }) outbox box) after status → HasLived hears config senders (over_boxes old outbox box) after status
 lived_from {H = H} hears config senders old out clock outbox box after status h le l = record {
   result = l.result;
   status_is = l.status_is;
   boxes = boxes_earlier (hears.taken old.out) (beside (hears.carried old.dialer) (hears.taken out) box) (beside (hears.carried after.live.dialer) (hears.taken after.live.out) after.inbox)
-      (clocked H.tells hears.links (hears.last clock) (hears.last after.live.clock)) (hears.last old.clock) config senders outbox after.outbox l.result h le l.boxes;
+      (clocked H.tells hears.links (hears.clock clock) (hears.clock after.live.clock)) (hears.clock old.clock) config senders outbox after.outbox l.result h le l.boxes;
 }
 
 -- OUT that took nothing holds what it held
@@ -235,7 +238,7 @@ took_none (Some xs) = sym (append-nil xs)
 
 -- what was lived, or was not begun, behind a look at the clock
 pub lived_since : {J : Type 0} {G : Ghosts J} {O : Type 0} {H : Ghosts O} {K N C : Type 0} (sink : K → ℕ) (hears : Hears K N C) (config : EndConfig) (senders : Senders)
-    (old : Live K N C) (clock : C) (outbox : Outbox O H) (box : Inbox J G) (after : OverBoxes K N C (Outbox O H) (Inbox J G)) (status : Status) → hears.last old.clock ≤ hears.last clock
+    (old : Live K N C) (clock : C) (outbox : Outbox O H) (box : Inbox J G) (after : OverBoxes K N C (Outbox O H) (Inbox J G)) (status : Status) → IsLater (hears.clock old.clock) (hears.clock clock)
     → BeganNone hears.taken sink (over_boxes (record { out = old.out; dialer = old.dialer; clock = clock }) outbox box) after status
     ⊎ HasLived hears config senders (over_boxes (record { out = old.out; dialer = old.dialer; clock = clock }) outbox box) after status
     → BeganNone hears.taken sink (over_boxes old outbox box) after status ⊎ HasLived hears config senders (over_boxes old outbox box) after status

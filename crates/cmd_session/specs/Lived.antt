@@ -150,7 +150,7 @@ module _ {J : Type 0} {G : Ghosts J} where
       pub out_opened : ForSome (sees.told before.out_disk) (λ content. IsJournal content (records_of_history opening))
       pub in_opened : ForSome (sees.told before.in_disk) (λ content. IsJournal content (records_of_inbox inbox))
       pub holds : inboxes.HoldsBox old inbox []
-      pub served : ServedOver G.tells sees.links (sees.last before.clock) (sees.last after.clock)
+      pub served : ServedOver G.tells sees.links (sees.clock before.clock) (sees.clock after.clock)
           (life_at (sees.carried before.dialer) (sees.taken before.out) opening old)
           (life_at (sees.carried after.dialer) (sees.taken after.out) seen new) (fresh config (opened_state opening old) (2 ^ 26)) connections
       pub answer : result ≡ answer_of connections refused
@@ -230,7 +230,7 @@ module _ {J : Type 0} {G : Ghosts J} {O : Type 0} {H : Ghosts O} where
         (before after : OverBoxes K N C (Outbox O H) (Inbox J G)) (status : Status) : Type 0 where
       pub result : Result (Unit {0}) ServeFault
       pub status_is : status ≡ status_of result
-      pub boxes : LivedBoxes (clocked H.tells hears.links (hears.last before.live.clock) (hears.last after.live.clock)) config senders
+      pub boxes : LivedBoxes (clocked H.tells hears.links (hears.clock before.live.clock) (hears.clock after.live.clock)) config senders
           (beside (hears.carried before.live.dialer) (hears.taken before.live.out) before.inbox)
           (beside (hears.carried after.live.dialer) (hears.taken after.live.out) after.inbox) before.outbox after.outbox result
 

@@ -3,6 +3,7 @@ use Rattle.std.specs.Prelude.{◌≡◌, ℕ, List, Option}
 use Rattle.gw_outside.specs.declared.streams.Source.{Ghosts as SourceGhosts}
 use Rattle.gw_outside.specs.declared.streams.Sink.{Ghosts as SinkGhosts}
 use Rattle.gw_outside.specs.declared.disk.Disk.{Ghosts as DiskGhosts}
+use Rattle.gw_links.specs.Clocks.{ClockAt, clock_at}
 use Rattle.gw_links.specs.declared.dialer.Dialer.{Ghosts as DialerGhosts}
 use Rattle.gw_links.specs.declared.link.Link.{Ghosts as LinkGhosts}
 use Rattle.gw_links.specs.declared.clock.Clock.{Ghosts as ClockGhosts}
@@ -13,7 +14,7 @@ use Rattle.cmd_session.specs.declared.outside.Live.{Live}
 use Rattle.cmd_session.specs.declared.outside.SessionOutside.{SessionOutside}
 
 -- What devices of these kinds tell of themselves: what a source has left, what a sink has taken, what a disk holds and may leave at a stop,
--- what the connections of a dialer carried, its links as their contracts have them, and what a clock gave last; and how often each has failed
+-- what the connections of a dialer carried, its links as their contracts have them, and what a clock shows; and how often each has failed
 pub record Sees (S K D N C : Type 0) : Type 1 where
   pub left : S → Option (List ℕ)
   pub taken : K → Option (List ℕ)
@@ -22,7 +23,7 @@ pub record Sees (S K D N C : Type 0) : Type 1 where
   pub carried : N → Option DialerTold
   pub Link : Type 0
   pub links : LinkGhosts Link
-  pub last : C → ℕ
+  pub clock : C → ClockAt
   pub source : S → ℕ
   pub sink : K → ℕ
   pub disk : D → ℕ
@@ -34,15 +35,15 @@ pub record Hears (K N C : Type 0) : Type 1 where
   pub carried : N → Option DialerTold
   pub Link : Type 0
   pub links : LinkGhosts Link
-  pub last : C → ℕ
+  pub clock : C → ClockAt
 
 module _ {K N C L W : Type 0} where
   abbrev pub hears : SinkGhosts K → DialerGhosts N L W → LinkGhosts L → ClockGhosts C → Hears K N C
-  hears sink dialer links clock = record { taken = sink.taken; carried = dialer.told; Link = L; links = links; last = clock.last }
+  hears sink dialer links clock = record { taken = sink.taken; carried = dialer.told; Link = L; links = links; clock = clock_at clock }
 
 module _ {S K D N C : Type 0} where
   abbrev pub heard : Sees S K D N C → Hears K N C
-  heard seen = record { taken = seen.taken; carried = seen.carried; Link = seen.Link; links = seen.links; last = seen.last }
+  heard seen = record { taken = seen.taken; carried = seen.carried; Link = seen.Link; links = seen.links; clock = seen.clock }
 
 module _ {S K D N C L W : Type 0} where
   -- as the contracts of the devices have it
@@ -55,7 +56,7 @@ module _ {S K D N C L W : Type 0} where
     carried = dialer.told;
     Link = L;
     links = links;
-    last = clock.last;
+    clock = clock_at clock;
     source = source.faults;
     sink = sink.faults;
     disk = disk.faults;

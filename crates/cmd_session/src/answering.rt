@@ -11,6 +11,7 @@ ghost use Rattle.gw_outside.specs.Faults.{HasRisen};
 ghost use Rattle.session_model.specs.Inbox.{InboxRecord};
 ghost use Rattle.cmd_config.specs.Settings.{IsTradeInRange};
 ghost use Rattle.fixp_msgs.specs.declared.flow.Flow.TheVariants as flows;
+ghost use Rattle.gw_links.specs.Clocks.{clock_at};
 ghost use Rattle.jr_kept.specs.Outbox as outboxes;
 ghost use Rattle.jr_kept.specs.Inbox as inboxes;
 ghost use Rattle.gate_turn.specs.Places.{known};
@@ -185,7 +186,7 @@ fn serve_business<
     requires numbered { inboxes.flow_of inbox ≡ flows.Recoverable → inboxes.next_of inbox + 1 < 2 ^ 64 }
     requires config { (100 ≤ config.keepalive) × (config.keepalive ≤ 60000) × (length config.credentials ≤ 2048) }
     ensures back { AllBackAt gate.now back.new }
-    ensures lived { LivesOnceClosed (clocked O.tells N.Link.Link (C.last devices.clock) (C.last result.devices.clock)) config (answering (B.plan business) (B.count business)) (beside (N.told devices.dialer) (K.taken devices.out) inbox) (beside (N.told result.devices.dialer) (K.taken result.devices.out) result.inbox) gate.now back.new result.answer }
+    ensures lived { LivesOnceClosed (clocked O.tells N.Link.Link (clock_at C.Clock devices.clock) (clock_at C.Clock result.devices.clock)) config (answering (B.plan business) (B.count business)) (beside (N.told devices.dialer) (K.taken devices.out) inbox) (beside (N.told result.devices.dialer) (K.taken result.devices.out) result.inbox) gate.now back.new result.answer }
     ensures output { result.answer ≡ Err faults.Output → HasRisen (K.faults devices.out) (K.faults result.devices.out) }
     ensures dial { result.answer ≡ Err faults.Dial → HasRisen (N.faults devices.dialer) (N.faults result.devices.dialer) }
     ensures unlent { N.lent result.devices.dialer ≡ false }
@@ -256,7 +257,7 @@ fn serve_answerer<
     requires numbered { inboxes.flow_of inbox ≡ flows.Recoverable → inboxes.next_of inbox + 1 < 2 ^ 64 }
     requires config { (100 ≤ config.keepalive) × (config.keepalive ≤ 60000) × (length config.credentials ≤ 2048) }
     ensures back { AllBackAt gate.now back.new }
-    ensures lived { LivesOnceClosed (clocked O.tells N.Link.Link (C.last devices.clock) (C.last result.devices.clock)) config (answering (plan_of answerer) (desks_of answerer)) (beside (N.told devices.dialer) (K.taken devices.out) inbox) (beside (N.told result.devices.dialer) (K.taken result.devices.out) result.inbox) gate.now back.new result.answer }
+    ensures lived { LivesOnceClosed (clocked O.tells N.Link.Link (clock_at C.Clock devices.clock) (clock_at C.Clock result.devices.clock)) config (answering (plan_of answerer) (desks_of answerer)) (beside (N.told devices.dialer) (K.taken devices.out) inbox) (beside (N.told result.devices.dialer) (K.taken result.devices.out) result.inbox) gate.now back.new result.answer }
     ensures output { result.answer ≡ Err faults.Output → HasRisen (K.faults devices.out) (K.faults result.devices.out) }
     ensures dial { result.answer ≡ Err faults.Dial → HasRisen (N.faults devices.dialer) (N.faults result.devices.dialer) }
     ensures unlent { N.lent result.devices.dialer ≡ false }

@@ -4,6 +4,7 @@
 ghost use Rattle.std.specs.Prelude.{◌≡◌, ◌⊎◌, ◌+◌, ◌<◌, ◌≤◌, ◌^◌, false, [], map, length, vec_len, vec_capacity, Err, IfOk, IfErr};
 ghost use Rattle.gw_outside.specs.Faults.{HasRisen};
 ghost use Rattle.fixp_msgs.specs.declared.flow.Flow.TheVariants as flows;
+ghost use Rattle.gw_links.specs.Clocks.{clock_at};
 ghost use Rattle.jr_kept.specs.Outbox as outboxes;
 ghost use Rattle.jr_kept.specs.Inbox as inboxes;
 ghost use Rattle.gate_senders.specs.Gate.{opening_of, senders_of, OpensOn, MadeAt, AllBackAt};
@@ -91,7 +92,7 @@ fn serve_beside<
     ensures seated { Seated opening.entry.gate.now senders.new.senders.items (vec_len senders.new.senders + 1) }
     ensures count { vec_len senders.new.senders ≡ vec_len senders.old.senders }
     ensures comes_back { ComesBack (lives.hears K.Sink N.Dialer N.Link.Link C.Clock) opening.entry.gate.now lent result.1 }
-    ensures through { ServedThrough N.Link.Link (C.last lent.clock) (C.last result.1.clock) opening.entry.gate.now (serving_with (lives.hears K.Sink N.Dialer N.Link.Link C.Clock) lent senders.old.senders.items) (serving_with (lives.hears K.Sink N.Dialer N.Link.Link C.Clock) result.1 senders.new.senders.items) (fresh opening.entry.config (opened_state (opening_of opening.entry.gate.now).history lent.inbox) opening.entry.most) result.0 }
+    ensures through { ServedThrough N.Link.Link (clock_at C.Clock lent.clock) (clock_at C.Clock result.1.clock) opening.entry.gate.now (serving_with (lives.hears K.Sink N.Dialer N.Link.Link C.Clock) lent senders.old.senders.items) (serving_with (lives.hears K.Sink N.Dialer N.Link.Link C.Clock) result.1 senders.new.senders.items) (fresh opening.entry.config (opened_state (opening_of opening.entry.gate.now).history lent.inbox) opening.entry.most) result.0 }
     ensures marked { IsUnrefused result.0 → 0 < vec_len senders.old.senders → SomeMarked senders.new.senders.items }
     ensures output { result.0 ≡ Err faults.Output → HasRisen (K.faults lent.out) (K.faults result.1.out) }
     ensures dial { result.0 ≡ Err faults.Dial → HasRisen (N.faults lent.dialer) (N.faults result.1.dialer) }
@@ -133,7 +134,7 @@ fn serve_seated<
     requires greatest { config.keepalive ≤ 60000 }
     requires credentials { length config.credentials ≤ 2048 }
     ensures back { AllBackAt gate.now passes.new }
-    ensures served { ServedAt (clocked O.tells N.Link.Link (C.last devices.clock) (C.last result.devices.clock)) (opening_of gate.now) (map payloads_of plans.items) (known_at passes.new) (beside (N.told devices.dialer) (K.taken devices.out) inbox) (beside (N.told result.devices.dialer) (K.taken result.devices.out) result.inbox) (fresh config (opened_state (opening_of gate.now).history inbox) (2 ^ 26)) result.answer }
+    ensures served { ServedAt (clocked O.tells N.Link.Link (clock_at C.Clock devices.clock) (clock_at C.Clock result.devices.clock)) (opening_of gate.now) (map payloads_of plans.items) (known_at passes.new) (beside (N.told devices.dialer) (K.taken devices.out) inbox) (beside (N.told result.devices.dialer) (K.taken result.devices.out) result.inbox) (fresh config (opened_state (opening_of gate.now).history inbox) (2 ^ 26)) result.answer }
     ensures output { result.answer ≡ Err faults.Output → HasRisen (K.faults devices.out) (K.faults result.devices.out) }
     ensures dial { result.answer ≡ Err faults.Dial → HasRisen (N.faults devices.dialer) (N.faults result.devices.dialer) }
     ensures lent { N.lent result.devices.dialer ≡ false }

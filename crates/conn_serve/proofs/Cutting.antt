@@ -1,6 +1,7 @@
 -- A connection of a live end, as it begins and as it is cut.
 use Rattle.std.proofs.Common.{◌≡◌, ◌<◌, ◌≤◌, ℕ, Bool, List, [], ◌++◌, length, Option, sym, ap, subst}
 use Rattle.session_model.specs.Inbox.{InboxRecord}
+use Rattle.gw_links.specs.Clocks.{clock_at}
 use Rattle.gw_links.specs.Links.{LinkTold, Carried}
 use Rattle.gw_links.specs.declared.clock.Clock.{Ghosts as ClockGhosts}
 use Rattle.jr_dated.specs.declared.journal.Journal.{Ghosts}
@@ -26,19 +27,19 @@ module _ {O I C : Type 0} {G : Ghosts O} {H : Ghosts I} (by : ClockGhosts C) whe
       → pass_of f ≡ pass_of e → box_in f ≡ box_in e → clock_in f ≡ clock_in e → ((g : GivenUp tells eager why old (connection_in by told carried out e)) × P (g.adds ++ g.cut_added))
       → (g : GivenUp tells eager why old (connection_in by told carried out f)) × P (g.adds ++ g.cut_added)
   given_in_cut {tells = tells} P eager why old told carried out e f pass inbox clock g =
-      subst (λ (p : Pass (Kept O G)). (g : GivenUp tells eager why old (connection_at told carried out (known p).seen (by.last (clock_in f)) (line_in f) (box_in f))) × P (g.adds ++ g.cut_added)) (sym pass)
-      (subst (λ (b : Inbox I H). (g : GivenUp tells eager why old (connection_at told carried out (pass_in e).seen (by.last (clock_in f)) (line_in f) b)) × P (g.adds ++ g.cut_added)) (sym inbox)
-      (subst (λ (k : C). (g : GivenUp tells eager why old (connection_at told carried out (pass_in e).seen (by.last k) (line_in f) (box_in e))) × P (g.adds ++ g.cut_added)) (sym clock)
+      subst (λ (p : Pass (Kept O G)). (g : GivenUp tells eager why old (connection_at told carried out (known p).seen (clock_at by (clock_in f)) (line_in f) (box_in f))) × P (g.adds ++ g.cut_added)) (sym pass)
+      (subst (λ (b : Inbox I H). (g : GivenUp tells eager why old (connection_at told carried out (pass_in e).seen (clock_at by (clock_in f)) (line_in f) b)) × P (g.adds ++ g.cut_added)) (sym inbox)
+      (subst (λ (k : C). (g : GivenUp tells eager why old (connection_at told carried out (pass_in e).seen (clock_at by k) (line_in f) (box_in e))) × P (g.adds ++ g.cut_added)) (sym clock)
       (dropped_adding P eager why old (connection_in by told carried out e) (line_in f) g)))
 
   -- its connection begins
   pub begun_in : {tells : Type 0} (P : List InboxRecord → Type 0) (eager : Bool) (told : Option LinkTold) (carried : Option Carried) (out : Option (List ℕ)) (e f : LiveEnd O I C G H)
       → pass_of f ≡ pass_of e → box_in f ≡ box_in e → P []
-      → (t : Turned tells eager (record (connection_in by told carried out e) { clock = by.last (clock_in f); line = line_in f }) (connection_in by told carried out f) 0) × P t.adds
+      → (t : Turned tells eager (record (connection_in by told carried out e) { clock = clock_at by (clock_in f); line = line_in f }) (connection_in by told carried out f) 0) × P t.adds
   begun_in {tells = tells} P eager told carried out e f pass inbox known_none =
-      subst (λ (p : Pass (Kept O G)). (t : Turned tells eager (connection_at told carried out (pass_in e).seen (by.last (clock_in f)) (line_in f) (box_in e)) (connection_at told carried out (known p).seen (by.last (clock_in f)) (line_in f) (box_in f)) 0) × P t.adds) (sym pass)
-      (subst (λ (b : Inbox I H). (t : Turned tells eager (connection_at told carried out (pass_in e).seen (by.last (clock_in f)) (line_in f) (box_in e)) (connection_at told carried out (pass_in e).seen (by.last (clock_in f)) (line_in f) b) 0) × P t.adds) (sym inbox)
-      (none_adding P eager told carried out (pass_in e).seen (by.last (clock_in f)) (line_in f) (box_in e) known_none))
+      subst (λ (p : Pass (Kept O G)). (t : Turned tells eager (connection_at told carried out (pass_in e).seen (clock_at by (clock_in f)) (line_in f) (box_in e)) (connection_at told carried out (known p).seen (clock_at by (clock_in f)) (line_in f) (box_in f)) 0) × P t.adds) (sym pass)
+      (subst (λ (b : Inbox I H). (t : Turned tells eager (connection_at told carried out (pass_in e).seen (clock_at by (clock_in f)) (line_in f) (box_in e)) (connection_at told carried out (pass_in e).seen (clock_at by (clock_in f)) (line_in f) b) 0) × P t.adds) (sym inbox)
+      (none_adding P eager told carried out (pass_in e).seen (clock_at by (clock_in f)) (line_in f) (box_in e) known_none))
 
   -- behind a beginning a turn may be made
   pub may_turn : (e f : LiveEnd O I C G H) → pass_of f ≡ pass_of e → box_in f ≡ box_in e

@@ -1,12 +1,13 @@
 -- What stays of a life over calls one after another.
-use Rattle.std.proofs.Common.{◌≤◌, refl, ◌∙◌, arith}
+use Rattle.std.proofs.Common.{◌≤◌, arith}
+use Rattle.gw_links.proofs.Reading.{later_self, later_on}
 use Rattle.jr_dated.specs.declared.journal.Journal.{Ghosts}
 use Rattle.conn_steps.proofs.Inboxes.{kind_self, kind_on}
 use Rattle.conn_loop.specs.Ends.{pass_in, box_in, Stays}
 use Rattle.conn_loop.proofs.Working.{looks_self, looks_on}
 use Rattle.conn_serve.specs.declared.life.Life.{Life}
 use Rattle.conn_serve.specs.Hears.{Hears}
-use Rattle.conn_serve.specs.Lives.{GoesOn}
+use Rattle.conn_serve.specs.Lives.{shown_in, GoesOn}
 
 module _ {K N C O I : Type 0} {G : Ghosts O} {H : Ghosts I} (hears : Hears K N C) where
   pub goes_self : (l : Life K N O I C G H) → GoesOn hears l l
@@ -16,8 +17,7 @@ module _ {K N C O I : Type 0} {G : Ghosts O} {H : Ghosts I} (hears : Hears K N C
     inbox = omega arith;
     out = omega arith;
     dialer = omega arith;
-    told = refl;
-    ticks = omega arith;
+    ticks = later_self (shown_in hears l);
   }
 
   pub goes_further : (a b d : Life K N O I C G H) → GoesOn hears a b → GoesOn hears b d → GoesOn hears a d
@@ -27,8 +27,7 @@ module _ {K N C O I : Type 0} {G : Ghosts O} {H : Ghosts I} (hears : Hears K N C
     inbox = omega (arith, x.inbox, y.inbox);
     out = omega (arith, x.out, y.out);
     dialer = omega (arith, x.dialer, y.dialer);
-    told = y.told ∙ x.told;
-    ticks = omega (arith, x.ticks, y.ticks);
+    ticks = later_on (shown_in hears a) (shown_in hears b) (shown_in hears d) x.ticks y.ticks;
   }
 
   -- its end stays, and neither count fell
@@ -39,6 +38,5 @@ module _ {K N C O I : Type 0} {G : Ghosts O} {H : Ghosts I} (hears : Hears K N C
     inbox = stays.faults;
     out = out;
     dialer = dialer;
-    told = stays.told;
     ticks = stays.ticks;
   }

@@ -17,6 +17,8 @@ use Rattle.conn_door.specs.declared.answer.ServeFault.{ServeFault}
 use Rattle.conn_door.specs.declared.answer.ServeFault.TheVariants as faults
 use Rattle.conn_serve.specs.declared.life.Life.{Life}
 use Rattle.conn_serve.specs.declared.life.Lent.{Lent}
+use Rattle.gw_links.specs.Clocks.{ClockAt, clock_at}
+use Rattle.gw_links.proofs.Reading.{later_self}
 use Rattle.gw_links.specs.declared.link.Link.{Ghosts as LinkGhosts}
 use Rattle.conn_serve.specs.Answering.{AnsweringAt, AnsweredSo, faults_around}
 use Rattle.conn_serve.specs.Hears.{Hears}
@@ -43,7 +45,6 @@ module _ {K N C O I : Type 0} {G : Ghosts O} {H : Ghosts I} (hears : Hears K N C
     inbox = goes.inbox;
     out = goes.out;
     dialer = goes.dialer;
-    told = goes.told;
     ticks = goes.ticks;
   }
 
@@ -57,7 +58,6 @@ module _ {K N C O I : Type 0} {G : Ghosts O} {H : Ghosts I} (hears : Hears K N C
     inbox = lasts.inbox;
     out = lasts.out;
     dialer = lasts.dialer;
-    told = lasts.told;
     ticks = lasts.ticks;
   }
 
@@ -75,18 +75,17 @@ module _ {K N C O I : Type 0} {G : Ghosts O} {H : Ghosts I} (hears : Hears K N C
     inbox = omega arith;
     out = omega arith;
     dialer = omega arith;
-    told = refl;
-    ticks = omega arith;
+    ticks = later_self (clock_at hears.clock lent.clock);
   }
 
   pub unserved_over : (tells : Type 0) (lent : Lent K N O I C G H) (m : State) → ServedWith tells hears lent lent m (Err faults.Memory)
   unserved_over tells lent m = record {
-    over = nothing_served hears.links (hears.clock.last lent.clock) _ _ _ m lent.inbox;
+    over = nothing_served hears.links (clock_at hears.clock lent.clock) _ _ _ m lent.inbox;
     blamed = blamed_none (faults_at _ _ _ lent.inbox) (faults_at _ _ _ lent.inbox);
   }
 
   pub unserved : (gate : Gate O G) (lent : Lent K N O I C G H) (senders : List (Sender O G)) (m : State)
-      → ServedThrough hears.links (hears.clock.last lent.clock) (hears.clock.last lent.clock) gate (serving_with hears lent senders) (serving_with hears lent senders) m (Err faults.Memory)
+      → ServedThrough hears.links (clock_at hears.clock lent.clock) (clock_at hears.clock lent.clock) gate (serving_with hears lent senders) (serving_with hears lent senders) m (Err faults.Memory)
   unserved gate lent senders m =
       let none = unserved_over G.tells lent m in
       record {
@@ -100,7 +99,7 @@ module _ {K N C O I : Type 0} {G : Ghosts O} {H : Ghosts I} (hears : Hears K N C
       }
 
 -- nothing was served, and nothing answered, where there was no memory to begin
-pub none_answered : {J : Type 0} {G : Ghosts J} {L : Type 0} (tells : Type 0) (links : LinkGhosts L) (clock : ℕ) (at : AnsweringAt J G) (m : State) → at.business.refused ≡ None
+pub none_answered : {J : Type 0} {G : Ghosts J} {L : Type 0} (tells : Type 0) (links : LinkGhosts L) (clock : ClockAt) (at : AnsweringAt J G) (m : State) → at.business.refused ≡ None
     → AnsweredSo tells links clock clock at at m (Err faults.Memory)
 none_answered tells links clock at m none = record {
   connections = Err faults.Memory;

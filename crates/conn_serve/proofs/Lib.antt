@@ -1,5 +1,6 @@
 pub mod Fewness
 pub mod Making
+pub mod Reading
 pub mod Turning
 pub mod Cutting
 pub mod Lasting

@@ -1,7 +1,7 @@
 -- Connections of a life one behind another, and how it ends.
 use Rattle.std.proofs.Common.{◌≡◌, ◌⊎◌, inl, inr, ℕ, ◌+◌, ◌-◌, ◌<◌, ◌≤◌, Bool, true, false, All, List, [], ◌∷◌, ◌++◌, length, Option, Some, None, Result, Ok, Err, refl, sym, ap, subst, ◌∙◌, arith, append-nil, append_assoc, length-append}
 use Rattle.std.specs.Bool.{⊤}
-use Rattle.std.specs.Prelude.{IsSome, IfSome, IsTrue, is_some}
+use Rattle.std.specs.Prelude.{IsSome, IfSome, IsTrue, is_some, max, option_to_list}
 use Rattle.std.specs.List.{AllByRecursion, flat_map}
 use Rattle.std.specs.Option.{option_map}
 use Rattle.std.specs.Io.KnownBytes.{Appends}
@@ -20,6 +20,8 @@ use Rattle.gw_links.specs.Links.{Carried, HasCarried, CarriedNothing, carry}
 use Rattle.gw_links.specs.Dialers.{DialerTold, returned}
 use Rattle.gw_links.specs.declared.link.Link.{Ghosts as LinkGhosts}
 use Rattle.gw_outside.specs.Faults.{HasRisen}
+use Rattle.gw_links.specs.Clocks.{ClockAt, IsLater, IsRead}
+use Rattle.gw_links.proofs.Reading.{later_self}
 use Rattle.jr_dated.specs.declared.journal.Journal.{Ghosts}
 use Rattle.jr_kept.specs.declared.inbox.Inbox.{Inbox}
 use Rattle.jr_kept.specs.Inbox.{limits_of}
@@ -32,6 +34,7 @@ use Rattle.conn_turns.specs.Lines.{Line}
 use Rattle.conn_steps.specs.Settling.{IsPast, Gains, Refuses}
 use Rattle.conn_steps.proofs.Rooms.{gains_none, gains_on, refuses_on, refuses_none}
 use Rattle.conn_loop.specs.Turned.{Leaves}
+use Rattle.conn_turns.specs.Turns.{Turn}
 use Rattle.turn_laws.specs.Legs.{TurnedLeg, first_line, given_in, sent_in, given_on, sent_on, IsTimelyTurn, IsTimely}
 use Rattle.turn_laws.specs.Made.{TurnAt}
 use Rattle.conn_door.specs.declared.answer.ServeFault.{ServeFault}
@@ -44,6 +47,8 @@ use Rattle.conn_serve.specs.Lines.{news_lines, close_line, lines_from}
 use Rattle.conn_serve.specs.Causes.{lacks_at, Tells, TellsUntil, TellsNews, AreLate, TellsAll}
 use Rattle.conn_serve.specs.Turned.{TurnedOn, GivenUpOn, MayBegin}
 use Rattle.conn_serve.specs.Served.{IsNext, AllCame, carried_by, IsTold, IsNextLink, IsLifeAnswer, lacks_lines, IsRoundOf, ServedLife, ServedOver, EndedOne, GaveOneUp, MadeNone, IsRound}
+use Rattle.conn_serve.specs.Clocked.{moments_in, moments_of, ReadFor, KeepsUp}
+use Rattle.conn_serve.proofs.Reading.{none_read, one_read, one_keeps, keeps_self, keeps_on, read_on, read_later}
 use Rattle.conn_serve.proofs.Turning.{lines_on, tells_all, no_more}
 use Rattle.conn_serve.specs.Moments.{LifeAt, connection_at, life_at}
 
@@ -137,6 +142,32 @@ clock_on a b c (d ∷ cs) x by first end = (by.0, clock_on d.link.end.clock b c 
 clock_later : (a b c : ℕ) (cs : List Connection) → ByClock a b cs → b ≤ c → ByClock a c cs
 clock_later a b c [] by later = omega (arith, by, later)
 clock_later a b c (d ∷ cs) by later = (by.0, clock_later d.link.end.clock b c cs by.1 later)
+
+-- the clock was read for connections, and for one more behind them
+moments_with : (cs : List Connection) (x : Connection) → flat_map moments_of (turned (cs ++ x ∷ [])) ≡ flat_map moments_of (turned cs) ++ moments_of x.leg
+moments_with [] x = append-nil (moments_of x.leg)
+moments_with (c ∷ cs) x = ap (λ (ns : List ℕ). moments_of c.leg ++ ns) (moments_with cs x) ∙ sym (append_assoc (moments_of c.leg) (flat_map moments_of (turned cs)) (moments_of x.leg))
+
+read_with : (p q t : ClockAt) (m m' : State) (cs : List Connection) (x : Connection) → ReadFor p q m (flat_map moments_of (turned cs)) → KeepsUp p m m' → ReadFor q t m' (moments_of x.leg)
+    → ReadFor p t m (flat_map moments_of (turned (cs ++ x ∷ [])))
+read_with p q t m m' cs x first keeps later =
+    subst (ReadFor p t m) (sym (moments_with cs x)) (read_on p q t m m' (flat_map moments_of (turned cs)) (moments_of x.leg) first keeps later)
+
+-- and as one of them began
+begun_keeps_up : (clock began : ClockAt) (per_turn : ℕ) (m : State) (moment : ℕ) → IsRead clock began → moment ≡ max began.last m.moment → KeepsUp clock m (first_line per_turn m moment).machine
+begun_keeps_up clock began per_turn m moment read is = one_keeps clock began m (first_line per_turn m moment).machine read (omega (arith, is))
+
+begun_read : (clock began ticked : ClockAt) (per_turn : ℕ) (m : State) (moment : ℕ) (turns : List ℕ) → IsRead clock began → moment ≡ max began.last m.moment
+    → ReadFor began ticked (first_line per_turn m moment).machine turns → ReadFor clock ticked m (moment ∷ turns)
+begun_read clock began ticked per_turn m moment turns read is later =
+    read_on clock began ticked m (first_line per_turn m moment).machine (moment ∷ []) turns (one_read clock began m moment read is) (begun_keeps_up clock began per_turn m moment read is) later
+
+begun_keeps : (clock began : ClockAt) (per_turn : ℕ) (m n : State) (moment : ℕ) → IsRead clock began → moment ≡ max began.last m.moment → KeepsUp began (first_line per_turn m moment).machine n → KeepsUp clock m n
+begun_keeps clock began per_turn m n moment read is keeps =
+    keeps_on clock began m (first_line per_turn m moment).machine n read.later (begun_keeps_up clock began per_turn m moment read is) keeps
+
+is_closed : (close : Close) (o : Option Close) → o ≡ Some close → IsSome o
+is_closed close o is = subst (λ (x : Option Close). IsSome x) (sym is) refl
 
 -- a link of a dialer, as it was before and behind a connection
 over_these : {L : Type 0} (G' : LinkGhosts L) (first last : L) (before seen : History) (p q : ℕ) (l new : Line) → IsOver G' (record {
@@ -247,10 +278,12 @@ module _ {J : Type 0} {G : Ghosts J} where
 
   -- ---- a life so far: the connection of the number n is next
 
-  pub record LivedTo {L : Type 0} (tells : Type 0) (G' : LinkGhosts L) (before behind n : ℕ) (old new : LifeAt J G) (m m' : State) : Type 0 where
+  pub record LivedTo {L : Type 0} (tells : Type 0) (G' : LinkGhosts L) (before behind : ClockAt) (n : ℕ) (old new : LifeAt J G) (m m' : State) : Type 0 where
     pub ended : List Connection
     pub links : AllByRecursion (λ (c : Connection). IsOver G' c.link) ended
-    pub clock : ByClock before behind ended
+    pub clock : ByClock before.last behind.last ended
+    pub read : ReadFor before behind m (flat_map moments_of (turned ended))
+    pub keeps : KeepsUp before m m'
     pub number : n ≡ 1 + length ended
     pub lived : Lived tells old new m m' ended
 
@@ -285,18 +318,18 @@ module _ {J : Type 0} {G : Ghosts J} where
 module _ {J : Type 0} {G : Ghosts J} {tells : Type 0} where
   -- ---- one connection
 
-  pub ended_one : {L : Type 0} (P : List InboxRecord → Type 0) (G' : LinkGhosts L) (first last : L) (n : ℕ) (lacking : Bool) (dialed between later : Option DialerTold) (out mid_out now_out : Option (List ℕ)) (before seen : History) (clock ticked : ℕ) (l new : Line) (box since : Inbox J G) (close : Close)
+  pub ended_one : {L : Type 0} (P : List InboxRecord → Type 0) (G' : LinkGhosts L) (first last : L) (n : ℕ) (lacking : Bool) (dialed between later : Option DialerTold) (out mid_out now_out : Option (List ℕ)) (before seen : History) (clock ticked : ClockAt) (l new : Line) (box since : Inbox J G) (close : Close)
       → (1 ≤ l.per_turn) × (l.per_turn ≤ 256) → IsNextLink G'.carried first dialed between → ((t : TurnedOn tells G'.eager (connection_at (G'.told first) (G'.carried first) out before clock l box) (connection_at (G'.told last) (G'.carried last) mid_out seen ticked new since)) × P t.turned.adds)
       → later ≡ option_map (returned (G'.carried last)) between → ClosesAs close new.machine.ending → (close ≡ closes.LinkFault → HasRisen (G'.faults first) (G'.faults last)) → Tells lacking mid_out now_out (connection_line n close)
-      → EndedOne tells (IsRoundOf G' clock ticked P) n lacking (life_at dialed out before box) (life_at later now_out seen since) l.machine new.machine close
+      → EndedOne tells (IsRoundOf G' clock ticked l.machine new.machine P) n lacking (life_at dialed out before box) (life_at later now_out seen since) l.machine new.machine close
   ended_one P G' first last n lacking dialed between later out mid_out now_out before seen clock ticked l new box since close number next turned_on back closed lost lines =
       let on = turned_on.0 in
       let t = on.turned in
       let leg : TurnedLeg = record { per_turn = l.per_turn; moment = on.moment; turns = t.turns; cut = None } in
       let given : given_on leg ≡ flat_map given_in t.turns = ap (flat_map given_in) (append-nil t.turns) in
       let sent : sent_on leg ≡ flat_map sent_in t.turns = ap (flat_map sent_in) (append-nil t.turns) in
-      let began : TurnAt = record { told = G'.told first; carried = G'.carried first; seen = before; clock = on.clock; line = first_line l.per_turn l.machine on.moment } in
-      let behind : TurnAt = record { told = G'.told last; carried = G'.carried last; seen = seen; clock = ticked; line = new } in
+      let began : TurnAt = record { told = G'.told first; carried = G'.carried first; seen = before; clock = on.clock.last; line = first_line l.per_turn l.machine on.moment } in
+      let behind : TurnAt = record { told = G'.told last; carried = G'.carried last; seen = seen; clock = ticked.last; line = new } in
       record {
         connection = record {
           link = record { eager = G'.eager; first = began; end = behind; faults_before = G'.faults first; faults_behind = G'.faults last };
@@ -308,7 +341,9 @@ module _ {J : Type 0} {G : Ghosts J} {tells : Type 0} where
           close = Some close;
           carried = G'.carried last;
         };
-        is_known = ((over_these G' first last before seen on.clock ticked (first_line l.per_turn l.machine on.moment) new, on.began.later, omega arith), turned_on.1);
+        is_known = ((over_these G' first last before seen on.clock.last ticked.last (first_line l.per_turn l.machine on.moment) new, on.began.read.later.last, omega arith), turned_on.1,
+            subst (λ (ts : List Turn). ReadFor clock ticked l.machine (on.moment ∷ moments_in ts)) (sym (append-nil t.turns)) (begun_read clock on.clock ticked l.per_turn l.machine on.moment (moments_in t.turns) on.began.read on.began.is t.read),
+            λ some. begun_keeps clock on.clock l.per_turn l.machine new.machine on.moment on.began.read on.began.is t.keeps);
         closed = refl;
         ended = record {
           last = new;
@@ -343,14 +378,14 @@ module _ {J : Type 0} {G : Ghosts J} {tells : Type 0} where
         tells = λ told. still_tells (G'.carried first) (G'.carried last) _ _ t.moved.carries (next.tells told);
       }
 
-  pub gave_one : {L : Type 0} (P : List InboxRecord → Type 0) (G' : LinkGhosts L) (first last : L) (why : Option ServeFault) (dialed between later : Option DialerTold) (out now_out : Option (List ℕ)) (before seen : History) (clock ticked : ℕ) (l new : Line) (box since : Inbox J G)
+  pub gave_one : {L : Type 0} (P : List InboxRecord → Type 0) (G' : LinkGhosts L) (first last : L) (why : Option ServeFault) (dialed between later : Option DialerTold) (out now_out : Option (List ℕ)) (before seen : History) (clock ticked : ClockAt) (l new : Line) (box since : Inbox J G)
       → (1 ≤ l.per_turn) × (l.per_turn ≤ 256) → IsNextLink G'.carried first dialed between → ((g : GivenUpOn tells G'.eager why (connection_at (G'.told first) (G'.carried first) out before clock l box) (connection_at (G'.told last) (G'.carried last) now_out seen ticked new since)) × P (g.given_up.adds ++ g.given_up.cut_added))
-      → later ≡ option_map (returned (G'.carried last)) between → GaveOneUp tells (IsRoundOf G' clock ticked P) why (life_at dialed out before box) (life_at later now_out seen since) l.machine
+      → later ≡ option_map (returned (G'.carried last)) between → GaveOneUp tells (IsRoundOf G' clock ticked l.machine new.machine P) why (life_at dialed out before box) (life_at later now_out seen since) l.machine
   gave_one P G' first last why dialed between later out now_out before seen clock ticked l new box since number next given_on back =
       let on = given_on.0 in
       let g = on.given_up in
-      let began : TurnAt = record { told = G'.told first; carried = G'.carried first; seen = before; clock = on.clock; line = first_line l.per_turn l.machine on.moment } in
-      let behind : TurnAt = record { told = G'.told last; carried = G'.carried last; seen = seen; clock = ticked; line = new } in
+      let began : TurnAt = record { told = G'.told first; carried = G'.carried first; seen = before; clock = on.clock.last; line = first_line l.per_turn l.machine on.moment } in
+      let behind : TurnAt = record { told = G'.told last; carried = G'.carried last; seen = seen; clock = ticked.last; line = new } in
       record {
         connection = record {
           link = record { eager = G'.eager; first = began; end = behind; faults_before = G'.faults first; faults_behind = G'.faults last };
@@ -362,7 +397,8 @@ module _ {J : Type 0} {G : Ghosts J} {tells : Type 0} where
           close = None;
           carried = G'.carried last;
         };
-        is_known = ((over_these G' first last before seen on.clock ticked (first_line l.per_turn l.machine on.moment) new, on.began.later, omega arith), given_on.1);
+        is_known = ((over_these G' first last before seen on.clock.last ticked.last (first_line l.per_turn l.machine on.moment) new, on.began.read.later.last, omega arith), given_on.1,
+            begun_read clock on.clock ticked l.per_turn l.machine on.moment (moments_in (g.turns ++ option_to_list g.cut)) on.began.read on.began.is g.read, λ some. absurd (false≢true some));
         unclosed = refl;
         last = g.behind.line;
         is = record {
@@ -423,21 +459,23 @@ module _ {J : Type 0} {G : Ghosts J} {tells : Type 0} where
   round_given known n old new m m' faults.Turns is g = g
   round_given known n old new m m' faults.Memory is g = inr g
 
-  pub lived_none : {L : Type 0} (P : List InboxRecord → Type 0) (G' : LinkGhosts L) (clock : ℕ) (dialed : Option DialerTold) (out : Option (List ℕ)) (seen : History) (m : State) (box : Inbox J G)
+  pub lived_none : {L : Type 0} (P : List InboxRecord → Type 0) (G' : LinkGhosts L) (clock : ClockAt) (dialed : Option DialerTold) (out : Option (List ℕ)) (seen : History) (m : State) (box : Inbox J G)
       → P [] → (l : LivedTo tells G' clock clock 1 (life_at dialed out seen box) (life_at dialed out seen box) m m) × P (adds_of l.ended)
   lived_none P G' clock dialed out seen m box known = (
     record {
       ended = [];
       links = tt;
       clock = omega arith;
+      read = none_read clock clock m (later_self clock);
+      keeps = keeps_self clock m;
       number = refl;
       lived = record { were = (refl, refl); gains = gains_none box box refl; lines = Appends-nil out; came = came_none dialed; tells = λ told. All-nil IsTold; timely = tt; faithful = λ t. tt; followed = All-nil IsFollowed };
     },
     known,
   )
 
-  pub lived_more : {L : Type 0} (P Q R : List InboxRecord → Type 0) (G' : LinkGhosts L) (p q t n : ℕ) (old mid new : LifeAt J G) (m m' m'' : State)
-      → ((l : LivedTo tells G' p q n old mid m m') × P (adds_of l.ended)) → IsRound tells (IsRoundOf G' q t Q) n mid new m' m'' (Ok None) → Joined P Q R old mid
+  pub lived_more : {L : Type 0} (P Q R : List InboxRecord → Type 0) (G' : LinkGhosts L) (p q t : ClockAt) (n : ℕ) (old mid new : LifeAt J G) (m m' m'' : State)
+      → ((l : LivedTo tells G' p q n old mid m m') × P (adds_of l.ended)) → IsRound tells (IsRoundOf G' q t m' m'' Q) n mid new m' m'' (Ok None) → Joined P Q R old mid
       → (l : LivedTo tells G' p t (n + 1) old new m m'') × R (adds_of l.ended)
   lived_more P Q R G' p q t n old mid new m m' m'' (l, k) r join =
       let (close, follows, e) = r in
@@ -446,7 +484,9 @@ module _ {J : Type 0} {G : Ghosts J} {tells : Type 0} where
       let more : LivedTo tells G' p t (n + 1) old new m m'' = record {
         ended = l.ended ++ x ∷ [];
         links = all_append (λ (c : Connection). IsOver G' c.link) l.ended (x ∷ []) l.links (over.0, tt);
-        clock = clock_on p q t l.ended x l.clock over.1 over.2;
+        clock = clock_on p.last q.last t.last l.ended x l.clock over.1 over.2;
+        read = read_with p q t m m' l.ended x l.read l.keeps e.is_known.2;
+        keeps = keeps_on p q m m' m'' l.read.later l.keeps (e.is_known.3 (is_closed close x.close e.closed));
         number = omega (arith, l.number, length-append l.ended (x ∷ []));
         lived = record {
           were = ended_on old.seen mid.seen new.seen m m' m'' l.ended x l.lived.were e.ended;
@@ -464,8 +504,8 @@ module _ {J : Type 0} {G : Ghosts J} {tells : Type 0} where
   -- ---- and how it ends
 
   -- behind a last connection that ended
-  over_ended : {L : Type 0} (P Q R : List InboxRecord → Type 0) (G' : LinkGhosts L) (p q t : ℕ) (result : Result LifeEnd ServeFault) (n : ℕ) (old mid new : LifeAt J G) (m m' m'' : State) (close : Close)
-      → (l : LivedTo tells G' p q n old mid m m') → P (adds_of l.ended) → (e : EndedOne tells (IsRoundOf G' q t Q) n (lacks_lines result) mid new m' m'' close) → Joined P Q R old mid
+  over_ended : {L : Type 0} (P Q R : List InboxRecord → Type 0) (G' : LinkGhosts L) (p q t : ClockAt) (result : Result LifeEnd ServeFault) (n : ℕ) (old mid new : LifeAt J G) (m m' m'' : State) (close : Close)
+      → (l : LivedTo tells G' p q n old mid m m') → P (adds_of l.ended) → (e : EndedOne tells (IsRoundOf G' q t m' m'' Q) n (lacks_lines result) mid new m' m'' close) → Joined P Q R old mid
       → IsLifeAnswer new.seen new.seen m'' new.dialed (l.ended ++ e.connection ∷ []) None result → (s : ServedOver tells G' p t old new m result) × R (adds_of (all_of s.life.ended s.life.given_up))
   over_ended P Q R G' p q t result n old mid new m m' m'' close l k e join answer =
       let x = e.connection in
@@ -492,16 +532,17 @@ module _ {J : Type 0} {G : Ghosts J} {tells : Type 0} where
       let served : ServedOver tells G' p t old new m result = record {
         life = life;
         links = subst (AllByRecursion (λ (c : Connection). IsOver G' c.link)) (sym (append-nil cs)) (all_append (λ (c : Connection). IsOver G' c.link) l.ended (x ∷ []) l.links (over.0, tt));
-        clock = subst (ByClock p t) (sym (append-nil cs)) (clock_on p q t l.ended x l.clock over.1 over.2);
+        clock = subst (ByClock p.last t.last) (sym (append-nil cs)) (clock_on p.last q.last t.last l.ended x l.clock over.1 over.2);
+        read = subst (λ (ds : List Connection). ReadFor p t m (flat_map moments_of (turned ds))) (sym (append-nil cs)) (read_with p q t m m' l.ended x l.read l.keeps e.is_known.2);
       } in
       (served, subst (λ (ds : List Connection). R (adds_of ds)) (sym (append-nil cs)) (with_one P Q R old mid l.ended x join l.lived.gains k e.is_known.1))
 
   -- behind a connection that was given up
-  over_given : {L : Type 0} (P Q R : List InboxRecord → Type 0) (G' : LinkGhosts L) (p q t : ℕ) (result : Result LifeEnd ServeFault) (why : Option ServeFault) (n : ℕ) (old mid new : LifeAt J G) (m m' : State)
-      → (l : LivedTo tells G' p q n old mid m m') → P (adds_of l.ended) → (g : GaveOneUp tells (IsRoundOf G' q t Q) why mid new m') → Joined P Q R old mid → lacks_at why ≡ lacks_lines result
+  over_given : {L : Type 0} (P Q R : List InboxRecord → Type 0) (G' : LinkGhosts L) (p q t : ClockAt) (result : Result LifeEnd ServeFault) (why : Option ServeFault) (n : ℕ) (old mid new : LifeAt J G) (m m' m'' : State)
+      → (l : LivedTo tells G' p q n old mid m m') → P (adds_of l.ended) → (g : GaveOneUp tells (IsRoundOf G' q t m' m'' Q) why mid new m') → Joined P Q R old mid → lacks_at why ≡ lacks_lines result
       → ((entries bytes : ℕ) → result ≡ Err (faults.Full entries bytes) → why ≡ Some (faults.Full entries bytes))
       → IsLifeAnswer mid.seen new.seen m' new.dialed l.ended (Some g.connection) result → (s : ServedOver tells G' p t old new m result) × R (adds_of (all_of s.life.ended s.life.given_up))
-  over_given P Q R G' p q t result why n old mid new m m' l k g join lacking full answer =
+  over_given P Q R G' p q t result why n old mid new m m' m'' l k g join lacking full answer =
       let x = g.connection in
       let over = g.is_known.0 in
       let life : ServedLife tells old new m result = record {
@@ -525,13 +566,14 @@ module _ {J : Type 0} {G : Ghosts J} {tells : Type 0} where
       let served : ServedOver tells G' p t old new m result = record {
         life = life;
         links = all_append (λ (c : Connection). IsOver G' c.link) l.ended (x ∷ []) l.links (over.0, tt);
-        clock = clock_on p q t l.ended x l.clock over.1 over.2;
+        clock = clock_on p.last q.last t.last l.ended x l.clock over.1 over.2;
+        read = read_with p q t m m' l.ended x l.read l.keeps g.is_known.2;
       } in
       (served, with_one P Q R old mid l.ended x join l.lived.gains k g.is_known.1)
 
   -- behind those that ended, with no further one
-  over_none : {L : Type 0} (R : List InboxRecord → Type 0) (G' : LinkGhosts L) (p q t : ℕ) (result : Result LifeEnd ServeFault) (n : ℕ) (old mid new : LifeAt J G) (m m' m'' : State)
-      → (l : LivedTo tells G' p q n old mid m m') → R (adds_of l.ended) → MadeNone mid new m' m'' → q ≤ t
+  over_none : {L : Type 0} (R : List InboxRecord → Type 0) (G' : LinkGhosts L) (p q t : ClockAt) (result : Result LifeEnd ServeFault) (n : ℕ) (old mid new : LifeAt J G) (m m' m'' : State)
+      → (l : LivedTo tells G' p q n old mid m m') → R (adds_of l.ended) → MadeNone mid new m' m'' → IsLater q t
       → IsLifeAnswer mid.seen new.seen m' new.dialed l.ended None result → (s : ServedOver tells G' p t old new m result) × R (adds_of (all_of s.life.ended s.life.given_up))
   over_none R G' p q t result n old mid new m m' m'' l k none later answer =
       let cs = l.ended in
@@ -557,37 +599,38 @@ module _ {J : Type 0} {G : Ghosts J} {tells : Type 0} where
       let served : ServedOver tells G' p t old new m result = record {
         life = life;
         links = subst (AllByRecursion (λ (c : Connection). IsOver G' c.link)) (sym (append-nil cs)) l.links;
-        clock = subst (ByClock p t) (sym (append-nil cs)) (clock_later p q t cs l.clock later);
+        clock = subst (ByClock p.last t.last) (sym (append-nil cs)) (clock_later p.last q.last t.last cs l.clock later.last);
+        read = subst (λ (ds : List Connection). ReadFor p t m (flat_map moments_of (turned ds))) (sym (append-nil cs)) (read_later p q t m (flat_map moments_of (turned cs)) l.read later);
       } in
       (served, subst (λ (ds : List Connection). R (adds_of ds)) (sym (append-nil cs)) k)
 
-  pub over_stopped : {L : Type 0} (P : List InboxRecord → Type 0) (G' : LinkGhosts L) (p q n : ℕ) (old new : LifeAt J G) (m m' : State)
+  pub over_stopped : {L : Type 0} (P : List InboxRecord → Type 0) (G' : LinkGhosts L) (p q : ClockAt) (n : ℕ) (old new : LifeAt J G) (m m' : State)
       → ((l : LivedTo tells G' p q n old new m m') × P (adds_of l.ended)) → (s : ServedOver tells G' p q old new m (Ok ends.Stopped)) × P (adds_of (all_of s.life.ended s.life.given_up))
   over_stopped P G' p q n old new m m' (l, k) =
-      over_none P G' p q q (Ok ends.Stopped) n old new new m m' m' l k (made_none new.dialed new.dialed new.out new.seen m' new.box refl) (omega arith) l.lived.followed
+      over_none P G' p q q (Ok ends.Stopped) n old new new m m' m' l k (made_none new.dialed new.dialed new.out new.seen m' new.box refl) (later_self q) l.lived.followed
 
-  pub over_ok : {L : Type 0} (P Q R : List InboxRecord → Type 0) (G' : LinkGhosts L) (p q t : ℕ) (end : LifeEnd) (n : ℕ) (old mid new : LifeAt J G) (m m' m'' : State)
-      → ((l : LivedTo tells G' p q n old mid m m') × P (adds_of l.ended)) → IsRound tells (IsRoundOf G' q t Q) n mid new m' m'' (Ok (Some end)) → Joined P Q R old mid → q ≤ t
+  pub over_ok : {L : Type 0} (P Q R : List InboxRecord → Type 0) (G' : LinkGhosts L) (p q t : ClockAt) (end : LifeEnd) (n : ℕ) (old mid new : LifeAt J G) (m m' m'' : State)
+      → ((l : LivedTo tells G' p q n old mid m m') × P (adds_of l.ended)) → IsRound tells (IsRoundOf G' q t m' m'' Q) n mid new m' m'' (Ok (Some end)) → Joined P Q R old mid → IsLater q t
       → (s : ServedOver tells G' p t old new m (Ok end)) × R (adds_of (all_of s.life.ended s.life.given_up))
   over_ok P Q R G' p q t ends.Finished n old mid new m m' m'' (l, k) r join later =
       over_ended P Q R G' p q t (Ok ends.Finished) n old mid new m m' m'' (closes.Ended endings.Finished) l k r join
       (refl, record { earlier = l.ended; last = r.connection; are = refl; closed = r.closed; followed = l.lived.followed })
   over_ok P Q R G' p q t ends.Stopped n old mid new m m' m'' (l, k) (inl g) join later =
-      over_given P Q R G' p q t (Ok ends.Stopped) None n old mid new m m' l k g join refl (λ entries bytes e. cc) l.lived.followed
+      over_given P Q R G' p q t (Ok ends.Stopped) None n old mid new m m' m'' l k g join refl (λ entries bytes e. cc) l.lived.followed
   over_ok P Q R G' p q t ends.Stopped n old mid new m m' m'' (l, k) (inr none) join later =
       over_none R G' p q t (Ok ends.Stopped) n old mid new m m' m'' l (with_none P Q R old mid l.ended join l.lived.gains k none.1) none.0 later l.lived.followed
 
-  pub over_err : {L : Type 0} (P Q R : List InboxRecord → Type 0) (G' : LinkGhosts L) (p q t : ℕ) (fault : ServeFault) (n : ℕ) (old mid new : LifeAt J G) (m m' m'' : State)
-      → ((l : LivedTo tells G' p q n old mid m m') × P (adds_of l.ended)) → IsRound tells (IsRoundOf G' q t Q) n mid new m' m'' (Err fault) → Joined P Q R old mid → q ≤ t
+  pub over_err : {L : Type 0} (P Q R : List InboxRecord → Type 0) (G' : LinkGhosts L) (p q t : ClockAt) (fault : ServeFault) (n : ℕ) (old mid new : LifeAt J G) (m m' m'' : State)
+      → ((l : LivedTo tells G' p q n old mid m m') × P (adds_of l.ended)) → IsRound tells (IsRoundOf G' q t m' m'' Q) n mid new m' m'' (Err fault) → Joined P Q R old mid → IsLater q t
       → (s : ServedOver tells G' p t old new m (Err fault)) × R (adds_of (all_of s.life.ended s.life.given_up))
   over_err P Q R G' p q t faults.Output n old mid new m m' m'' (l, k) (inl e) join later =
       over_ended P Q R G' p q t (Err faults.Output) n old mid new m m' m'' e.0 l k e.1 join tt
   over_err P Q R G' p q t faults.Output n old mid new m m' m'' (l, k) (inr g) join later =
-      over_given P Q R G' p q t (Err faults.Output) (Some faults.Output) n old mid new m m' l k g join refl (λ entries bytes e. cc) tt
+      over_given P Q R G' p q t (Err faults.Output) (Some faults.Output) n old mid new m m' m'' l k g join refl (λ entries bytes e. cc) tt
   over_err P Q R G' p q t faults.Journal n old mid new m m' m'' (l, k) r join later =
-      over_given P Q R G' p q t (Err faults.Journal) (Some faults.Journal) n old mid new m m' l k r join refl (λ entries bytes e. cc) (l.lived.followed, r.connection, refl, r.cut_short.0 refl)
+      over_given P Q R G' p q t (Err faults.Journal) (Some faults.Journal) n old mid new m m' m'' l k r join refl (λ entries bytes e. cc) (l.lived.followed, r.connection, refl, r.cut_short.0 refl)
   over_err P Q R G' p q t (faults.Changed which at) n old mid new m m' m'' (l, k) r join later =
-      over_given P Q R G' p q t (Err (faults.Changed which at)) (Some (faults.Changed which at)) n old mid new m m' l k r join refl (λ entries bytes e. cc) (l.lived.followed, r.connection, refl, r.cut_changed which at refl)
+      over_given P Q R G' p q t (Err (faults.Changed which at)) (Some (faults.Changed which at)) n old mid new m m' m'' l k r join refl (λ entries bytes e. cc) (l.lived.followed, r.connection, refl, r.cut_changed which at refl)
   over_err P Q R G' p q t faults.Dial n old mid new m m' m'' (l, k) r join later =
       over_none R G' p q t (Err faults.Dial) n old mid new m m' m'' l (with_none P Q R old mid l.ended join l.lived.gains k r.1) r.0 later (l.lived.followed, refl)
   over_err P Q R G' p q t (faults.Unfinished phase) n old mid new m m' m'' (l, k) r join later =
@@ -596,19 +639,19 @@ module _ {J : Type 0} {G : Ghosts J} {tells : Type 0} where
       over_ended P Q R G' p q t (Err (faults.Rejected template code)) n old mid new m m' m'' (closes.Ended (endings.Rejected template code)) l k r join
       (refl, record { earlier = l.ended; last = r.connection; are = refl; closed = r.closed; followed = l.lived.followed })
   over_err P Q R G' p q t (faults.Full entries bytes) n old mid new m m' m'' (l, k) r join later =
-      over_given P Q R G' p q t (Err (faults.Full entries bytes)) (Some (faults.Full entries bytes)) n old mid new m m' l k r join refl (λ n m e. cc)
+      over_given P Q R G' p q t (Err (faults.Full entries bytes)) (Some (faults.Full entries bytes)) n old mid new m m' m'' l k r join refl (λ n m e. cc)
       (l.lived.followed, r.connection, refl, r.cut_short.1 entries bytes refl)
   over_err P Q R G' p q t faults.Turns n old mid new m m' m'' (l, k) r join later =
-      over_given P Q R G' p q t (Err faults.Turns) (Some faults.Turns) n old mid new m m' l k r join refl (λ entries bytes e. cc)
+      over_given P Q R G' p q t (Err faults.Turns) (Some faults.Turns) n old mid new m m' m'' l k r join refl (λ entries bytes e. cc)
       (l.lived.followed, r.connection, refl, record { last = r.last; is = r.is; spent = r.spent refl })
   over_err P Q R G' p q t faults.Memory n old mid new m m' m'' (l, k) (inl e) join later =
       over_ended P Q R G' p q t (Err faults.Memory) n old mid new m m' m'' e.0 l k e.1 join tt
   over_err P Q R G' p q t faults.Memory n old mid new m m' m'' (l, k) (inr g) join later =
-      over_given P Q R G' p q t (Err faults.Memory) (Some faults.Memory) n old mid new m m' l k g join refl (λ entries bytes e. cc) tt
+      over_given P Q R G' p q t (Err faults.Memory) (Some faults.Memory) n old mid new m m' m'' l k g join refl (λ entries bytes e. cc) tt
 
   -- where there was no memory to begin, none was served
-  pub nothing_served : {L : Type 0} (G' : LinkGhosts L) (clock : ℕ) (dialed : Option DialerTold) (out : Option (List ℕ)) (seen : History) (m : State) (box : Inbox J G) → ServedOver tells G' clock clock (life_at dialed out seen box) (life_at dialed out seen box) m (Err faults.Memory)
+  pub nothing_served : {L : Type 0} (G' : LinkGhosts L) (clock : ClockAt) (dialed : Option DialerTold) (out : Option (List ℕ)) (seen : History) (m : State) (box : Inbox J G) → ServedOver tells G' clock clock (life_at dialed out seen box) (life_at dialed out seen box) m (Err faults.Memory)
   nothing_served G' clock dialed out seen m box =
       let l : LifeAt J G = life_at dialed out seen box in
       let none = lived_none (λ adds. ⊤) G' clock dialed out seen m box tt in
-      (over_none (λ adds. ⊤) G' clock clock clock (Err faults.Memory) 1 l l l m m m none.0 tt (made_none dialed dialed out seen m box refl) (omega arith) tt).0
+      (over_none (λ adds. ⊤) G' clock clock clock (Err faults.Memory) 1 l l l m m m none.0 tt (made_none dialed dialed out seen m box refl) (later_self clock) tt).0

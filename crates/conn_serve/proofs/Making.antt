@@ -57,6 +57,11 @@ on_cut P Q (Err (turn_faults.Changed at)) gives cut = gives (turn_faults.Changed
 on_cut P Q (Err (turn_faults.Full entries bytes)) gives cut = gives (turn_faults.Full entries bytes) (faults.Full entries bytes) refl (cut (λ e. cc))
 on_cut P Q (Err turn_faults.Memory) gives cut = gives turn_faults.Memory faults.Memory refl (cut (λ e. cc))
 
+-- what two facts of an answer give together
+pub on_ok_both : {A E : Type 0} {P Q R : Type 0} (r : Result A E) → (P → Q → R) → OnOk r P → OnOk r Q → OnOk r R
+on_ok_both (Ok a) join p q = join p q
+on_ok_both (Err e) join p q = tt
+
 -- what both outcomes give
 pub on_both : {A E : Type 0} (W : Type 0) (C : E → Type 0) (P : Type 0) (r : Result A E) → OnOk r W → IfErr r C → (W → P) → ((e : E) → C e → P) → P
 on_both W C P (Ok a) ok err from_ok from_err = from_ok ok

@@ -6,6 +6,7 @@ use Rattle.session_model.specs.Journal.{History, BeginsHistory}
 use Rattle.session_model.proofs.Lists.{prefix_length}
 use Rattle.fixp_shake.specs.declared.config.EndConfig.{EndConfig}
 use Rattle.fixp_machine.specs.Machine.{State, fresh}
+use Rattle.gw_links.specs.Clocks.{ClockAt}
 use Rattle.gw_links.specs.declared.link.Link.{Ghosts as LinkGhosts}
 use Rattle.jr_dated.specs.declared.journal.Journal.{Ghosts}
 use Rattle.jr_kept.specs.declared.inbox.Inbox.{Inbox}
@@ -55,12 +56,12 @@ module _ {O I C : Type 0} {G : Ghosts O} {H : Ghosts I} where
       (may_open config most h (line_in e).machine (known pass) box (ap (λ (l : Line). l.machine) lines ∙ is) begins few credentials flow within))
 
 module _ {J : Type 0} {G : Ghosts J} {O : Type 0} {H : Ghosts O} where
-  pub served_at : {L : Type 0} (links : LinkGhosts L) (before behind : ℕ) (gate : Gate O H) (old new : ServingAt J G O H) (m n : State) (result : Result (Unit {0}) ServeFault) → m ≡ n
+  pub served_at : {L : Type 0} (links : LinkGhosts L) (before behind : ClockAt) (gate : Gate O H) (old new : ServingAt J G O H) (m n : State) (result : Result (Unit {0}) ServeFault) → m ≡ n
       → ServedThrough links before behind gate old new m result → ServedThrough links before behind gate old new n result
   served_at links before behind gate old new m n result is served = subst (λ (s : State). ServedThrough links before behind gate old new s result) is served
 
   -- so the life was served, whatever its links and its clock
-  pub served_by : {L : Type 0} (links : LinkGhosts L) (before behind : ℕ) (gate : Gate O H) (old new : ServingAt J G O H) (m : State) (result : Result (Unit {0}) ServeFault)
+  pub served_by : {L : Type 0} (links : LinkGhosts L) (before behind : ClockAt) (gate : Gate O H) (old new : ServingAt J G O H) (m : State) (result : Result (Unit {0}) ServeFault)
       → ServedThrough links before behind gate old new m result → ServedBy gate old new m result
   served_by links before behind gate old new m result s = record {
     connections = s.connections;

@@ -5,6 +5,7 @@ use Rattle.std.proofs.lemmas.Bool.{false≢true}
 use Rattle.session_model.specs.Journal.{History}
 use Rattle.session_model.specs.Inbox.{InboxRecord}
 use Rattle.fixp_machine.specs.Machine.{State}
+use Rattle.gw_links.specs.Clocks.{ClockAt}
 use Rattle.gw_links.specs.Dialers.{DialerTold}
 use Rattle.gw_links.specs.declared.link.Link.{Ghosts as LinkGhosts}
 use Rattle.jr_dated.specs.declared.journal.Journal.{Ghosts}
@@ -58,7 +59,7 @@ module _ {J : Type 0} {G : Ghosts J} (tells : Type 0) where
   blamed_resumed old mid new (Ok end) out dialer pass inbox later kind b = tt
   blamed_resumed old mid new (Err fault) out dialer pass inbox later kind b = blamed_since old mid new fault out dialer pass inbox later kind b
 
-module _ {J : Type 0} {G : Ghosts J} (tells : Type 0) {L : Type 0} (P : List InboxRecord → Type 0) (links : LinkGhosts L) (before behind : ℕ) where
+module _ {J : Type 0} {G : Ghosts J} (tells : Type 0) {L : Type 0} (P : List InboxRecord → Type 0) (links : LinkGhosts L) (before behind : ClockAt) where
   -- the connections were served so, and this is known of the records that they added
   abbrev pub OverSo : (old new : LifeAt J G) → State → Result LifeEnd ServeFault → Type 0
   OverSo old new m result = (s : ServedOver tells links before behind old new m result) × P (adds_of (all_of s.life.ended s.life.given_up))
@@ -84,7 +85,7 @@ module _ {J : Type 0} {G : Ghosts J} (tells : Type 0) {L : Type 0} (P : List Inb
         answer = l.answer;
         past = l.past;
       } in
-      (record { life = life; links = s.links; clock = s.clock }, k)
+      (record { life = life; links = s.links; clock = s.clock; read = s.read }, k)
 
   -- the connections were served from the machine n on
   pub over_resumed : (dialed : Option DialerTold) (out : Option (List ℕ)) (seen : History) (box mid : Inbox J G) (new : LifeAt J G) (m n : State) (result : Result LifeEnd ServeFault)
@@ -94,7 +95,7 @@ module _ {J : Type 0} {G : Ghosts J} (tells : Type 0) {L : Type 0} (P : List Inb
       subst (λ (x : State). OverSo (life_at dialed out seen box) new x result) is (over_content dialed out seen box mid new m result content limits s)
 
 -- no connection was served, since the business did not take its place
-pub none_resumed : {J : Type 0} {G : Ghosts J} (tells : Type 0) {L : Type 0} (P : List InboxRecord → Type 0) (links : LinkGhosts L) (clock : ℕ) (dialed : Option DialerTold) (out : Option (List ℕ)) (seen : History) (box mid : Inbox J G) (m : State)
+pub none_resumed : {J : Type 0} {G : Ghosts J} (tells : Type 0) {L : Type 0} (P : List InboxRecord → Type 0) (links : LinkGhosts L) (clock : ClockAt) (dialed : Option DialerTold) (out : Option (List ℕ)) (seen : History) (box mid : Inbox J G) (m : State)
     → SameContent box mid → limits_of mid ≡ limits_of box → P []
     → (s : ServedOver tells links clock clock (life_at dialed out seen box) (life_at dialed out seen mid) m (Ok ends.Stopped)) × P (adds_of (all_of s.life.ended s.life.given_up))
 none_resumed tells P links clock dialed out seen box mid m content limits known =

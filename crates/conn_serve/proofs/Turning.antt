@@ -1,6 +1,6 @@
 -- Turns of a connection one behind another, and where it is given up.
 use Rattle.std.proofs.Common.{◌≡◌, ◌⊎◌, inl, inr, ℕ, ◌+◌, ◌*◌, ◌≤◌, Bool, true, false, List, [], ◌∷◌, ◌++◌, length, Option, Some, None, Result, Ok, Err, refl, sym, ap, subst, ◌∙◌, arith, append-nil, append_assoc, length-append}
-use Rattle.std.specs.Prelude.{OnOk, IfErr, option_to_list}
+use Rattle.std.specs.Prelude.{OnOk, IfErr, max, option_to_list}
 use Rattle.std.specs.List.{AllByRecursion, flat_map}
 use Rattle.std.specs.Io.KnownBytes.{Appends}
 use Rattle.std.proofs.KnownBytes.{Appends-nil, Appends-trans}
@@ -10,6 +10,8 @@ use Rattle.gw_outside.specs.Faults.{TakesFront}
 use Rattle.session_model.specs.Journal.{History, BeginsHistory}
 use Rattle.session_model.specs.Inbox.{InboxRecord}
 use Rattle.session_model.proofs.Lists.{all_append}
+use Rattle.gw_links.specs.Clocks.{ClockAt, IsRead}
+use Rattle.gw_links.proofs.Reading.{later_self}
 use Rattle.gw_links.specs.Links.{LinkTold, Carried, Moved}
 use Rattle.gw_links.proofs.Moving.{moved_none, moved_more}
 use Rattle.jr_boxes.specs.declared.faults.Which.{Which}
@@ -32,7 +34,7 @@ use Rattle.conn_loop.specs.Conn.{line_begun}
 use Rattle.conn_loop.specs.Turned.{NotBegun}
 use Rattle.conn_turns.specs.Refusals.{told_of}
 use Rattle.turn_laws.specs.Turns.{line_received, IsTurn, adds_in, tells_in}
-use Rattle.turn_laws.specs.Legs.{given_in, sent_in, IsTimelyTurn}
+use Rattle.turn_laws.specs.Legs.{given_in, sent_in, moment_of, IsTimelyTurn}
 use Rattle.turn_laws.specs.Made.{TurnAt, MadeTurn}
 use Rattle.turn_laws.specs.Turned.{WasTurn, WasCut}
 use Rattle.conn_door.specs.declared.answer.ServeFault.{ServeFault}
@@ -42,6 +44,8 @@ use Rattle.conn_serve.specs.Connections.{WereTurns, MadeNoMore, CutAt}
 use Rattle.conn_serve.specs.Causes.{lacks, lacks_at, Tells}
 use Rattle.conn_serve.specs.Turned.{Turned, CutOff, GivenUp, Begins, TurnedOn, GivenUpOn}
 use Rattle.conn_serve.specs.Answers.{close_of, IsOfTurn}
+use Rattle.conn_serve.specs.Clocked.{moments_in, ReadFor}
+use Rattle.conn_serve.proofs.Reading.{none_read, one_read, one_keeps, keeps_self, keeps_on, read_on, moments_append}
 use Rattle.conn_serve.proofs.Fewness.{turn_few, cut_few, ticked_few}
 use Rattle.turn_laws.proofs.Numbers.{turn_number}
 use Rattle.conn_loop.specs.Live.{EndAt, live_end}
@@ -227,7 +231,7 @@ module _ {J : Type 0} {G : Ghosts J} {tells : Type 0} where
 
   -- ---- turns
 
-  pub turned_none : (eager : Bool) (told : Option LinkTold) (carried : Option Carried) (out : Option (List ℕ)) (seen : History) (clock : ℕ) (l : Line) (box : Inbox J G)
+  pub turned_none : (eager : Bool) (told : Option LinkTold) (carried : Option Carried) (out : Option (List ℕ)) (seen : History) (clock : ClockAt) (l : Line) (box : Inbox J G)
       → Turned tells eager (connection_at told carried out seen clock l box) (connection_at told carried out seen clock l box) 0
   turned_none eager told carried out seen clock l box = record {
     turns = [];
@@ -240,12 +244,14 @@ module _ {J : Type 0} {G : Ghosts J} {tells : Type 0} where
     gains = gains_none box box refl;
     moved = moved_none told carried;
     lines = Appends-nil out;
+    read = none_read clock clock l.machine (later_self clock);
+    keeps = keeps_self clock l.machine;
   }
 
-  pub turned_once : (eager : Bool) (old new : ConnectionAt J G) (news : List NewsItem)
-      → old.line.machine.ending ≡ None → WasTurn tells eager old.clock new.clock (end_at old []) (end_at new news) → Appends old.out new.out (news_lines news)
+  pub turned_once : (eager : Bool) (old new : ConnectionAt J G) (news : List NewsItem) → IsRead old.clock new.clock → new.line.machine.moment ≤ max new.clock.last old.line.machine.moment
+      → old.line.machine.ending ≡ None → WasTurn tells eager old.clock.last new.clock.last (end_at old []) (end_at new news) → Appends old.out new.out (news_lines news)
       → Turned tells eager old new 1
-  turned_once eager old new news unended was lines = record {
+  turned_once eager old new news read moment unended was lines = record {
     turns = was.turn ∷ [];
     news = tells_in old.line was.turn;
     adds = adds_in old.line was.turn;
@@ -256,6 +262,8 @@ module _ {J : Type 0} {G : Ghosts J} {tells : Type 0} where
     gains = was.gains;
     moved = moved_once old.told new.told old.carried new.carried was.turn was.made.moved;
     lines = subst (λ (ns : List NewsItem). Appends old.out new.out (news_lines ns)) was.news_are lines;
+    read = one_read old.clock new.clock old.line.machine (moment_of was.turn) read was.made.moment;
+    keeps = one_keeps old.clock new.clock old.line.machine new.line.machine read moment;
   }
 
   pub turned_on : (eager : Bool) (old mid new : ConnectionAt J G) (n k : ℕ) → Turned tells eager old mid n → Turned tells eager mid new k → Turned tells eager old new (n + k)
@@ -270,6 +278,9 @@ module _ {J : Type 0} {G : Ghosts J} {tells : Type 0} where
     gains = gains_on old.box mid.box new.box x.adds y.adds x.gains y.gains;
     moved = moved_turns old.told mid.told new.told old.carried mid.carried new.carried x.turns y.turns x.moved y.moved;
     lines = subst (Appends old.out new.out) (sym (lines_on x.news y.news)) (Appends-trans old.out mid.out new.out (news_lines x.news) (news_lines y.news) x.lines y.lines);
+    read = subst (ReadFor old.clock new.clock old.line.machine) (sym (moments_append x.turns y.turns))
+        (read_on old.clock mid.clock new.clock old.line.machine mid.line.machine (moments_in x.turns) (moments_in y.turns) x.read x.keeps y.read);
+    keeps = keeps_on old.clock mid.clock old.line.machine mid.line.machine new.line.machine x.read.later x.keeps y.keeps;
   }
 
   pub turned_place : (eager : Bool) (old new : ConnectionAt J G) (n : ℕ) → Turned tells eager old new n → old.line.per_turn ≤ 256 → new.line.place ≤ old.line.place + n * 4195840
@@ -301,6 +312,7 @@ module _ {J : Type 0} {G : Ghosts J} {tells : Type 0} where
     faithful = t.faithful;
     moved = subst (λ (ts : List Turn). Moved old.told new.told old.carried new.carried (flat_map given_in ts) (flat_map sent_in ts)) (sym (append-nil t.turns)) t.moved;
     refuses = refuses_none old.box new.box (t.adds ++ []) (subst (Gains old.box new.box) (sym (append-nil t.adds)) t.gains);
+    read = subst (λ (ts : List Turn). ReadFor old.clock new.clock old.line.machine (moments_in ts)) (sym (append-nil t.turns)) t.read;
     lines = record {
       earlier = t.news;
       late = [];
@@ -333,6 +345,7 @@ module _ {J : Type 0} {G : Ghosts J} {tells : Type 0} where
     faithful = g.faithful;
     moved = g.moved;
     refuses = g.refuses;
+    read = g.read;
     lines = g.lines;
     spent = g.spent;
     cut_short = g.cut_short;
@@ -341,11 +354,11 @@ module _ {J : Type 0} {G : Ghosts J} {tells : Type 0} where
   }
 
   -- at a whole turn whose lines are lacking
-  pub given_lacking : (eager : Bool) (fault : ServeFault) (old new : ConnectionAt J G) (news : List NewsItem)
-      → old.line.machine.ending ≡ None → WasTurn tells eager old.clock new.clock (end_at old []) (end_at new news) → length news ≤ 512 → Tells (lacks fault) old.out new.out (news_lines news)
+  pub given_lacking : (eager : Bool) (fault : ServeFault) (old new : ConnectionAt J G) (news : List NewsItem) → IsRead old.clock new.clock
+      → old.line.machine.ending ≡ None → WasTurn tells eager old.clock.last new.clock.last (end_at old []) (end_at new news) → length news ≤ 512 → Tells (lacks fault) old.out new.out (news_lines news)
       → (fault ≡ faults.Output) ⊎ (fault ≡ faults.Memory)
       → GivenUp tells eager (Some fault) old new
-  given_lacking eager fault old new news unended was few lines which = record {
+  given_lacking eager fault old new news read unended was few lines which = record {
     behind = turn_in new;
     turns = was.turn ∷ [];
     news = tells_in old.line was.turn;
@@ -362,6 +375,7 @@ module _ {J : Type 0} {G : Ghosts J} {tells : Type 0} where
     faithful = λ t. (was.faithful t, tt);
     moved = moved_once old.told new.told old.carried new.carried was.turn was.made.moved;
     refuses = refuses_none old.box new.box (adds_in old.line was.turn ++ []) (subst (Gains old.box new.box) (sym (append-nil (adds_in old.line was.turn))) was.gains);
+    read = one_read old.clock new.clock old.line.machine (moment_of was.turn) read was.made.moment;
     lines = record {
       earlier = [];
       late = tells_in old.line was.turn;
@@ -389,7 +403,7 @@ module _ {J : Type 0} {G : Ghosts J} {tells : Type 0} where
 
   -- at a turn that had not begun
   given_unbegun : (eager : Bool) (fault why : ServeFault) (turn_fault : TurnFault) (old new : ConnectionAt J G) (news : List NewsItem)
-      → BeginsHistory old.seen new.seen → old.clock ≤ new.clock → NotBegun (end_at old []) (end_at new news) turn_fault → close_of (Err turn_fault) ≡ Err why → Tells (lacks fault) old.out new.out (news_lines news)
+      → BeginsHistory old.seen new.seen → IsRead old.clock new.clock → NotBegun (end_at old []) (end_at new news) turn_fault → close_of (Err turn_fault) ≡ Err why → Tells (lacks fault) old.out new.out (news_lines news)
       → (fault ≡ faults.Turns → ⊥) → (fault ≡ faults.Journal → why ≡ faults.Journal) → ((which : Which) (at : ℕ) → fault ≡ faults.Changed which at → why ≡ faults.Changed which at) → ((entries bytes : ℕ) → fault ≡ faults.Full entries bytes → why ≡ faults.Full entries bytes) → GivenUp tells eager (Some fault) old new
   given_unbegun eager fault why turn_fault old new news grows ticks n is lines no_turns journal change full = record {
     behind = turn_in old;
@@ -403,11 +417,12 @@ module _ {J : Type 0} {G : Ghosts J} {tells : Type 0} where
     cut_added = [];
     refused = [];
     wanted = [];
-    is_cut = (refl, refl, refl, refl, record { moved = still; clock = ticks });
+    is_cut = (refl, refl, refl, refl, record { moved = still; clock = ticks.later.last });
     timely = tt;
     faithful = λ t. tt;
     moved = still;
     refuses = subst (λ (e : EndAt J G). Refuses old.box e.box [] []) (sym n.1) (refuses_none old.box old.box [] (gains_none old.box old.box refl));
+    read = none_read old.clock new.clock old.line.machine ticks.later;
     lines = record {
       earlier = [];
       late = [];
@@ -437,10 +452,10 @@ module _ {J : Type 0} {G : Ghosts J} {tells : Type 0} where
       no_full entries bytes e = let same = full entries bytes e in let m = memory in cc
 
   -- at a turn that was cut short
-  given_cut : (eager : Bool) (fault why : ServeFault) (turn_fault : TurnFault) (old new : ConnectionAt J G) (news : List NewsItem)
-      → BeginsHistory old.seen new.seen → WasCut eager old.clock new.clock (end_at old []) (end_at new news) turn_fault → close_of (Err turn_fault) ≡ Err why → length news ≤ 512 → Tells (lacks fault) old.out new.out (news_lines news)
+  given_cut : (eager : Bool) (fault why : ServeFault) (turn_fault : TurnFault) (old new : ConnectionAt J G) (news : List NewsItem) → IsRead old.clock new.clock
+      → BeginsHistory old.seen new.seen → WasCut eager old.clock.last new.clock.last (end_at old []) (end_at new news) turn_fault → close_of (Err turn_fault) ≡ Err why → length news ≤ 512 → Tells (lacks fault) old.out new.out (news_lines news)
       → (fault ≡ faults.Turns → ⊥) → ((entries bytes : ℕ) → fault ≡ faults.Full entries bytes → why ≡ faults.Full entries bytes) → GivenUp tells eager (Some fault) old new
-  given_cut eager fault why turn_fault old new news grows k is few lines no_turns full = record {
+  given_cut eager fault why turn_fault old new news ticks grows k is few lines no_turns full = record {
     behind = turn_in old;
     turns = [];
     news = [];
@@ -457,6 +472,7 @@ module _ {J : Type 0} {G : Ghosts J} {tells : Type 0} where
     faithful = λ t. tt;
     moved = moved_once old.told new.told old.carried new.carried (cut_short k.now k.received k.frames k.refusal) k.made.moved;
     refuses = k.refuses;
+    read = one_read old.clock new.clock old.line.machine k.now ticks k.made.moment;
     lines = record {
       earlier = [];
       late = news;
@@ -472,13 +488,13 @@ module _ {J : Type 0} {G : Ghosts J} {tells : Type 0} where
 
   -- at either
   given_off : (eager : Bool) (fault why : ServeFault) (old new : ConnectionAt J G) (news : List NewsItem)
-      → BeginsHistory old.seen new.seen → old.clock ≤ new.clock → CutOff eager old.clock new.clock (end_at old []) (end_at new news) why → length news ≤ 512 → Tells (lacks fault) old.out new.out (news_lines news)
+      → BeginsHistory old.seen new.seen → IsRead old.clock new.clock → CutOff eager old.clock.last new.clock.last (end_at old []) (end_at new news) why → length news ≤ 512 → Tells (lacks fault) old.out new.out (news_lines news)
       → (fault ≡ faults.Turns → ⊥) → (fault ≡ faults.Journal → why ≡ faults.Journal) → ((which : Which) (at : ℕ) → fault ≡ faults.Changed which at → why ≡ faults.Changed which at) → ((entries bytes : ℕ) → fault ≡ faults.Full entries bytes → why ≡ faults.Full entries bytes) → GivenUp tells eager (Some fault) old new
   given_off eager fault why old new news grows ticks c few lines no_turns journal change full = by_kind c.cut
     where
-      by_kind : NotBegun (end_at old []) (end_at new news) c.fault ⊎ WasCut eager old.clock new.clock (end_at old []) (end_at new news) c.fault → GivenUp tells eager (Some fault) old new
+      by_kind : NotBegun (end_at old []) (end_at new news) c.fault ⊎ WasCut eager old.clock.last new.clock.last (end_at old []) (end_at new news) c.fault → GivenUp tells eager (Some fault) old new
       by_kind (inl n) = given_unbegun eager fault why c.fault old new news grows ticks n c.is lines no_turns journal change full
-      by_kind (inr k) = given_cut eager fault why c.fault old new news grows k c.is few lines no_turns full
+      by_kind (inr k) = given_cut eager fault why c.fault old new news ticks grows k c.is few lines no_turns full
 
   -- behind further turns
   pub given_on : (eager : Bool) (why : Option ServeFault) (old mid new : ConnectionAt J G) (n : ℕ)
@@ -502,6 +518,9 @@ module _ {J : Type 0} {G : Ghosts J} {tells : Type 0} where
         (moved_turns old.told mid.told new.told old.carried mid.carried new.carried x.turns (y.turns ++ option_to_list y.cut) x.moved y.moved);
     refuses = subst (λ (rs : List InboxRecord). Refuses old.box new.box rs y.refused) (sym (append_assoc x.adds y.adds y.cut_added))
         (refuses_on old.box mid.box new.box x.adds (y.adds ++ y.cut_added) y.refused x.gains y.refuses);
+    read = subst (λ (ts : List Turn). ReadFor old.clock new.clock old.line.machine (moments_in ts)) (sym (append_assoc x.turns y.turns (option_to_list y.cut)))
+        (subst (ReadFor old.clock new.clock old.line.machine) (sym (moments_append x.turns (y.turns ++ option_to_list y.cut)))
+        (read_on old.clock mid.clock new.clock old.line.machine mid.line.machine (moments_in x.turns) (moments_in (y.turns ++ option_to_list y.cut)) x.read x.keeps y.read));
     lines = record {
       earlier = x.news ++ y.lines.earlier;
       late = y.lines.late;
@@ -522,10 +541,10 @@ module _ {J : Type 0} {G : Ghosts J} {tells : Type 0} where
 
   -- a turn whose lines are lacking, whole or cut short
   pub given_told : {A : Type 0} (r : Result A ServeFault) (fault : ServeFault) (H : Type 0) (eager : Bool) (old new : ConnectionAt J G) (news : List NewsItem)
-      → old.line.machine.ending ≡ None → BeginsHistory old.seen new.seen → old.clock ≤ new.clock → OnOk r (WasTurn tells eager old.clock new.clock (end_at old []) (end_at new news)) → IfErr r (CutOff eager old.clock new.clock (end_at old []) (end_at new news))
+      → old.line.machine.ending ≡ None → BeginsHistory old.seen new.seen → IsRead old.clock new.clock → OnOk r (WasTurn tells eager old.clock.last new.clock.last (end_at old []) (end_at new news)) → IfErr r (CutOff eager old.clock.last new.clock.last (end_at old []) (end_at new news))
       → length news ≤ 512 → TakesFront old.out new.out (news_lines news) → ((fault ≡ faults.Output) × H) ⊎ (fault ≡ faults.Memory) → GivenUp tells eager (Some fault) old new
   given_told (Ok a) fault H eager old new news unended grows ticks whole cut few front cause =
-      given_lacking eager fault old new news unended whole few (lacking_tells fault H old.out new.out (news_lines news) cause front) (which_lacks fault H cause)
+      given_lacking eager fault old new news ticks unended whole few (lacking_tells fault H old.out new.out (news_lines news) cause front) (which_lacks fault H cause)
   given_told (Err e) fault H eager old new news unended grows ticks whole cut few front cause =
       given_off eager fault e old new news grows ticks cut few (lacking_tells fault H old.out new.out (news_lines news) cause front) (lacking_spent fault H cause) (λ is. absurd (lacking_journal fault H cause is))
       (λ which at is. absurd (lacking_changed fault H which at cause is)) (λ entries bytes is. absurd (lacking_full fault H entries bytes cause is))
@@ -533,7 +552,7 @@ module _ {J : Type 0} {G : Ghosts J} {tells : Type 0} where
 module _ {J : Type 0} {G : Ghosts J} (tells : Type 0) where
   -- and one that was cut short, and whose lines were told
   pub given_answer : {A : Type 0} (r : Result A ServeFault) (eager : Bool) (old new : ConnectionAt J G) (news : List NewsItem)
-      → BeginsHistory old.seen new.seen → old.clock ≤ new.clock → IfErr r (CutOff eager old.clock new.clock (end_at old []) (end_at new news)) → IfErr r IsOfTurn → length news ≤ 512 → Appends old.out new.out (news_lines news)
+      → BeginsHistory old.seen new.seen → IsRead old.clock new.clock → IfErr r (CutOff eager old.clock.last new.clock.last (end_at old []) (end_at new news)) → IfErr r IsOfTurn → length news ≤ 512 → Appends old.out new.out (news_lines news)
       → IfErr r (λ fault. GivenUp tells eager (Some fault) old new)
   given_answer (Ok a) eager old new news grows ticks cut is few lines = tt
   given_answer (Err fault) eager old new news grows ticks cut is few lines =
@@ -542,16 +561,16 @@ module _ {J : Type 0} {G : Ghosts J} (tells : Type 0) where
 module _ {J : Type 0} {G : Ghosts J} {tells : Type 0} where
   -- ---- the same, with what is known of the records that the inbox gained
 
-  pub none_adding : (P : List InboxRecord → Type 0) (eager : Bool) (told : Option LinkTold) (carried : Option Carried) (out : Option (List ℕ)) (seen : History) (clock : ℕ) (l : Line) (box : Inbox J G)
+  pub none_adding : (P : List InboxRecord → Type 0) (eager : Bool) (told : Option LinkTold) (carried : Option Carried) (out : Option (List ℕ)) (seen : History) (clock : ClockAt) (l : Line) (box : Inbox J G)
       → P [] → (t : Turned tells eager (connection_at told carried out seen clock l box) (connection_at told carried out seen clock l box) 0) × P t.adds
   unfolding turned_none
   none_adding P eager told carried out seen clock l box known = (turned_none eager told carried out seen clock l box, known)
 
-  pub once_adding : (P : List InboxRecord → Type 0) (eager : Bool) (old new : ConnectionAt J G) (news : List NewsItem)
-      → old.line.machine.ending ≡ None → (was : WasTurn tells eager old.clock new.clock (end_at old []) (end_at new news)) → Appends old.out new.out (news_lines news)
+  pub once_adding : (P : List InboxRecord → Type 0) (eager : Bool) (old new : ConnectionAt J G) (news : List NewsItem) → IsRead old.clock new.clock → new.line.machine.moment ≤ max new.clock.last old.line.machine.moment
+      → old.line.machine.ending ≡ None → (was : WasTurn tells eager old.clock.last new.clock.last (end_at old []) (end_at new news)) → Appends old.out new.out (news_lines news)
       → P (adds_in old.line was.turn) → (t : Turned tells eager old new 1) × P t.adds
   unfolding turned_once
-  once_adding P eager old new news unended was lines known = (turned_once eager old new news unended was lines, known)
+  once_adding P eager old new news read moment unended was lines known = (turned_once eager old new news read moment unended was lines, known)
 
   pub on_adding : (P Q R : List InboxRecord → Type 0) (eager : Bool) (old mid new : ConnectionAt J G) (n k : ℕ) → ((x : Turned tells eager old mid n) × P x.adds) → ((y : Turned tells eager mid new k) × Q y.adds)
       → ((xs ys : List InboxRecord) → Gains old.box mid.box xs → Gains mid.box new.box ys → P xs → Q ys → R (xs ++ ys)) → (t : Turned tells eager old new (n + k)) × R t.adds
@@ -578,7 +597,7 @@ module _ {J : Type 0} {G : Ghosts J} {tells : Type 0} where
   unfolding given_dropped
   dropped_adding P eager why old new l g = (given_dropped eager why old new l g.0, g.1)
 
-  pub given_first : (P : List InboxRecord → Type 0) (eager : Bool) (why : Option ServeFault) (old new : ConnectionAt J G) (start : Line) (now clock : ℕ) → start ≡ line_begun old.line now → Begins old now clock
+  pub given_first : (P : List InboxRecord → Type 0) (eager : Bool) (why : Option ServeFault) (old new : ConnectionAt J G) (start : Line) (now : ℕ) (clock : ClockAt) → start ≡ line_begun old.line now → Begins old now clock
       → ((g : GivenUp tells eager why (record old { clock = clock; line = start }) new) × P (g.adds ++ g.cut_added))
       → (g : GivenUpOn tells eager why old new) × P (g.given_up.adds ++ g.given_up.cut_added)
   given_first P eager why old new start now clock is began g =
@@ -586,7 +605,7 @@ module _ {J : Type 0} {G : Ghosts J} {tells : Type 0} where
       subst (λ (x : Line). (g : GivenUp tells eager why (record old { clock = clock; line = x }) new) × P (g.adds ++ g.cut_added)) is g in
       (record { moment = now; clock = clock; began = began; given_up = h.0 }, h.1)
 
-  pub turned_first : (P : List InboxRecord → Type 0) (eager : Bool) (old new : ConnectionAt J G) (start : Line) (now clock n : ℕ) → start ≡ line_begun old.line now → Begins old now clock
+  pub turned_first : (P : List InboxRecord → Type 0) (eager : Bool) (old new : ConnectionAt J G) (start : Line) (now : ℕ) (clock : ClockAt) (n : ℕ) → start ≡ line_begun old.line now → Begins old now clock
       → ((t : Turned tells eager (record old { clock = clock; line = start }) new n) × P t.adds) → (t : TurnedOn tells eager old new) × P t.turned.adds
   turned_first P eager old new start now clock n is began t =
       let h : (t : Turned tells eager (record old { clock = clock; line = line_begun old.line now }) new n) × P t.adds =

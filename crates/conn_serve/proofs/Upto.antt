@@ -8,6 +8,7 @@ use Rattle.session_model.specs.Inbox.{InboxRecord, apply, skip, negotiated, peer
 use Rattle.session_model.specs.Plans.{GoesOn}
 use Rattle.session_model.proofs.Lists.{prefix_self, prefix_of_append, prefix_trans}
 use Rattle.fixp_machine.specs.Machine.{State}
+use Rattle.gw_links.specs.Clocks.{ClockAt}
 use Rattle.gw_links.specs.declared.link.Link.{Ghosts as LinkGhosts}
 use Rattle.jr_dated.specs.declared.journal.Journal.{Ghosts}
 use Rattle.jr_dated.specs.declared.faults.FetchFault.{FetchFault}
@@ -424,6 +425,6 @@ module _ {J : Type 0} {G : Ghosts J} where
 
   -- ---- a round, by what it is known to answer
 
-  pub round_at : {L : Type 0} (tells : Type 0) (links : LinkGhosts L) (before behind : ℕ) (b c : BusinessAt) (box : Inbox J G) (n : ℕ) (old new : LifeAt J G) (m m' : State) (r q : Result (Option LifeEnd) ServeFault) → r ≡ q
-      → IsRound tells (IsRoundOf links before behind (AnswersMore (AnsweredEach r) b c box)) n old new m m' r → IsRound tells (IsRoundOf links before behind (AnswersMore (AnsweredEach q) b c box)) n old new m m' q
-  round_at tells links before behind b c box n old new m m' r q is round = subst (λ (x : Result (Option LifeEnd) ServeFault). IsRound tells (IsRoundOf links before behind (AnswersMore (AnsweredEach x) b c box)) n old new m m' x) is round
+  pub round_at : {L : Type 0} (tells : Type 0) (links : LinkGhosts L) (before behind : ClockAt) (b c : BusinessAt) (box : Inbox J G) (n : ℕ) (old new : LifeAt J G) (m m' : State) (r q : Result (Option LifeEnd) ServeFault) → r ≡ q
+      → IsRound tells (IsRoundOf links before behind m m' (AnswersMore (AnsweredEach r) b c box)) n old new m m' r → IsRound tells (IsRoundOf links before behind m m' (AnswersMore (AnsweredEach q) b c box)) n old new m m' q
+  round_at tells links before behind b c box n old new m m' r q is round = subst (λ (x : Result (Option LifeEnd) ServeFault). IsRound tells (IsRoundOf links before behind m m' (AnswersMore (AnsweredEach x) b c box)) n old new m m' x) is round

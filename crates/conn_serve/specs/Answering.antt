@@ -7,6 +7,7 @@ use Rattle.session_model.specs.Inbox.{InboxRecord, applied, payloads_of, has_pee
 use Rattle.fixp_machine.specs.Machine.{State}
 use Rattle.gw_links.specs.Dialers.{DialerTold}
 use Rattle.gw_links.specs.declared.link.Link.{Ghosts as LinkGhosts}
+use Rattle.gw_links.specs.Clocks.{ClockAt}
 use Rattle.jr_boxes.specs.declared.faults.SubmitFault.{SubmitFault}
 use Rattle.jr_boxes.specs.declared.faults.Which.TheVariants as boxes
 use Rattle.jr_dated.specs.declared.journal.Journal.{Ghosts}
@@ -176,7 +177,7 @@ module _ {J : Type 0} {G : Ghosts J} where
   -- The connections were served so, with a business that answered what they applied, and it answers what comes first of both. What each pass of the
   -- business has seen begins with what it had seen; and where the business was refused, this is why. Where there was no memory to begin, the business
   -- is as it was
-  pub record AnsweredSo {L : Type 0} (tells : Type 0) (links : LinkGhosts L) (before behind : ℕ) (old new : AnsweringAt J G) (m : State)
+  pub record AnsweredSo {L : Type 0} (tells : Type 0) (links : LinkGhosts L) (before behind : ClockAt) (old new : AnsweringAt J G) (m : State)
       (result : Result (Unit {0}) ServeFault) : Type 0 where
     pub connections : Result LifeEnd ServeFault
     pub life : ServedOver tells links before behind (life_around old) (life_around new) m connections

@@ -1,5 +1,6 @@
 pub mod Answers
 pub mod Connections
+pub mod Clocked
 pub mod Moments
 pub mod Hears
 pub mod Ends

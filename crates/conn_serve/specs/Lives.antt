@@ -4,6 +4,7 @@ use Rattle.session_model.specs.Journal.{BeginsHistory}
 use Rattle.fixp_msgs.specs.declared.flow.Flow.TheVariants.{Recoverable}
 use Rattle.fixp_shake.specs.declared.config.EndConfig.{EndConfig}
 use Rattle.fixp_machine.specs.Machine.{State}
+use Rattle.gw_links.specs.Clocks.{ClockAt, clock_at, IsLater}
 use Rattle.jr_dated.specs.declared.journal.Journal.{Ghosts}
 use Rattle.jr_kept.specs.Inbox.{faults_of, flow_of, limits_of, next_of}
 use Rattle.gate_turn.specs.Places.{known}
@@ -57,9 +58,9 @@ module _ {K N C O I : Type 0} {G : Ghosts O} {H : Ghosts I} where
   abbrev pub answering_with : Hears K N C → Lent K N O I C G H → BusinessAt → AnsweringAt I H
   answering_with hears l business = answering_at (hears.carried l.dialer) (hears.taken l.out) (hears.sink l.out) (hears.dials l.dialer) (known l.pass) l.inbox business
 
-  -- what its clock gave last
-  abbrev pub last_in : Hears K N C → Life K N O I C G H → ℕ
-  last_in hears l = hears.clock.last (clock_in l.end)
+  -- what its clock shows
+  abbrev pub shown_in : Hears K N C → Life K N O I C G H → ClockAt
+  shown_in hears l = clock_at hears.clock (clock_in l.end)
 
   -- A life of such a configuration may open at a gate with what it is lent: the pass is of the gate, free, and has seen what the outbox opened with;
   -- no link is lent; the configuration is in its ranges; and the inbox is of its peer's flow, holds so many messages, and has numbers left
@@ -86,29 +87,28 @@ module _ {K N C O I : Type 0} {G : Ghosts O} {H : Ghosts I} where
     pub idle : IsIdle hears gate l
     pub begins : MayBegin (machine_in l) (pass_in l.end) (box_in l.end)
 
-  -- whatever its inbox was read for meanwhile: its pass made and lost nothing, the inbox has its limits and its flow, and no count fell, nor the clock
+  -- whatever its inbox was read for meanwhile: its pass made and lost nothing, the inbox has its limits and its flow, no count fell, and
+  -- the clock is a later one
   pub record Lasts (hears : Hears K N C) (old new : Life K N O I C G H) : Type 0 where
     pub looks : Looks (pass_in old.end) (pass_in new.end)
     pub kind : (limits_of (box_in new.end) ≡ limits_of (box_in old.end)) × (flow_of (box_in new.end) ≡ flow_of (box_in old.end))
     pub inbox : faults_of (box_in old.end) ≤ faults_of (box_in new.end)
     pub out : hears.sink old.out ≤ hears.sink new.out
     pub dialer : hears.dials old.dialer ≤ hears.dials new.dialer
-    pub told : hears.clock.told (clock_in new.end) ≡ hears.clock.told (clock_in old.end)
-    pub ticks : last_in hears old ≤ last_in hears new
+    pub ticks : IsLater (shown_in hears old) (shown_in hears new)
 
-  -- the pass of the new one made and lost nothing, its inbox is of the same kind, and no count fell, nor the clock
+  -- the pass of the new one made and lost nothing, its inbox is of the same kind, no count fell, and the clock is a later one
   pub record GoesOn (hears : Hears K N C) (old new : Life K N O I C G H) : Type 0 where
     pub looks : Looks (pass_in old.end) (pass_in new.end)
     pub kind : SameKind (box_in old.end) (box_in new.end)
     pub inbox : faults_of (box_in old.end) ≤ faults_of (box_in new.end)
     pub out : hears.sink old.out ≤ hears.sink new.out
     pub dialer : hears.dials old.dialer ≤ hears.dials new.dialer
-    pub told : hears.clock.told (clock_in new.end) ≡ hears.clock.told (clock_in old.end)
-    pub ticks : last_in hears old ≤ last_in hears new
+    pub ticks : IsLater (shown_in hears old) (shown_in hears new)
 
   -- connections were served with what was lent, from the machine m on, and what is to blame where they ended with a fault
   pub record ServedWith (tells : Type 0) (hears : Hears K N C) (old new : Lent K N O I C G H) (m : State) (result : Result LifeEnd ServeFault) : Type 0 where
-    pub over : ServedOver tells hears.links (hears.clock.last old.clock) (hears.clock.last new.clock)
+    pub over : ServedOver tells hears.links (clock_at hears.clock old.clock) (clock_at hears.clock new.clock)
         (life_at (hears.carried old.dialer) (hears.taken old.out) (known old.pass).seen old.inbox)
         (life_at (hears.carried new.dialer) (hears.taken new.out) (known new.pass).seen new.inbox) m result
     pub blamed : IfErr result (IsBlamed tells (faults_at (hears.sink old.out) (hears.dials old.dialer) (known old.pass) old.inbox)
@@ -116,11 +116,11 @@ module _ {K N C O I : Type 0} {G : Ghosts O} {H : Ghosts I} where
 
   -- its connections were served over the links of its dialer, by its clock, and what is to blame where they ended with a fault
   pub record ServedIn (tells : Type 0) (hears : Hears K N C) (old new : Life K N O I C G H) (result : Result LifeEnd ServeFault) : Type 0 where
-    pub over : ServedOver tells hears.links (last_in hears old) (last_in hears new) (life_in hears old) (life_in hears new) (machine_in old) result
+    pub over : ServedOver tells hears.links (shown_in hears old) (shown_in hears new) (life_in hears old) (life_in hears new) (machine_in old) result
     pub blamed : IfErr result (IsBlamed tells (faults_in_life hears old) (faults_in_life hears new))
 
-  -- what was lent comes back: the pass is of the gate, free, and made and lost nothing; no link is lent; the inbox has its limits and its flow; and no
-  -- count fell, nor the clock
+  -- what was lent comes back: the pass is of the gate, free, and made and lost nothing; no link is lent; the inbox has its limits and its flow; no
+  -- count fell, and the clock is a later one
   pub record ComesBack (hears : Hears K N C) (gate : Gate O G) (old new : Lent K N O I C G H) : Type 0 where
     pub own : IsPassAt gate new.pass
     pub free : IsFree new.pass
@@ -130,5 +130,4 @@ module _ {K N C O I : Type 0} {G : Ghosts O} {H : Ghosts I} where
     pub inbox : faults_of old.inbox ≤ faults_of new.inbox
     pub out : hears.sink old.out ≤ hears.sink new.out
     pub dialer : hears.dials old.dialer ≤ hears.dials new.dialer
-    pub told : hears.clock.told new.clock ≡ hears.clock.told old.clock
-    pub ticks : hears.clock.last old.clock ≤ hears.clock.last new.clock
+    pub ticks : IsLater (clock_at hears.clock old.clock) (clock_at hears.clock new.clock)

@@ -1,6 +1,7 @@
 -- What a connection, a life and what is around them are at a moment (this project's profile).
 use Rattle.std.specs.Prelude.{ℕ, List, Option}
 use Rattle.session_model.specs.Journal.{History}
+use Rattle.gw_links.specs.Clocks.{ClockAt}
 use Rattle.gw_links.specs.Links.{LinkTold, Carried}
 use Rattle.gw_links.specs.Dialers.{DialerTold}
 use Rattle.jr_dated.specs.declared.journal.Journal.{Ghosts}
@@ -11,13 +12,13 @@ use Rattle.conn_turns.specs.Lines.{Line}
 use Rattle.turn_laws.specs.Made.{TurnAt}
 
 -- a connection between its turns: what its link tells, and tells that it had carried; what OUT tells that it took; what its pass has
--- seen of the outbox; what its clock gave last; its line; and the inbox
+-- seen of the outbox; what its clock shows; its line; and the inbox
 pub record ConnectionAt (J : Type 0) (G : Ghosts J) : Type 0 where
   pub told : Option LinkTold
   pub carried : Option Carried
   pub out : Option (List ℕ)
   pub seen : History
-  pub clock : ℕ
+  pub clock : ClockAt
   pub line : Line
   pub box : Inbox J G
 
@@ -54,7 +55,7 @@ pub record ServingAt (J : Type 0) (G : Ghosts J) (O : Type 0) (H : Ghosts O) : T
   pub senders : List (Sender O H)
 
 module _ {J : Type 0} {G : Ghosts J} where
-  abbrev pub connection_at : Option LinkTold → Option Carried → (out : Option (List ℕ)) → History → (clock : ℕ) → Line → Inbox J G → ConnectionAt J G
+  abbrev pub connection_at : Option LinkTold → Option Carried → (out : Option (List ℕ)) → History → ClockAt → Line → Inbox J G → ConnectionAt J G
   connection_at told carried out seen clock line box = record {
     told = told;
     carried = carried;
@@ -67,7 +68,7 @@ module _ {J : Type 0} {G : Ghosts J} where
 
   -- what its turn finds, or leaves
   abbrev pub turn_in : ConnectionAt J G → TurnAt
-  turn_in c = record { told = c.told; carried = c.carried; seen = c.seen; clock = c.clock; line = c.line }
+  turn_in c = record { told = c.told; carried = c.carried; seen = c.seen; clock = c.clock.last; line = c.line }
 
   abbrev pub life_at : Option DialerTold → (out : Option (List ℕ)) → History → Inbox J G → LifeAt J G
   life_at dialed out seen box = record { dialed = dialed; out = out; seen = seen; box = box }

@@ -14,6 +14,7 @@ use Rattle.conn_door.specs.declared.answer.LifeEnd.{LifeEnd}
 use Rattle.conn_door.specs.Answers.{answer_of}
 use Rattle.conn_door.specs.Flows.{is_sent_again}
 use Rattle.gw_links.specs.declared.link.Link.{Ghosts as LinkGhosts}
+use Rattle.gw_links.specs.Clocks.{ClockAt}
 use Rattle.conn_serve.specs.Causes.{IsBlamed}
 use Rattle.conn_serve.specs.Moments.{ServingAt, life_in, faults_in}
 use Rattle.conn_serve.specs.Served.{ServedLife, ServedOver}
@@ -47,8 +48,8 @@ module _ {J : Type 0} {G : Ghosts J} {O : Type 0} {H : Ghosts O} where
   abbrev pub ServedBy : Gate O H → (old new : ServingAt J G O H) → State → Result (Unit {0}) ServeFault → Type 0
   ServedBy gate old new m result = ServedSo (λ connections. ServedLife H.tells (life_in old) (life_in new) m connections) (is_sent_again m.config.own_flow) gate old new result
 
-  -- so it was over links of the dialer, by a clock that gave these moments last before and behind
-  abbrev pub ServedThrough : {L : Type 0} → LinkGhosts L → (before behind : ℕ) → Gate O H → (old new : ServingAt J G O H) → State
+  -- so it was over links of the dialer, by a clock that showed this before and behind
+  abbrev pub ServedThrough : {L : Type 0} → LinkGhosts L → (before behind : ClockAt) → Gate O H → (old new : ServingAt J G O H) → State
       → Result (Unit {0}) ServeFault → Type 0
   ServedThrough links before behind gate old new m result =
       ServedSo (λ connections. ServedOver H.tells links before behind (life_in old) (life_in new) m connections) (is_sent_again m.config.own_flow) gate

@@ -1,12 +1,13 @@
 -- What a life of connections did (this project's profile).
 use Rattle.std.specs.Prelude.{⊤, ◌≡◌, ◌⊎◌, ℕ, ◌+◌, ◌-◌, ◌<◌, ◌≤◌, Bool, true, false, All, List, [], ◌∷◌, ◌++◌, map, length, Option, Some, None, IsSome, IfSome, IsTrue, is_some, option_to_list, Result, Ok, Err}
-use Rattle.std.specs.List.{AllByRecursion}
+use Rattle.std.specs.List.{AllByRecursion, flat_map}
 use Rattle.std.specs.Io.KnownBytes.{Appends}
 use Rattle.session_model.specs.Journal.{History}
 use Rattle.session_model.specs.Inbox.{InboxRecord}
 use Rattle.fixp_replies.specs.declared.act.Ending.TheVariants as endings
 use Rattle.fixp_machine.specs.Machine.{State, phase_of}
 use Rattle.std.specs.Option.{option_map}
+use Rattle.gw_links.specs.Clocks.{ClockAt}
 use Rattle.gw_links.specs.Links.{Carried, CarriedNothing, HasCarried}
 use Rattle.gw_links.specs.Dialers.{DialerTold}
 use Rattle.gw_links.specs.declared.link.Link.{Ghosts as LinkGhosts}
@@ -23,19 +24,22 @@ use Rattle.conn_door.specs.declared.answer.ServeFault.TheVariants as faults
 use Rattle.conn_door.specs.declared.answer.LifeEnd.{LifeEnd}
 use Rattle.conn_door.specs.declared.answer.LifeEnd.TheVariants as ends
 use Rattle.conn_serve.specs.Connections.{LinkSeen, IsOver, ByClock, Connection, turned, all_of, IsFaithfulLeg, IsConnection, HasEnded, AllEnded, Follows, IsFollowed, AreFollowed, adds_of, refused_of_all, wanted_of_all}
+use Rattle.conn_serve.specs.Clocked.{moments_of, ReadFor, KeepsUp}
 use Rattle.conn_serve.specs.Lines.{news_lines, close_line, lines_from}
 use Rattle.conn_serve.specs.Causes.{lacks, lacks_at, TellsUntil, TellsNews, TellsAll}
 use Rattle.conn_serve.specs.Moments.{LifeAt}
 use Rattle.conn_serve.specs.Turned.{IsSpent}
 
--- a link of a dialer, between what its clock gave last before and behind a connection
-abbrev pub IsOverBy : {L : Type 0} → LinkGhosts L → (before behind : ℕ) → LinkSeen → Type 0
-IsOverBy G before behind s = IsOver G s × (before ≤ s.first.clock) × (s.end.clock ≤ behind)
+-- a link of a dialer, between what its clock showed before and behind a connection
+abbrev pub IsOverBy : {L : Type 0} → LinkGhosts L → (before behind : ClockAt) → LinkSeen → Type 0
+IsOverBy G before behind s = IsOver G s × (before.last ≤ s.first.clock) × (s.end.clock ≤ behind.last)
 
--- what is known of the connection of a round, or of there being none: it was over a link of a dialer, and this is so of the records that it added
-abbrev pub IsRoundOf : {L : Type 0} → LinkGhosts L → (before behind : ℕ) → (Adds : List InboxRecord → Type 0) → Option Connection → Type 0
-IsRoundOf links before behind Adds None = Adds []
-IsRoundOf links before behind Adds (Some c) = IsOverBy links before behind c.link × Adds c.adds
+-- What is known of the connection of a round, which led from the machine m to m', or of there being none: it was over a link of a dialer, this is so of
+-- the records that it added, and the clock was read for its beginning and each of its turns
+abbrev pub IsRoundOf : {L : Type 0} → LinkGhosts L → (before behind : ClockAt) → (m m' : State) → (Adds : List InboxRecord → Type 0) → Option Connection → Type 0
+IsRoundOf links before behind m m' Adds None = Adds []
+IsRoundOf links before behind m m' Adds (Some c) = IsOverBy links before behind c.link × Adds c.adds × ReadFor before behind m (moments_of c.leg)
+    × (IsSome c.close → KeepsUp before m m')
 
 -- links came back to a dialer that tells it, which had carried this, each of one of the connections that were left
 pub record Came (old new : DialerTold) (more : List (Option Carried)) : Type 0 where
@@ -142,12 +146,14 @@ module _ {J : Type 0} {G : Ghosts J} where
     pub past : (entries bytes : ℕ) → result ≡ Err (faults.Full entries bytes)
         → IsPast (limits_of new.box).bytes bytes (wanted_of_all (option_to_list given_up))
 
-  -- so it was over links of a dialer, one behind another, by a clock that gave these moments last before and behind them
-  pub record ServedOver {L : Type 0} (told : Type 0) (G' : LinkGhosts L) (before behind : ℕ) (old new : LifeAt J G) (m : State)
+  -- So it was over links of a dialer, one behind another, by a clock that showed this before and behind them: it was read as each of them began, and in
+  -- each turn
+  pub record ServedOver {L : Type 0} (told : Type 0) (G' : LinkGhosts L) (before behind : ClockAt) (old new : LifeAt J G) (m : State)
       (result : Result LifeEnd ServeFault) : Type 0 where
     pub life : ServedLife told old new m result
     pub links : AllByRecursion (λ (c : Connection). IsOver G' c.link) (all_of life.ended life.given_up)
-    pub clock : ByClock before behind (all_of life.ended life.given_up)
+    pub clock : ByClock before.last behind.last (all_of life.ended life.given_up)
+    pub read : ReadFor before behind m (flat_map moments_of (turned (all_of life.ended life.given_up)))
 
   -- the connection of the number n ended so, and this is known of it
   pub record EndedOne (told : Type 0) (known : Option Connection → Type 0) (n : ℕ) (lacking : Bool) (old new : LifeAt J G) (m m' : State) (close : Close) : Type 0 where

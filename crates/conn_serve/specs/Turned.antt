@@ -5,6 +5,7 @@ use Rattle.std.specs.Io.KnownBytes.{Appends}
 use Rattle.session_model.specs.Journal.{BeginsHistory}
 use Rattle.session_model.specs.Inbox.{InboxRecord}
 use Rattle.fixp_machine.specs.Machine.{State}
+use Rattle.gw_links.specs.Clocks.{ClockAt, IsRead}
 use Rattle.gw_links.specs.Links.{Moved}
 use Rattle.jr_boxes.specs.declared.faults.Which.{Which}
 use Rattle.jr_dated.specs.declared.journal.Journal.{Ghosts}
@@ -28,6 +29,7 @@ use Rattle.conn_door.specs.declared.answer.ServeFault.{ServeFault}
 use Rattle.conn_door.specs.declared.answer.ServeFault.TheVariants as faults
 use Rattle.conn_serve.specs.Answers.{close_of}
 use Rattle.conn_serve.specs.Connections.{WereTurns, CutAt}
+use Rattle.conn_serve.specs.Clocked.{moments_in, ReadFor, KeepsUp}
 use Rattle.conn_serve.specs.Lines.{news_lines}
 use Rattle.conn_serve.specs.Moments.{ConnectionAt, turn_in}
 use Rattle.conn_serve.specs.Causes.{lacks_at, TellsNews}
@@ -40,7 +42,7 @@ pub record IsSpent (last : Line) (turns : List Turn) (cut : Option Turn) : Type 
 
 module _ {J : Type 0} {G : Ghosts J} where
   -- so many whole turns were made, in time: what they told stands on OUT, what they add in the inbox, and the link moved what was given
-  -- and sent in them; and what they sent of an outbox whose disk tells its content is what was seen of it
+  -- and sent in them; the clock was read for each; and what they sent of an outbox whose disk tells its content is what was seen of it
   pub record Turned (tells : Type 0) (eager : Bool) (old new : ConnectionAt J G) (count : ℕ) : Type 0 where
     pub turns : List Turn
     pub news : List NewsItem
@@ -52,6 +54,8 @@ module _ {J : Type 0} {G : Ghosts J} where
     pub gains : Gains old.box new.box adds
     pub moved : Moved old.told new.told old.carried new.carried (flat_map given_in turns) (flat_map sent_in turns)
     pub lines : Appends old.out new.out (news_lines news)
+    pub read : ReadFor old.clock new.clock old.line.machine (moments_in turns)
+    pub keeps : KeepsUp old.clock old.line.machine new.line.machine
 
   -- a turn had not begun, or was cut short, by a fault, which is this one to its connection, by a clock that gave these moments last
   pub record CutOff (eager : Bool) (before after : ℕ) (old new : EndAt J G) (why : ServeFault) : Type 0 where
@@ -60,8 +64,8 @@ module _ {J : Type 0} {G : Ghosts J} where
     pub cut : NotBegun old new fault ⊎ WasCut eager before after old new fault
 
   -- Behind whole turns it was given up, for this fault, or because it was told to stop; a turn behind them was cut short, if one was. The
-  -- link moved what was given and sent in all of them, which were in time. At Full the inbox's journal has no room for the one record
-  -- that was wanted
+  -- link moved what was given and sent in all of them, which were in time, and the clock was read for each. At Full the inbox's journal has no room
+  -- for the one record that was wanted
   pub record GivenUp (tells : Type 0) (eager : Bool) (why : Option ServeFault) (old new : ConnectionAt J G) : Type 0 where
     pub behind : TurnAt
     pub turns : List Turn
@@ -80,6 +84,7 @@ module _ {J : Type 0} {G : Ghosts J} where
     pub moved : Moved old.told new.told old.carried new.carried (flat_map given_in (turns ++ option_to_list cut))
         (flat_map sent_in (turns ++ option_to_list cut))
     pub refuses : Refuses old.box new.box (adds ++ cut_added) refused
+    pub read : ReadFor old.clock new.clock old.line.machine (moments_in (turns ++ option_to_list cut))
     pub lines : TellsNews (lacks_at why) old.out new.out (news ++ cut_told)
     pub spent : why ≡ Some faults.Turns → IsSpent behind.line turns cut
     pub cut_short : (why ≡ Some faults.Journal → IsSome cut) × ((entries bytes : ℕ) → why ≡ Some (faults.Full entries bytes) → IsSome cut)
@@ -96,15 +101,15 @@ module _ {J : Type 0} {G : Ghosts J} where
     pub agrees : Agrees m box
 
   -- a connection began at this moment, in time, as its clock gave it then, or the machine had it where that is later
-  pub record Begins (old : ConnectionAt J G) (moment clock : ℕ) : Type 0 where
+  pub record Begins (old : ConnectionAt J G) (moment : ℕ) (clock : ClockAt) : Type 0 where
     pub time : IsInTime moment
-    pub is : moment ≡ max clock old.line.machine.moment
-    pub later : old.clock ≤ clock
+    pub is : moment ≡ max clock.last old.line.machine.moment
+    pub read : IsRead old.clock clock
 
   -- a connection began in the machine's state, in time, and its whole turns were made
   pub record TurnedOn (tells : Type 0) (eager : Bool) (old new : ConnectionAt J G) : Type 0 where
     pub moment : ℕ
-    pub clock : ℕ
+    pub clock : ClockAt
     pub began : Begins old moment clock
     pub count : ℕ
     pub turned : Turned tells eager (record old { clock = clock; line = first_line old.line.per_turn old.line.machine moment }) new count
@@ -112,6 +117,6 @@ module _ {J : Type 0} {G : Ghosts J} where
   -- a connection began in the machine's state, in time, and was given up
   pub record GivenUpOn (tells : Type 0) (eager : Bool) (why : Option ServeFault) (old new : ConnectionAt J G) : Type 0 where
     pub moment : ℕ
-    pub clock : ℕ
+    pub clock : ClockAt
     pub began : Begins old moment clock
     pub given_up : GivenUp tells eager why (record old { clock = clock; line = first_line old.line.per_turn old.line.machine moment }) new

@@ -1,11 +1,12 @@
 //! One connection: its turns, one after another, until it ends, is told to stop, or is given up.
 
-ghost use Rattle.std.specs.Prelude.{⊤, ◌≡◌, ℕ, ◌<◌, ◌≤◌, ◌^◌, false, [], ◌++◌, length, Ok, Some, None, IfOk, IfErr, OnOk};
+ghost use Rattle.std.specs.Prelude.{⊤, ◌≡◌, ℕ, ◌<◌, ◌≤◌, ◌^◌, false, [], ◌++◌, length, max, Ok, Some, None, IfOk, IfErr, OnOk};
 ghost use Rattle.gate_senders.specs.Gate.{IsPassAt, senders_of};
 ghost use Rattle.gate_staff.specs.Business.{lock_of};
 ghost use Rattle.conn_serve.specs.Answering.{business_of, refused_in, messages_of, business_at, AnswersMore};
 ghost use Rattle.conn_turns.specs.News.{items_of, delivered_in};
 ghost use Rattle.gw_outside.specs.Faults.{HasRisen};
+ghost use Rattle.gw_links.specs.Clocks.{clock_at, IsRead};
 ghost use Rattle.conn_lines.specs.declared.close.Close.{Close};
 ghost use Rattle.conn_lines.specs.declared.close.Close.TheVariants as closes;
 ghost use Rattle.conn_loop.specs.Ends.{line_in, pass_of, pass_in, box_in, clock_in, in_turn, MayTurn, Stays};
@@ -78,6 +79,8 @@ fn make_turn<L: Link, O: Journal, I: Journal, C: Clock, R: Wait>(
     ensures of_turn { IfErr result IsOfTurn }
     ensures link { (L.place link.new ≡ L.place link.old) × (L.faults link.old ≤ L.faults link.new) }
     ensures lost { result ≡ Ok (Some closes.LinkFault) → HasRisen (L.faults link.old) (L.faults link.new) }
+    ensures read { IsRead (clock_at C.Clock (clock_in end.old)) (clock_at C.Clock (clock_in end.new)) }
+    ensures moment { OnOk result ((line_in end.new).machine.moment ≤ max (C.last (clock_in end.new)) (line_in end.old).machine.moment) }
 {
     end.end().windowed();
     close_of(end.turn(gate, link, news, rt))

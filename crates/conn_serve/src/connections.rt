@@ -12,7 +12,7 @@ ghost use Rattle.conn_serve.specs.Connections.{all_of, adds_of};
 ghost use Rattle.conn_serve.specs.Answers.{end_behind};
 ghost use Rattle.conn_serve.specs.Causes.{IsBlamed};
 ghost use Rattle.conn_serve.specs.Hears.{hears};
-ghost use Rattle.conn_serve.specs.Lives.{life_in, faults_in_life, last_in, machine_in, IsIdle, MayLive, GoesOn, ServedIn};
+ghost use Rattle.conn_serve.specs.Lives.{life_in, faults_in_life, shown_in, machine_in, IsIdle, MayLive, GoesOn, ServedIn};
 ghost use Rattle.conn_serve.specs.Served.{IsRoundOf, IsRound, IsNext};
 ghost use Rattle.conn_serve.specs.Turned.{MayBegin};
 
@@ -90,7 +90,7 @@ fn serve_next<
     requires may { MayLive (hears K.Sink N.Dialer N.Link.Link C.Clock) gate.now life.old }
     ensures idle { IsIdle (hears K.Sink N.Dialer N.Link.Link C.Clock) gate.now life.new }
     ensures goes_on { GoesOn (hears K.Sink N.Dialer N.Link.Link C.Clock) life.old life.new }
-    ensures round { IsRound O.tells (IsRoundOf N.Link.Link (last_in (hears K.Sink N.Dialer N.Link.Link C.Clock) life.old) (last_in (hears K.Sink N.Dialer N.Link.Link C.Clock) life.new) (AnswersMore (AnsweredEach result) (business_at B.stands B.plan B.count B.part answering.old) (business_at B.stands B.plan B.count B.part answering.new) (box_in life.old.end))) number (life_in (hears K.Sink N.Dialer N.Link.Link C.Clock) life.old) (life_in (hears K.Sink N.Dialer N.Link.Link C.Clock) life.new) (machine_in life.old) (machine_in life.new) result }
+    ensures round { IsRound O.tells (IsRoundOf N.Link.Link (shown_in (hears K.Sink N.Dialer N.Link.Link C.Clock) life.old) (shown_in (hears K.Sink N.Dialer N.Link.Link C.Clock) life.new) (machine_in life.old) (machine_in life.new) (AnswersMore (AnsweredEach result) (business_at B.stands B.plan B.count B.part answering.old) (business_at B.stands B.plan B.count B.part answering.new) (box_in life.old.end))) number (life_in (hears K.Sink N.Dialer N.Link.Link C.Clock) life.old) (life_in (hears K.Sink N.Dialer N.Link.Link C.Clock) life.new) (machine_in life.old) (machine_in life.new) result }
     ensures begins { result ≡ Ok None → MayBegin (machine_in life.new) (pass_in life.new.end) (box_in life.new.end) }
     ensures blamed { IfErr result (IsBlamed O.tells (faults_in_life (hears K.Sink N.Dialer N.Link.Link C.Clock) life.old) (faults_in_life (hears K.Sink N.Dialer N.Link.Link C.Clock) life.new)) }
     ensures business { B.has (business_of answering.new) (lock_of gate.now) × (B.count (business_of answering.new) ≡ B.count (business_of answering.old)) × (B.plan (business_of answering.new) ≡ B.plan (business_of answering.old)) }

@@ -3,6 +3,7 @@
 ghost use Rattle.std.specs.Prelude.{◌≡◌, ℕ, ◌≤◌, ◌<◌, false, All, None, length};
 ghost use Rattle.jr_kept.specs.Inbox.{is_broken};
 ghost use Rattle.fixp_machine.specs.Machine.{fresh};
+ghost use Rattle.gw_links.specs.Clocks.{clock_at};
 ghost use Rattle.gate_senders.specs.Gate.{opening_of, senders_of};
 ghost use Rattle.gate_staff.specs.Business.{lock_of};
 ghost use Rattle.gate_staff.specs.Runs.{IsReady, IsAdmitted};
@@ -14,7 +15,7 @@ ghost use Rattle.conn_steps.specs.Settling.{SameKind};
 ghost use Rattle.conn_loop.specs.Ends.{box_in};
 ghost use Rattle.conn_serve.specs.Answering.{business_of, refused_in, business_at, AnsweredSo};
 ghost use Rattle.conn_serve.specs.Hears.{hears};
-ghost use Rattle.conn_serve.specs.Lives.{last_in, machine_in, serving_in, serving_with, answering_in, answering_with, IsIdle, MayOpen, MayLive, GoesOn, Lasts, ComesBack};
+ghost use Rattle.conn_serve.specs.Lives.{shown_in, machine_in, serving_in, serving_with, answering_in, answering_with, IsIdle, MayOpen, MayLive, GoesOn, Lasts, ComesBack};
 ghost use Rattle.conn_serve.specs.Opening.{opened_state, ServedBy, ServedThrough};
 
 use crate::answering::{Answering, resume_business};
@@ -51,7 +52,7 @@ fn serve_beside<
     ensures idle { IsIdle (hears K.Sink N.Dialer N.Link.Link C.Clock) gate.now life.new }
     ensures goes_on { GoesOn (hears K.Sink N.Dialer N.Link.Link C.Clock) life.old life.new }
     ensures ready { All (λ s. IsReady gate.now s) senders.new.senders.items }
-    ensures served { ServedThrough N.Link.Link (last_in (hears K.Sink N.Dialer N.Link.Link C.Clock) life.old) (last_in (hears K.Sink N.Dialer N.Link.Link C.Clock) life.new) gate.now (serving_in (hears K.Sink N.Dialer N.Link.Link C.Clock) life.old senders.old.senders.items) (serving_in (hears K.Sink N.Dialer N.Link.Link C.Clock) life.new senders.new.senders.items) (machine_in life.old) result }
+    ensures served { ServedThrough N.Link.Link (shown_in (hears K.Sink N.Dialer N.Link.Link C.Clock) life.old) (shown_in (hears K.Sink N.Dialer N.Link.Link C.Clock) life.new) gate.now (serving_in (hears K.Sink N.Dialer N.Link.Link C.Clock) life.old senders.old.senders.items) (serving_in (hears K.Sink N.Dialer N.Link.Link C.Clock) life.new senders.new.senders.items) (machine_in life.old) result }
 {
     let entrance = Entrance::new(signals, life.waker());
     let (refused, connections) = beside(
@@ -91,7 +92,7 @@ pub fn serve<K: Sink, N: Dialer, O: Journal + Send, I: Journal, C: Clock, R: Thr
     ensures goes_on { GoesOn (hears K.Sink N.Dialer N.Link.Link C.Clock) life.old life.new }
     ensures ready { All (λ s. IsReady gate.now s) senders.new.senders.items }
     ensures served { ServedBy gate.now (serving_in (hears K.Sink N.Dialer N.Link.Link C.Clock) life.old senders.old.senders.items) (serving_in (hears K.Sink N.Dialer N.Link.Link C.Clock) life.new senders.new.senders.items) (machine_in life.old) result }
-    ensures through { ServedThrough N.Link.Link (last_in (hears K.Sink N.Dialer N.Link.Link C.Clock) life.old) (last_in (hears K.Sink N.Dialer N.Link.Link C.Clock) life.new) gate.now (serving_in (hears K.Sink N.Dialer N.Link.Link C.Clock) life.old senders.old.senders.items) (serving_in (hears K.Sink N.Dialer N.Link.Link C.Clock) life.new senders.new.senders.items) (machine_in life.old) result }
+    ensures through { ServedThrough N.Link.Link (shown_in (hears K.Sink N.Dialer N.Link.Link C.Clock) life.old) (shown_in (hears K.Sink N.Dialer N.Link.Link C.Clock) life.new) gate.now (serving_in (hears K.Sink N.Dialer N.Link.Link C.Clock) life.old senders.old.senders.items) (serving_in (hears K.Sink N.Dialer N.Link.Link C.Clock) life.new senders.new.senders.items) (machine_in life.old) result }
     ensures seated { (made : ℕ) → Seated gate.now senders.old.senders.items made → Seated gate.now senders.new.senders.items made }
     ensures admitted { IsUnrefused result → All IsAdmitted senders.new.senders.items }
     ensures marked { IsUnrefused result → 0 < length senders.old.senders.items → SomeMarked senders.new.senders.items }
@@ -131,7 +132,7 @@ pub fn serve_answering<
     ensures business { B.has (business_of answering.new) (lock_of gate.now) × (B.count (business_of answering.new) ≡ B.count (business_of answering.old)) × (B.plan (business_of answering.new) ≡ B.plan (business_of answering.old)) }
     ensures idle { IsIdle (hears K.Sink N.Dialer N.Link.Link C.Clock) gate.now life.new }
     ensures lasts { Lasts (hears K.Sink N.Dialer N.Link.Link C.Clock) life.old life.new }
-    ensures through { AnsweredSo O.tells N.Link.Link (last_in (hears K.Sink N.Dialer N.Link.Link C.Clock) life.old) (last_in (hears K.Sink N.Dialer N.Link.Link C.Clock) life.new) (answering_in (hears K.Sink N.Dialer N.Link.Link C.Clock) life.old (business_at B.stands B.plan B.count B.part answering.old)) (answering_in (hears K.Sink N.Dialer N.Link.Link C.Clock) life.new (business_at B.stands B.plan B.count B.part answering.new)) (machine_in life.old) result }
+    ensures through { AnsweredSo O.tells N.Link.Link (shown_in (hears K.Sink N.Dialer N.Link.Link C.Clock) life.old) (shown_in (hears K.Sink N.Dialer N.Link.Link C.Clock) life.new) (answering_in (hears K.Sink N.Dialer N.Link.Link C.Clock) life.old (business_at B.stands B.plan B.count B.part answering.old)) (answering_in (hears K.Sink N.Dialer N.Link.Link C.Clock) life.new (business_at B.stands B.plan B.count B.part answering.new)) (machine_in life.old) result }
 {
     resume_business(answering, &mut life.end.inbox, gate, rt);
     if let Some(fault) = answering.refused() {
@@ -164,7 +165,7 @@ pub fn serve_lent<
     ensures comes_back { ComesBack (hears K.Sink N.Dialer N.Link.Link C.Clock) opening.entry.gate.now lent result.1 }
     ensures kind { SameKind lent.inbox result.1.inbox }
     ensures ready { All (λ s. IsReady opening.entry.gate.now s) senders.new.senders.items }
-    ensures through { ServedThrough N.Link.Link (C.last lent.clock) (C.last result.1.clock) opening.entry.gate.now (serving_with (hears K.Sink N.Dialer N.Link.Link C.Clock) lent senders.old.senders.items) (serving_with (hears K.Sink N.Dialer N.Link.Link C.Clock) result.1 senders.new.senders.items) (fresh opening.entry.config (opened_state (opening_of opening.entry.gate.now).history lent.inbox) opening.entry.most) result.0 }
+    ensures through { ServedThrough N.Link.Link (clock_at C.Clock lent.clock) (clock_at C.Clock result.1.clock) opening.entry.gate.now (serving_with (hears K.Sink N.Dialer N.Link.Link C.Clock) lent senders.old.senders.items) (serving_with (hears K.Sink N.Dialer N.Link.Link C.Clock) result.1 senders.new.senders.items) (fresh opening.entry.config (opened_state (opening_of opening.entry.gate.now).history lent.inbox) opening.entry.most) result.0 }
     ensures seated { (made : ℕ) → Seated opening.entry.gate.now senders.old.senders.items made → Seated opening.entry.gate.now senders.new.senders.items made }
     ensures admitted { IsUnrefused result.0 → All IsAdmitted senders.new.senders.items }
     ensures marked { IsUnrefused result.0 → 0 < length senders.old.senders.items → SomeMarked senders.new.senders.items }
@@ -204,7 +205,7 @@ pub fn answer_lent<
     requires may { MayOpen (hears K.Sink N.Dialer N.Link.Link C.Clock) opening.gate.now opening.config opening.most lent }
     ensures business { B.has (business_of answering.new) (lock_of opening.entry.gate.now) × (B.count (business_of answering.new) ≡ B.count (business_of answering.old)) × (B.plan (business_of answering.new) ≡ B.plan (business_of answering.old)) }
     ensures comes_back { ComesBack (hears K.Sink N.Dialer N.Link.Link C.Clock) opening.entry.gate.now lent result.1 }
-    ensures through { AnsweredSo O.tells N.Link.Link (C.last lent.clock) (C.last result.1.clock) (answering_with (hears K.Sink N.Dialer N.Link.Link C.Clock) lent (business_at B.stands B.plan B.count B.part answering.old)) (answering_with (hears K.Sink N.Dialer N.Link.Link C.Clock) result.1 (business_at B.stands B.plan B.count B.part answering.new)) (fresh opening.entry.config (opened_state (opening_of opening.entry.gate.now).history lent.inbox) opening.entry.most) result.0 }
+    ensures through { AnsweredSo O.tells N.Link.Link (clock_at C.Clock lent.clock) (clock_at C.Clock result.1.clock) (answering_with (hears K.Sink N.Dialer N.Link.Link C.Clock) lent (business_at B.stands B.plan B.count B.part answering.old)) (answering_with (hears K.Sink N.Dialer N.Link.Link C.Clock) result.1 (business_at B.stands B.plan B.count B.part answering.new)) (fresh opening.entry.config (opened_state (opening_of opening.entry.gate.now).history lent.inbox) opening.entry.most) result.0 }
 {
     let gate = opening.gate;
     let mut life = match Life::new(opening, lent) {

@@ -2,6 +2,7 @@
 use Rattle.std.proofs.Common.{◌≡◌, ℕ, ◌+◌, ◌≤◌, List, length, sym, subst, ◌∙◌}
 use Rattle.std.specs.Prelude.{Option, Some, IfErr}
 use Rattle.fixp_machine.specs.Machine.{State}
+use Rattle.gw_links.specs.Clocks.{ClockAt}
 use Rattle.gw_links.specs.Dialers.{DialerTold}
 use Rattle.gw_links.specs.declared.link.Link.{Ghosts as LinkGhosts}
 use Rattle.text_words.specs.Lines.{lines_in}
@@ -37,7 +38,7 @@ use Rattle.fed_laws.proofs.Fed as feeding
 use Rattle.fed_laws.proofs.Served.{few_from, opened_from, many, plans_many, marking, served_by}
 use Rattle.fed_laws.proofs.Told.{fed_with, marks_done}
 
-module _ {J I L : Type 0} {G : Ghosts J} {K : Ghosts I} (links : LinkGhosts L) (gate : Gate J G) (before behind : ℕ) (a : Account) (seated counted after : List (Sender J G)) (old new : Passes (Kept J G)) (pass : Pass (Kept J G)) (first now : Part)
+module _ {J I L : Type 0} {G : Ghosts J} {K : Ghosts I} (links : LinkGhosts L) (gate : Gate J G) (before behind : ClockAt) (a : Account) (seated counted after : List (Sender J G)) (old new : Passes (Kept J G)) (pass : Pass (Kept J G)) (first now : Part)
     (w : FedPasses gate a seated counted after old new pass first now) (start last : Point) (left left' : Option (List ℕ)) (fed : Fed) (start_is : start.parts ≡ parts_of counted) (last_is : parts_of after ≡ last.parts) (b : FedBy start last left left' fed.end fed.refused)
     (dialed later : Option DialerTold) (out now_out : Option (List ℕ)) (out_faults now_out_faults dial_faults now_dial_faults : ℕ) (m : State) (box since : Inbox I K)
     (served : ServedOver G.tells links before behind (life_at dialed out first.seen box) (life_at later now_out now.seen since) m fed.connections)

@@ -1,6 +1,7 @@
 -- The law of a life that is fed (this project's profile).
 use Rattle.std.specs.Prelude.{◌≡◌, ℕ, suc, ◌+◌, ◌<◌, ◌≤◌, List, length, slice_index_or, Option, Some, Result, IfErr}
 use Rattle.fixp_machine.specs.Machine.{State}
+use Rattle.gw_links.specs.Clocks.{ClockAt}
 use Rattle.gw_links.specs.Dialers.{DialerTold}
 use Rattle.gw_links.specs.declared.link.Link.{Ghosts as LinkGhosts}
 use Rattle.jr_dated.specs.declared.journal.Journal.{Ghosts}
@@ -66,7 +67,7 @@ module _ {J : Type 0} {G : Ghosts J} where
 -- it met one (`fed_refusal`)
 abbrev pub FeedingIsByPlans : {J I L : Type 0} {G : Ghosts J} {K : Ghosts I} → LinkGhosts L → Gate J G → Inbox I K → Type 0
 FeedingIsByPlans {J} {I} {L} {G} {K} links gate box =
-    (before behind : ℕ) (a : Account) (seated counted after : List (Sender J G)) (old new : Passes (Kept J G)) (pass : Pass (Kept J G)) (first now : Part)
+    (before behind : ClockAt) (a : Account) (seated counted after : List (Sender J G)) (old new : Passes (Kept J G)) (pass : Pass (Kept J G)) (first now : Part)
     → FedPasses gate a seated counted after old new pass first now
     → (start last : Point) (left left' : Option (List ℕ)) (end : FeedEnd) (mark : Option ServeFault)
     → start.parts ≡ parts_of counted → parts_of after ≡ last.parts

@@ -7,6 +7,7 @@ use Rattle.session_model.specs.Plans.{GoesOn}
 use Rattle.session_model.specs.Lives.{Life, KeepsOutbox}
 use Rattle.fixp_shake.specs.declared.config.EndConfig.{EndConfig}
 use Rattle.fixp_machine.specs.Machine.{State, fresh}
+use Rattle.gw_links.specs.Clocks.{ClockAt}
 use Rattle.gw_links.specs.Dialers.{DialerTold}
 use Rattle.gw_links.specs.declared.link.Link.{Ghosts as LinkGhosts}
 use Rattle.jr_dated.specs.declared.journal.Journal.{Ghosts}
@@ -86,7 +87,7 @@ module _ {B J : Type 0} {G : Ghosts J} (stands : B → List (List ℕ) → Type 
     -- inbox held, and a beginning of what the connections added
     abbrev pub AnsweredPasses : Inbox J G → Type 0
     AnsweredPasses box =
-        (old new : LifeWith B J G) (before behind : ℕ) (m : State) (result : Result (Unit {0}) ServeFault) (opening : Account) (known : ℕ → Part)
+        (old new : LifeWith B J G) (before behind : ClockAt) (m : State) (result : Result (Unit {0}) ServeFault) (opening : Account) (known : ℕ → Part)
         (inbox : List InboxRecord)
         → G.tells → HoldsBox old.box inbox [] → UsedPasses opening known (around old) (around new)
         → (s : AnsweredSo tells links before behind (around old) (around new) m result)
@@ -96,7 +97,7 @@ module _ {B J : Type 0} {G : Ghosts J} (stands : B → List (List ℕ) → Type 
     -- And so such a life keeps its outbox by the plan of its business, once the gate is closed, where each may be left that a stop may leave
     abbrev pub AnsweringKeepsOutbox : Inbox J G → Type 0
     AnsweringKeepsOutbox box =
-        (old new : LifeWith B J G) (before behind : ℕ) (m : State) (result : Result (Unit {0}) ServeFault) (opening now : Account) (known : ℕ → Part)
+        (old new : LifeWith B J G) (before behind : ClockAt) (m : State) (result : Result (Unit {0}) ServeFault) (opening now : Account) (known : ℕ → Part)
         (inbox : List InboxRecord) (life : Life)
         → G.tells → HoldsBox old.box inbox [] → UsedPasses opening known (around old) (around new)
         → (s : AnsweredSo tells links before behind (around old) (around new) m result)
@@ -107,7 +108,7 @@ module _ {B J : Type 0} {G : Ghosts J} (stands : B → List (List ℕ) → Type 
     -- Its outbox keeps what its senders were to send, and goes on with all that was lost with a failed call
     abbrev pub AnsweringKeepsSenders : Inbox J G → Type 0
     AnsweringKeepsSenders box =
-        (old new : LifeWith B J G) (before behind : ℕ) (m : State) (result : Result (Unit {0}) ServeFault) (opening now : Account) (known : ℕ → Part)
+        (old new : LifeWith B J G) (before behind : ClockAt) (m : State) (result : Result (Unit {0}) ServeFault) (opening now : Account) (known : ℕ → Part)
         (inbox : List InboxRecord)
         → G.tells → HoldsBox old.box inbox [] → UsedPasses opening known (around old) (around new)
         → (s : AnsweredSo tells links before behind (around old) (around new) m result) → Closed known (known 1).made opening now
@@ -119,7 +120,7 @@ module _ {B J : Type 0} {G : Ghosts J} (stands : B → List (List ℕ) → Type 
     -- broken and held some records
     abbrev pub AnsweringIsLived : Inbox J G → Type 0
     AnsweringIsLived box =
-        (old new : LifeWith B J G) (before behind : ℕ) (config : EndConfig) (result : Result (Unit {0}) ServeFault) (gate : Gate O H) (passes : Passes (Kept O H))
+        (old new : LifeWith B J G) (before behind : ClockAt) (config : EndConfig) (result : Result (Unit {0}) ServeFault) (gate : Gate O H) (passes : Passes (Kept O H))
         → is_broken old.box ≡ false → ∥ ((i : List InboxRecord) × HoldsBox old.box i []) ∥₁ → UsedPasses (opening_of gate) (known_at passes) (around old) (around new)
         → GoesOn (plan old.answering.business) → limits_of new.box ≡ limits_of old.box
         → AnsweredSo H.tells links before behind (around old) (around new) (fresh config (opened_state (opening_of gate).history old.box) (2 ^ 26)) result

@@ -7,6 +7,7 @@ use Rattle.session_model.specs.Lives.{Life, KeepsOutbox}
 use Rattle.fixp_msgs.specs.declared.flow.Flow.{Flow}
 use Rattle.fixp_shake.specs.declared.config.EndConfig.{EndConfig}
 use Rattle.fixp_machine.specs.Machine.{State, fresh}
+use Rattle.gw_links.specs.Clocks.{ClockAt}
 use Rattle.gw_links.specs.declared.link.Link.{Ghosts as LinkGhosts}
 use Rattle.jr_dated.specs.declared.journal.Journal.{Ghosts}
 use Rattle.jr_boxes.specs.declared.faults.Which.{Which}
@@ -38,14 +39,14 @@ use Rattle.conn_serve.specs.Opening.{opened_state}
 use Rattle.life_laws.specs.Plans.{plan_in, PlansMade, Senders, plans_at, SentAll, KeepsSenders}
 
 -- What a life is served over: whether the outbox's disk tells its content; links, as the contracts of its dialer have them; and what its clock
--- gave last before and behind it
+-- showed before and behind it
 pub record Clocked (L : Type 0) : Type 1 where
   pub tells : Type 0
   pub links : LinkGhosts L
-  pub before : ℕ
-  pub behind : ℕ
+  pub before : ClockAt
+  pub behind : ClockAt
 
-abbrev pub clocked : {L : Type 0} → (tells : Type 0) → LinkGhosts L → (before behind : ℕ) → Clocked L
+abbrev pub clocked : {L : Type 0} → (tells : Type 0) → LinkGhosts L → (before behind : ClockAt) → Clocked L
 clocked tells links before behind = record { tells = tells; links = links; before = before; behind = behind }
 
 -- of what so many passes know, this is so of one

@@ -1,9 +1,9 @@
 -- The sample of several runs of two ends, computed.
-use Rattle.std.proofs.Common.{◌≡◌, ◌⊎◌, inl, inr, ℕ, zero, suc, ◌+◌, ◌<◌, ◌^◌, Bool, true, false, true≢false, cond, ◌==◌, List, [], ◌∷◌, ◌++◌, map, length, drop, Option, Some, None, Ok, Err, Result, refl, sym, ap, subst, ◌∙◌, append-nil, arith}
+use Rattle.std.proofs.Common.{◌≡◌, ◌⊎◌, inl, inr, ℕ, zero, suc, ◌+◌, ◌≤◌, ◌<◌, ◌^◌, Bool, true, false, true≢false, cond, ◌==◌, List, [], ◌∷◌, ◌++◌, map, length, drop, Option, Some, None, Ok, Err, Result, refl, sym, ap, subst, ◌∙◌, append-nil, arith}
 use Rattle.std.specs.Prelude.{option_to_list, IsSomeAnd, IfSome}
 use Rattle.sofh_frame.specs.Framing.{IsBytes}
 use Rattle.std.specs.Option.{ForSome}
-use Rattle.std.specs.List.{All}
+use Rattle.std.specs.List.{All, AllByRecursion, flat_map}
 use Rattle.std.proofs.lemmas.Option.{none-some, same_Some}
 use Rattle.session_model.specs.Journal.{Entry, OutboxRecord, entry, entries, History, InOrder, counts_from}
 use Rattle.session_model.specs.Inbox.{InboxRecord}
@@ -30,6 +30,7 @@ use Rattle.conn_turns.specs.declared.answer.TurnEnd.TheVariants as turn_ends
 use Rattle.conn_turns.specs.declared.answer.TurnFault.TheVariants as turn_faults
 use Rattle.std.proofs.lemmas.List.Elements.{All-from_recursion}
 use Rattle.connection_laws.specs.Living.{Opens}
+use Rattle.gw_links.proofs.Reading.{later_self}
 use Rattle.gw_links.specs.Links.{Carried}
 use Rattle.turn_laws.specs.Legs.{TurnedLeg, IsTimely, first_line}
 use Rattle.turn_laws.specs.Standing.{Has}
@@ -53,7 +54,9 @@ use Rattle.conn_door.specs.declared.answer.ServeFault.{ServeFault}
 use Rattle.conn_door.specs.declared.answer.ServeFault.TheVariants as faults
 use Rattle.conn_door.specs.declared.answer.LifeEnd.{LifeEnd}
 use Rattle.conn_door.specs.declared.answer.LifeEnd.TheVariants as ends
-use Rattle.conn_serve.specs.Connections.{LinkSeen, IsOver, ByClock, Connection, all_of, MadeNoMore, IsConnection, AllEnded, IsFollowed, IsFaithfulLeg, adds_of, refused_of_all}
+use Rattle.conn_serve.specs.Connections.{LinkSeen, IsOver, ByClock, Connection, all_of, MadeNoMore, IsConnection, AllEnded, IsFollowed, IsFaithfulLeg, adds_of, refused_of_all, turned}
+use Rattle.conn_serve.specs.Clocked.{moments_of, ReadFor}
+use Rattle.conn_serve.proofs.Reading.{none_read}
 use Rattle.conn_door.specs.Answers.{answer_of, IsOfSender, IsUnrefused}
 use Rattle.conn_steps.specs.Settling.{HaveRoom}
 use Rattle.conn_steps.proofs.Rooms.{gains_none, refuses_none}
@@ -171,6 +174,10 @@ outbox_one = record { spelled = refl; senders = ((omega arith, omega arith), tt)
 pub told_so : {A : Type 0} (P : A → Type 0) (x : A) → P x → ForSome (Some x) P
 told_so P x p y e = subst P (same_Some x y e) p
 
+-- a clock that gives 0 was read for three moments at most, each of which is 0
+read_at_zero : (m : State) (moments : List ℕ) → AllByRecursion (λ (now : ℕ). now ≡ 0) moments → length moments ≤ 3 → ReadFor (memory.clock 0) (memory.clock 3) m moments
+read_at_zero m moments zeros few = record { later = record { told = refl; last = omega arith; readings = omega arith }; counted = omega (arith, few); shown = λ ahead. zeros }
+
 -- ---- lives that add nothing to either box
 
 keeps_same : (plans : List (List (List ℕ))) (h : History) → h.finished ≡ false → KeepsPlans plans h h
@@ -186,7 +193,7 @@ module _ {J : Type 0} {G : Ghosts J} (box : Inbox J G) (held : HoldsBox box [] [
     (j : IsJournal (journal_of h) (records_of_history h)) (before after : MemoryOutside) (out_is : before.out_disk ≡ settled h) (in_was : before.in_disk ≡ settled nothing) (in_is : after.in_disk ≡ settled nothing)
     (connections : Result LifeEnd ServeFault) (refused : Option ServeFault) (of_sender : IfSome refused IsOfSender) (result : Result (Unit {0}) ServeFault) (answer : result ≡ answer_of connections refused)
     (unfinished : connections ≡ Ok ends.Finished → ⊥)
-    (served : ServedOver G.tells memory.links (memory.last before.clock) (memory.last after.clock) (life_at (memory.carried before.dialer) (memory.taken before.out) h box) (life_at (memory.carried after.dialer) (memory.taken after.out) h box) (fresh config (opened_state h box) (2 ^ 26)) connections)
+    (served : ServedOver G.tells memory.links (memory.clock before.clock) (memory.clock after.clock) (life_at (memory.carried before.dialer) (memory.taken before.out) h box) (life_at (memory.carried after.dialer) (memory.taken after.out) h box) (fresh config (opened_state h box) (2 ^ 26)) connections)
     (adds : adds_of (all_of served.life.ended served.life.given_up) ≡ []) (none : refused_of_all (option_to_list served.life.given_up) ≡ [])
     (out_left : ∥ LeavesImages (memory.may_leave after.out_disk) (records_of_history h) (map record_of lost) ∥₁)
     (out_whole : (HasRisen (memory.disk before.out_disk) (memory.disk after.out_disk) → ⊥) → lost ≡ [])
@@ -321,7 +328,7 @@ module _ {J : Type 0} {G : Ghosts J} (box : Inbox J G) (held : HoldsBox box [] [
 
   abbrev first_lived : LivedOver memory (end_of role configured.link) (submitting first_plans) first.before first.after box box (Err faults.Journal)
   first_lived = quiet box held (end_of role configured.link) first_plans nothing (entry submitted ∷ []) loses_first (λ s. refl) refl (omega arith) journal_nothing first.before first.after refl refl refl
-      (Ok ends.Stopped) (Some faults.Journal) tt (Err faults.Journal) refl (λ e. cc e) (record { life = none_served; links = tt; clock = omega arith }) refl refl ∣ torn_leaves ∣₁ (λ never. absurd (never (omega arith))) (λ unrefused some. absurd (true≢false (sym unrefused))) (λ unmet some. cc unmet)
+      (Ok ends.Stopped) (Some faults.Journal) tt (Err faults.Journal) refl (λ e. cc e) (record { life = none_served; links = tt; clock = omega arith; read = none_read (memory.clock 0) (memory.clock 0) (fresh (end_of role configured.link) (opened_state nothing box) (2 ^ 26)) (later_self (memory.clock 0)) }) refl refl ∣ torn_leaves ∣₁ (λ never. absurd (never (omega arith))) (λ unrefused some. absurd (true≢false (sym unrefused))) (λ unmet some. cc unmet)
       (λ e. inl (omega arith)) journal_not_changed journal_not_full
 
 -- no plan goes on from anything
@@ -367,13 +374,14 @@ module _ {J : Type 0} {G : Ghosts J} (box : Inbox J G) (held : HoldsBox box [] [
 
   module _ (order : InOrder h.made) (unmarked : h.finished ≡ false) (few : length h.made < 2 ^ 40) (j : IsJournal (journal_of h) (records_of_history h)) (text : List ℕ)
       (ended : AllEnded h h (fresh (end_of role configured.link) (opened_state h box) (2 ^ 26)) mid (connection ∷ [])) (phase : phase_of mid ≡ Ended) (timely : IsTimely leg) (faithful : IsFaithfulLeg leg)
-      (over : IsOver memory_links link) (by_clock : ByClock 0 0 (connection ∷ [])) where
+      (over : IsOver memory_links link) (by_clock : ByClock 0 0 (connection ∷ []))
+      (read : ReadFor (memory.clock 0) (memory.clock 3) (fresh (end_of role configured.link) (opened_state h box) (2 ^ 26)) (flat_map moments_of (turned (connection ∷ [])))) where
     abbrev second : MemoryRun
     second = cut_run text h carried
 
     abbrev second_lived : LivedOver memory (end_of role configured.link) (submitting []) second.before second.after box box (Err (faults.Unfinished Ended))
     second_lived = quiet box held (end_of role configured.link) [] h [] (inl refl) order unmarked few j second.before second.after refl refl refl (Err (faults.Unfinished Ended)) None tt (Err (faults.Unfinished Ended)) refl (λ e. cc e)
-        (record { life = cut_served ended phase timely faithful; links = (over, tt); clock = by_clock }) refl refl ∣ settled_leaves h j ∣₁ (λ never. refl) (λ unrefused some. absurd (omega (arith, some))) (λ unmet some. absurd (omega (arith, some))) (λ e. absurd (cut_no_journal e)) cut_not_changed cut_not_full
+        (record { life = cut_served ended phase timely faithful; links = (over, tt); clock = by_clock; read = read }) refl refl ∣ settled_leaves h j ∣₁ (λ never. refl) (λ unrefused some. absurd (omega (arith, some))) (λ unmet some. absurd (omega (arith, some))) (λ e. absurd (cut_no_journal e)) cut_not_changed cut_not_full
 
 -- what is recorded as a life opens on an inbox without records
 abbrev found_state : History → EndState
@@ -713,7 +721,7 @@ module _ {J : Type 0} {G : Ghosts J} (box : Inbox J G) where
         inbox = journal_of nothing;
         over = runs_over box held Initiator text spelled with_one of_initiator (inr (inl refl))
             (was box held Initiator text spelled (cut_run text with_one of_initiator) with_one [] (no_plans with_one) (Err (faults.Unfinished Ended)) refl refl refl refl journal_one outbox_one refl tt (λ e. cc) (λ e. cc)
-            (second_lived box held Initiator with_one last_i.machine link_i leg_i of_initiator in_order refl (omega arith) journal_one text ended refl timely_i (tt, tt) (over_memory first_i end_i) (omega arith, omega arith)));
+            (second_lived box held Initiator with_one last_i.machine link_i leg_i of_initiator in_order refl (omega arith) journal_one text ended refl timely_i (tt, tt) (over_memory first_i end_i) (omega arith, omega arith) (read_at_zero _ _ (refl, (refl, tt)) (omega arith))));
         outbox_is = journal_one;
         inbox_is = journal_nothing;
         payloads = (is_application, tt);
@@ -728,7 +736,7 @@ module _ {J : Type 0} {G : Ghosts J} (box : Inbox J G) where
         inbox = journal_of nothing;
         over = runs_over box held Acceptor text spelled nothing of_acceptor (inl refl)
             (was box held Acceptor text spelled (cut_run text nothing of_acceptor) nothing [] (no_plans nothing) (Err (faults.Unfinished Ended)) refl refl refl refl journal_nothing outbox_nothing refl tt (λ e. cc) (λ e. cc)
-            (second_lived box held Acceptor nothing last_a.machine link_a leg_a of_acceptor (λ s. refl) refl (omega arith) journal_nothing text ended refl timely_a ((refl, refl), (tt, tt)) (over_memory first_a end_a) (omega arith, omega arith)));
+            (second_lived box held Acceptor nothing last_a.machine link_a leg_a of_acceptor (λ s. refl) refl (omega arith) journal_nothing text ended refl timely_a ((refl, refl), (tt, tt)) (over_memory first_a end_a) (omega arith, omega arith) (read_at_zero _ _ (refl, (refl, (refl, tt))) (omega arith))));
         outbox_is = journal_nothing;
         inbox_is = journal_nothing;
         payloads = tt;
@@ -767,7 +775,7 @@ module _ {J : Type 0} {G : Ghosts J} (box : Inbox J G) (held : HoldsBox box [] [
 
   -- the life that it is with no senders
   abbrev alike : LivedOver memory (end_of Acceptor configured.link) (submitting []) cut.before cut.after box box (Err (faults.Unfinished Ended))
-  alike = second_lived box held Acceptor nothing last_a.machine link_a leg_a of_acceptor (λ s. refl) refl (omega arith) journal_nothing text ended_here refl timely_a ((refl, refl), (tt, tt)) (over_memory first_a end_a) (omega arith, omega arith)
+  alike = second_lived box held Acceptor nothing last_a.machine link_a leg_a of_acceptor (λ s. refl) refl (omega arith) journal_nothing text ended_here refl timely_a ((refl, refl), (tt, tt)) (over_memory first_a end_a) (omega arith, omega arith) (read_at_zero _ _ (refl, (refl, (refl, tt))) (omega arith))
 
   desks_keep : (t : G.tells) → KeepsOutbox desks.plan (life_in (machine_life (alike.life t).life))
   desks_keep t =

@@ -19,7 +19,7 @@ left_with h = record { history = h; inbox = [] }
 -- both journals are as they were
 abbrev pub looked_at : List ℕ → History → MemoryRun
 looked_at text found =
-    record { before = devices text [] (settled found) one_left; after = devices text [] (settled found) one_left; status = Done }
+    record { before = devices text [] (settled found) one_left 0; after = devices text [] (settled found) one_left 0; status = Done }
 
 abbrev pub later_of_initiator : List ℕ → List MemoryRun
 later_of_initiator text = looked_at text with_one ∷ cut_run text with_one of_initiator ∷ []

@@ -88,8 +88,8 @@ memory_links = record {
   faults = λ link. link.failed;
 }
 
--- devices in memory tell all; a source that was read tells nothing of what it has left; and the clock gives 0
-abbrev pub memory : Sees (Option (List ℕ)) (List ℕ) MemoryDisk DialerTold (Unit {0})
+-- devices in memory tell all; a source that was read tells nothing of what it has left; and the clock gives 0, and is known by how often it was read
+abbrev pub memory : Sees (Option (List ℕ)) (List ℕ) MemoryDisk DialerTold ℕ
 memory = record {
   left = λ text. text;
   taken = λ out. Some out;
@@ -98,7 +98,7 @@ memory = record {
   carried = λ dialer. Some dialer;
   Link = MemoryLink;
   links = memory_links;
-  last = λ _. 0;
+  clock = λ readings. record { told = Some 0; last = 0; readings = readings };
   source = λ _. 0;
   sink = λ _. 0;
   disk = λ disk. disk.failed;
@@ -106,7 +106,7 @@ memory = record {
 }
 
 -- and so where a session is fed; an OUT in memory keeps what it takes
-abbrev pub fed_memory : FeedSees (Option (List ℕ)) (Option (List ℕ)) (List ℕ) (List ℕ) MemoryDisk DialerTold (Unit {0})
+abbrev pub fed_memory : FeedSees (Option (List ℕ)) (Option (List ℕ)) (List ℕ) (List ℕ) MemoryDisk DialerTold ℕ
 fed_memory = record {
   session = memory;
   keeps = true;
@@ -127,25 +127,25 @@ abbrev pub one_left : DialerTold
 one_left = record { left = 1; back = [] }
 
 abbrev pub MemoryOutside : Type 0
-MemoryOutside = SessionOutside (Option (List ℕ)) (List ℕ) MemoryDisk DialerTold (Unit {0})
+MemoryOutside = SessionOutside (Option (List ℕ)) (List ℕ) MemoryDisk DialerTold ℕ
 
-abbrev pub devices : (text out : List ℕ) → MemoryDisk → DialerTold → MemoryOutside
-devices text out out_disk dialer =
-    record { config = Some text; input = None; out = out; out_disk = out_disk; in_disk = settled nothing; dialer = dialer; clock = tt }
+abbrev pub devices : (text out : List ℕ) → MemoryDisk → DialerTold → (readings : ℕ) → MemoryOutside
+devices text out out_disk dialer readings =
+    record { config = Some text; input = None; out = out; out_disk = out_disk; in_disk = settled nothing; dialer = dialer; clock = readings }
 
 abbrev pub MemoryRun : Type 0
-MemoryRun = Run (Option (List ℕ)) (List ℕ) MemoryDisk DialerTold (Unit {0})
+MemoryRun = Run (Option (List ℕ)) (List ℕ) MemoryDisk DialerTold ℕ
 
 -- no connection came, and the append of the entry failed
 abbrev pub stopped_run : List ℕ → MemoryRun
 stopped_run text =
-    record { before = devices text [] (settled nothing) one_left; after = devices text [] torn one_left; status = JournalFault }
+    record { before = devices text [] (settled nothing) one_left 0; after = devices text [] torn one_left 0; status = JournalFault }
 
--- the one connection ended as its link failed
+-- the one connection ended as its link failed, behind two turns at most: the clock was read as it began and in each of them
 abbrev pub cut_run : List ℕ → History → Carried → MemoryRun
 cut_run text found carried = record {
-  before = devices text [] (settled found) one_left;
-  after = devices text (connection_line 1 LinkFault) (settled found) (record { left = 0; back = Some carried ∷ [] });
+  before = devices text [] (settled found) one_left 0;
+  after = devices text (connection_line 1 LinkFault) (settled found) (record { left = 0; back = Some carried ∷ [] }) 3;
   status = Unfinished Ended;
 }
 

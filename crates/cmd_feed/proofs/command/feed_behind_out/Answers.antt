@@ -1,6 +1,8 @@
 use Rattle.std.proofs.Common.{inl, inr, ⊎_elim, ℕ, ◌≤◌, refl, sym, ap, ◌∙◌, subst, arith}
 use Rattle.std.specs.Io.KnownBytes.{Keeps}
 use Rattle.gw_outside.specs.Faults.{HasRisen}
+use Rattle.gw_links.specs.Clocks.{clock_at}
+use Rattle.gw_links.proofs.Reading.{read_by}
 use Rattle.jr_segments.specs.declared.journal.SegJournal.{SegJournal}
 use Rattle.jr_segments.specs.Journal.{disk_of}
 use Rattle.jr_dated.specs.declared.limits.Limits.{Limits}
@@ -88,7 +90,7 @@ returns-clause-ended g c = λ first config disks a.
           (ap (λ (x : Limits). x.entries) c.at.ensures.same.limits ∙ a.limit.0, ap (λ (x : Limits). x.bytes) c.at.ensures.same.limits ∙ a.limit.1) c.in-Ok.ensures.limit.1 out_same in_same
           (subst (λ (n : ℕ). g.D.Disk.faults disks.outbox ≤ n) (sym c.at.ensures.same.faults) a.out_least) (let least = c.in-Ok.ensures.never_falls in omega (arith, least, a.in_least))
           c.close_outbox-2.ensures.faults c.close_inbox-2.ensures.faults
-          c.now-now.new.self (subst (λ (n : ℕ). g.C.Clock.last c.args.on.live.clock ≤ n) (sym c.now-now.ensures.last) c.now-now.ensures.never_falls)
+          c.now-now.new.self (read_by (clock_at g.C.Clock c.args.on.live.clock) (clock_at g.C.Clock c.now-now.new.self) _ c.now-now.ensures.never_falls c.now-now.ensures.last c.now-now.ensures.value c.now-now.ensures.stands c.now-now.ensures.counted c.now-now.ensures.counts_on).later
           (g.A.Sink.taken c.begin.new.sink) c.in-Ok-begin.ensures.nothing h))
           live.ensures.lived;
     }))

@@ -4,6 +4,7 @@ use Rattle.gate_turn.specs.Places.{known}
 use Rattle.gate_turn.specs.Listed.{pass_at}
 use Rattle.gate_senders.specs.Gate.{opening_of}
 use Rattle.gate_staff.specs.Seats.{Seated, HasTheirs, HasBehind}
+use Rattle.gw_links.specs.Clocks.{clock_at}
 use Rattle.conn_door.specs.declared.answer.ServeFault.TheVariants as faults
 use Rattle.conn_feed.specs.Course.{point_of}
 use Rattle.life_laws.specs.PlanLives.{clocked}
@@ -53,7 +54,7 @@ returns-clause-fed g c =
     let taken = subst (λ (k : ℕ). pass_at c.seat-senders.new.passes (k + 1) ≡ Some last) c.len-count.ensures c.take_last-pass.ensures.there in
     let part = part_at c.args.passes.now c.seat-senders.new.passes last (n + 1) _ (c.requires.made.each (n + 1) (record { from_one = omega arith; up_to = omega arith })).1 (c.seat-senders.ensures.others (n + 1) (omega arith)) taken in
     let of_made = if n + 1 == 1 then n + 1 else 0 in
-    fed_moved (clocked g.O.Journal.tells g.N.Link.Link (g.C.Clock.last c.args.devices.clock) (g.C.Clock.last served.result.1.clock)) _ _ _ _ _ _ _ _ _ _ _ _ _ _ long
+    fed_moved (clocked g.O.Journal.tells g.N.Link.Link (clock_at g.C.Clock c.args.devices.clock) (clock_at g.C.Clock served.result.1.clock)) _ _ _ _ _ _ _ _ _ _ _ _ _ _ long
     (ap g.A.Sink.taken c.new-feeder.ensures.accepted) (ap g.A.Sink.taken (sym given.accepted))
     (fed_at g.N.Link.Link gate _ _ (opening_of gate) seated.items counted.items after.items c.give_last.new.passes c.unseat.new.passes served.result.1.pass (known last) (known served.result.1.pass) (record {
       few = omega (arith, long, c.requires.few);

@@ -7,6 +7,7 @@ use Rattle.gate_turn.specs.Listed.{known_at}
 use Rattle.gate_turn.specs.Places.{known}
 use Rattle.gate_senders.specs.Gate.{opening_of, senders_of}
 use Rattle.gate_staff.specs.Business.{lock_of, HasThese}
+use Rattle.gw_links.specs.Clocks.{clock_at}
 use Rattle.conn_serve.specs.Moments.{beside}
 use Rattle.order_gate.specs.Desks as desks
 use Rattle.order_book_gate.specs.Desk as book_desk
@@ -75,7 +76,7 @@ returns-in-Ok-clause-lived g c =
     let served = c.serve_business in
     let made = c.in-Ok.ensures.made in
     let terms = c.in-Desks.terms in
-    let over = clocked g.O.Journal.tells g.N.Link.Link (g.C.Clock.last c.args.devices.clock) (g.C.Clock.last served.result.devices.clock) in
+    let over = clocked g.O.Journal.tells g.N.Link.Link (clock_at g.C.Clock c.args.devices.clock) (clock_at g.C.Clock served.result.devices.clock) in
     let old = beside (g.N.Dialer.told c.args.devices.dialer) (g.K.Sink.taken c.args.devices.out) c.args.inbox in
     let new = beside (g.N.Dialer.told served.result.devices.dialer) (g.K.Sink.taken served.result.devices.out) served.result.inbox in
     let same : answering (desks.plan_of c.in-Ok.desks) c.in-Ok.desks.desks ≡ answering (plan_of c.args.answerer) (desks_of c.args.answerer) =
@@ -86,7 +87,7 @@ returns-in-Ok-clause-lived g c =
 pub returns-in-Ok-new-clause-lived : goal.returns-in-Ok-new-clause-lived
 returns-in-Ok-new-clause-lived g c =
     let served = c.serve_business-in-Ok-new in
-    let over = clocked g.O.Journal.tells g.N.Link.Link (g.C.Clock.last c.args.devices.clock) (g.C.Clock.last served.result.devices.clock) in
+    let over = clocked g.O.Journal.tells g.N.Link.Link (clock_at g.C.Clock c.args.devices.clock) (clock_at g.C.Clock served.result.devices.clock) in
     let old = beside (g.N.Dialer.told c.args.devices.dialer) (g.K.Sink.taken c.args.devices.out) c.args.inbox in
     let new = beside (g.N.Dialer.told served.result.devices.dialer) (g.K.Sink.taken served.result.devices.out) served.result.inbox in
     let same : answering (book_desk.plan_of c.in-Ok-new.book) (book_desk.count_of c.in-Ok-new.book) ≡ answering (plan_of c.args.answerer) (desks_of c.args.answerer) =

@@ -6,6 +6,7 @@ use Rattle.gate_turn.specs.Listed.{known_at}
 use Rattle.gate_turn.specs.Places.{known}
 use Rattle.gate_senders.specs.Gate.{opening_of}
 use Rattle.gate_staff.specs.Business.{lock_of, HasThese}
+use Rattle.gw_links.specs.Clocks.{clock_at}
 use Rattle.conn_door.specs.declared.answer.ServeFault.TheVariants as faults
 use Rattle.conn_serve.specs.Moments.{beside}
 use Rattle.life_laws.specs.PlanLives.{clocked, LivesOnceClosed}
@@ -50,7 +51,7 @@ returns-clause-lived g c =
     let count : g.B.Business.count started ≡ c.args.desks = ap (λ b. g.B.Business.count b) same ∙ c.requires.count in
     let now_count : g.B.Business.count c.end.result ≡ c.args.desks = ap (λ b. g.B.Business.count b) c.end.ensures ∙ (served.ensures.business.1 ∙ count) in
     let has = subst (λ b. g.B.Business.has b lock) (sym c.end.ensures) served.ensures.business.0 in
-    let over = clocked g.O.Journal.tells g.N.Link.Link (g.C.Clock.last c.args.devices.clock) (g.C.Clock.last served.result.1.clock) in
+    let over = clocked g.O.Journal.tells g.N.Link.Link (clock_at g.C.Clock c.args.devices.clock) (clock_at g.C.Clock served.result.1.clock) in
     let old = beside (g.N.Dialer.told c.args.devices.dialer) (g.K.Sink.taken c.args.devices.out) c.args.inbox in
     let new = beside (g.N.Dialer.told served.result.1.dialer) (g.K.Sink.taken served.result.1.out) served.result.1.inbox in
     subst (λ b. LivesOnceClosed over c.args.config (answering (g.B.Business.plan b) (g.B.Business.count b)) old new c.args.gate.now passes served.result.0) same

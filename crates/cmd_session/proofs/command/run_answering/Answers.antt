@@ -1,5 +1,7 @@
 use Rattle.std.proofs.Common.{inl, inr, ℕ, ◌≤◌, refl, sym, ap, ◌∙◌, subst}
 use Rattle.life_laws.specs.Answered.{answering}
+use Rattle.gw_links.specs.Clocks.{clock_at}
+use Rattle.gw_links.proofs.Reading.{read_by}
 use Rattle.jr_segments.specs.declared.journal.SegJournal.{SegJournal}
 use Rattle.jr_segments.specs.Journal.{disk_of}
 use Rattle.jr_dated.specs.declared.limits.Limits.{Limits}
@@ -35,7 +37,7 @@ returns-clause-ended g c = λ first.
               (ap (λ (x : Limits). x.entries) w.at.ensures.same.limits ∙ w.in-Ok.ensures.out_limit.0, ap (λ (x : Limits). x.bytes) w.at.ensures.same.limits ∙ w.in-Ok.ensures.out_limit.1) w.in-Ok.ensures.limit.1 w.close_outbox.ensures.disk w.close_inbox.ensures.disk
               (subst (λ (n : ℕ). g.D.Disk.faults c.args.outside.out_disk ≤ n) (sym w.at.ensures.same.faults) w.in-Ok.ensures.never_falls.0) w.in-Ok.ensures.never_falls.1 w.close_outbox.ensures.faults w.close_inbox.ensures.faults
               c.args.end senders
-              (lived_since g.K.Sink.faults (hears g.K.Sink g.N.Dialer g.N.Link.Link g.C.Clock) _ _ (live_of c.args.outside) w.now-now.new.self _ _ _ _ (subst (λ (n : ℕ). g.C.Clock.last c.args.outside.clock ≤ n) (sym w.now-now.ensures.last) w.now-now.ensures.never_falls) w.answer_over_boxes-status.ensures.lived);
+              (lived_since g.K.Sink.faults (hears g.K.Sink g.N.Dialer g.N.Link.Link g.C.Clock) _ _ (live_of c.args.outside) w.now-now.new.self _ _ _ _ (read_by (clock_at g.C.Clock c.args.outside.clock) (clock_at g.C.Clock w.now-now.new.self) _ w.now-now.ensures.never_falls w.now-now.ensures.last w.now-now.ensures.value w.now-now.ensures.stands w.now-now.ensures.counted w.now-now.ensures.counts_on).later w.answer_over_boxes-status.ensures.lived);
         },
       ))
       | in-Err w ↦ given_answering _ told c.args.end senders before c.args.outside.config _ _ _ _ refl w.status-is

@@ -1,6 +1,8 @@
 use Rattle.std.proofs.Common.{inl, inr, ⊎_elim, ℕ, ◌≤◌, map, refl, sym, ap, ◌∙◌, subst}
 use Rattle.fixp_shake.specs.declared.config.EndConfig.{EndConfig}
 use Rattle.plan_values.specs.Plans.{payloads_of}
+use Rattle.gw_links.specs.Clocks.{clock_at}
+use Rattle.gw_links.proofs.Reading.{read_by}
 use Rattle.jr_segments.specs.declared.journal.SegJournal.{SegJournal}
 use Rattle.jr_segments.specs.Journal.{disk_of}
 use Rattle.jr_dated.specs.declared.limits.Limits.{Limits}
@@ -38,7 +40,7 @@ returns-clause-ended g c = λ first.
                 dial = w.run_over_boxes-status.ensures.dial;
               };
               goes_on = later_goes (left_as_told is_left) w.in-Ok.opened.0 w.at.new.self w.in-Ok.ensures.sound w.at.ensures.same _ _ w.in-Ok.ensures.opened.0 w.in-Ok.ensures.goes_on;
-              lived = lived_since g.K.Sink.faults (hears g.K.Sink g.N.Dialer g.N.Link.Link g.C.Clock) _ _ (live_of c.args.outside) w.now-now.new.self _ _ _ _ (subst (λ (n : ℕ). g.C.Clock.last c.args.outside.clock ≤ n) (sym w.now-now.ensures.last) w.now-now.ensures.never_falls) w.run_over_boxes-status.ensures.lived;
+              lived = lived_since g.K.Sink.faults (hears g.K.Sink g.N.Dialer g.N.Link.Link g.C.Clock) _ _ (live_of c.args.outside) w.now-now.new.self _ _ _ _ (read_by (clock_at g.C.Clock c.args.outside.clock) (clock_at g.C.Clock w.now-now.new.self) _ w.now-now.ensures.never_falls w.now-now.ensures.last w.now-now.ensures.value w.now-now.ensures.stands w.now-now.ensures.counted w.now-now.ensures.counts_on).later w.run_over_boxes-status.ensures.lived;
             })));
       }))
       | in-Err w ↦ given_by_plans _ told c.args.role c.args.configuration before c.args.outside.config _ _ _ _ refl w.status-is

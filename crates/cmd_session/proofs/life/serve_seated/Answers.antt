@@ -12,6 +12,7 @@ use Rattle.life_laws.proofs.Senders.{fresh_seated}
 use Rattle.life_laws.specs.PlanLives.{clocked}
 use Rattle.life_laws.proofs.Passes.{part_at, served_at}
 use Rattle.cmd_session.proofs.Counting.{front_of}
+use Rattle.gw_links.specs.Clocks.{clock_at}
 use Rattle.conn_serve.specs.Hears as lives
 use Rattle.cmd_session.proofs.Opened.{seen_at, opens_with}
 use Rattle.cmd_session.proofs.life.serve_seated.Goals as goal
@@ -55,4 +56,4 @@ returns-clause-served g c =
     (subst (λ (k : ℕ). Seated gate served.new.senders.senders.items (k + 1)) (served.ensures.count ∙ (ap (λ v. v.len) theirs ∙ (c.count_done.ensures.count ∙ (c.seat-senders.ensures.count ∙ same)))) served.ensures.seated)
     (subst (λ v. HasTheirs c.give_last.new.passes c.unseat.new.passes v.items) c.into_senders.ensures c.unseat.ensures.theirs) (subst (λ (k : ℕ). pass_at c.give_last.new.passes (k + 1) ≡ Some served.result.1.pass) (c.len-count.ensures ∙ same) c.give_last.ensures.there)
     (of_made, part ∙ ap (λ (k : ℕ). new_part (k + 1) of_made (opening_of gate)) same) served.ensures.comes_back.looks refl (λ e. c.take_last-pass.ensures.first (c.len-count.ensures ∙ (same ∙ e)))
-    (clocked g.O.Journal.tells g.N.Link.Link (g.C.Clock.last c.args.devices.clock) (g.C.Clock.last served.result.1.clock)) _ _ _ _ _ _ _ _ _ _ _ _ served.ensures.through (λ u some. served.ensures.marked u (omega (arith, some, plans.ok.0))) served.ensures.comes_back.kind.0
+    (clocked g.O.Journal.tells g.N.Link.Link (clock_at g.C.Clock c.args.devices.clock) (clock_at g.C.Clock served.result.1.clock)) _ _ _ _ _ _ _ _ _ _ _ _ served.ensures.through (λ u some. served.ensures.marked u (omega (arith, some, plans.ok.0))) served.ensures.comes_back.kind.0

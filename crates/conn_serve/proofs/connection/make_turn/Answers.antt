@@ -12,13 +12,13 @@ use Rattle.conn_serve.proofs.connection.make_turn.Goals as goal
 pub returns-clause-whole : goal.returns-clause-whole
 returns-clause-whole g c =
     let one = turn_is_one g.O.Journal.tells (box_in c.args.end.now) _ _ _ _ _ (in_turn _ _ c.args.end.now []) (in_turn _ _ c.turn.new.self _) c.turn.result in
-    whole_at _ c.turn.result c.close_of.result c.close_of.ensures (on_ok_weaker c.turn.result (λ did. (one c.turn.ensures.limit c.turn.ensures.stays.ticks did).0) c.turn.ensures.did) (λ e. (one c.turn.ensures.limit c.turn.ensures.stays.ticks (c.turn.ensures.lost e)).0)
+    whole_at _ c.turn.result c.close_of.result c.close_of.ensures (on_ok_weaker c.turn.result (λ did. (one c.turn.ensures.limit c.turn.ensures.stays.ticks.last did).0) c.turn.ensures.did) (λ e. (one c.turn.ensures.limit c.turn.ensures.stays.ticks.last (c.turn.ensures.lost e)).0)
 
 pub returns-clause-cut : goal.returns-clause-cut
 returns-clause-cut g c =
     err_at _ c.turn.result c.close_of.result c.close_of.ensures
     (on_cut _ _ c.turn.result
-    (λ (f : TurnFault) why is k. record { fault = f; is = is; cut = cut_is_one (box_in c.args.end.now) _ _ _ (in_turn _ _ c.args.end.now []) (in_turn _ _ c.turn.new.self _) f c.turn.ensures.limit c.turn.ensures.stays.ticks k })
+    (λ (f : TurnFault) why is k. record { fault = f; is = is; cut = cut_is_one (box_in c.args.end.now) _ _ _ (in_turn _ _ c.args.end.now []) (in_turn _ _ c.turn.new.self _) f c.turn.ensures.limit c.turn.ensures.stays.ticks.last k })
     c.turn.ensures.cut)
 
 pub returns-clause-few : goal.returns-clause-few
@@ -41,6 +41,9 @@ returns-clause-lost g c = λ e. lost_made _ c.turn.result c.turn.ensures.link (s
 
 pub returns-clause-leaves : goal.returns-clause-leaves
 returns-clause-leaves g c = whole_at _ c.turn.result c.close_of.result c.close_of.ensures c.turn.ensures.leaves c.turn.ensures.leaves_lost
+
+pub returns-clause-moment : goal.returns-clause-moment
+returns-clause-moment g c = whole_at _ c.turn.result c.close_of.result c.close_of.ensures c.turn.ensures.moment c.turn.ensures.moment_lost
 
 pub returns-clause-blamed : goal.returns-clause-blamed
 returns-clause-blamed g c =

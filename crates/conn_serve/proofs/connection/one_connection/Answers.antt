@@ -46,7 +46,7 @@ returns-then-must_stop-clause-stays g c = (stays_on g.C.Clock _ _ _ c.loop.invar
 pub returns-then-must_stop-clause-stopped : goal.returns-then-must_stop-clause-stopped
 returns-then-must_stop-clause-stopped g c = λ e.
     let cut = c.cut.ensures in
-    given_first (λ adds. AnswersMore ⊤ (business_at g.B.Business.stands g.B.Business.plan g.B.Business.count g.B.Business.part c.args.answering.now) (business_at g.B.Business.stands g.B.Business.plan g.B.Business.count g.B.Business.part c.loop.answering) (box_in c.args.life.now.end) adds) _ _ (connection_in g.C.Clock _ _ _ c.args.life.now.end) (connection_in g.C.Clock _ _ _ c.cut.new.self) (line_in c.begin.new.self) _ _ c.begin.ensures.begun (record { time = c.begin.ensures.limit; is = refl; later = c.begin.ensures.stays.ticks })
+    given_first (λ adds. AnswersMore ⊤ (business_at g.B.Business.stands g.B.Business.plan g.B.Business.count g.B.Business.part c.args.answering.now) (business_at g.B.Business.stands g.B.Business.plan g.B.Business.count g.B.Business.part c.loop.answering) (box_in c.args.life.now.end) adds) _ _ (connection_in g.C.Clock _ _ _ c.args.life.now.end) (connection_in g.C.Clock _ _ _ c.cut.new.self) (line_in c.begin.new.self) _ _ c.begin.ensures.begun (record { time = c.begin.ensures.limit; is = refl; read = c.begin.ensures.read })
     (given_in_cut g.C.Clock (λ adds. AnswersMore ⊤ (business_at g.B.Business.stands g.B.Business.plan g.B.Business.count g.B.Business.part c.args.answering.now) (business_at g.B.Business.stands g.B.Business.plan g.B.Business.count g.B.Business.part c.loop.answering) (box_in c.args.life.now.end) adds) _ _ _ _ _ _ c.loop.life.end c.cut.new.self cut.pass cut.inbox cut.clock
     (whole_adding (λ adds. AnswersMore ⊤ (business_at g.B.Business.stands g.B.Business.plan g.B.Business.count g.B.Business.part c.args.answering.now) (business_at g.B.Business.stands g.B.Business.plan g.B.Business.count g.B.Business.part c.loop.answering) (box_in c.args.life.now.end) adds) _ _ _ (connection_in g.C.Clock _ _ _ c.loop.life.end) _ c.loop.invariant.turned (λ x. cc) (λ x. cc) (λ which n x. cc) (λ n k x. cc)))
 
@@ -72,7 +72,7 @@ returns-in-Err-clause-blamed g c =
 
 pub returns-in-Err-clause-given_up : goal.returns-in-Err-clause-given_up
 returns-in-Err-clause-given_up g c =
-    given_first (λ adds. AnswersMore (IsOfTurn c.in-Err.fault → ⊥) (business_at g.B.Business.stands g.B.Business.plan g.B.Business.count g.B.Business.part c.args.answering.now) (business_at g.B.Business.stands g.B.Business.plan g.B.Business.count g.B.Business.part c.loop.answering) (box_in c.args.life.now.end) adds) _ _ (connection_in g.C.Clock _ _ _ c.args.life.now.end) (connection_in g.C.Clock _ _ _ c.turn_once.new.life.end) (line_in c.begin.new.self) _ _ c.begin.ensures.begun (record { time = c.begin.ensures.limit; is = refl; later = c.begin.ensures.stays.ticks })
+    given_first (λ adds. AnswersMore (IsOfTurn c.in-Err.fault → ⊥) (business_at g.B.Business.stands g.B.Business.plan g.B.Business.count g.B.Business.part c.args.answering.now) (business_at g.B.Business.stands g.B.Business.plan g.B.Business.count g.B.Business.part c.loop.answering) (box_in c.args.life.now.end) adds) _ _ (connection_in g.C.Clock _ _ _ c.args.life.now.end) (connection_in g.C.Clock _ _ _ c.turn_once.new.life.end) (line_in c.begin.new.self) _ _ c.begin.ensures.begun (record { time = c.begin.ensures.limit; is = refl; read = c.begin.ensures.read })
     (given_adding (λ adds. AnswersMore ⊤ (business_at g.B.Business.stands g.B.Business.plan g.B.Business.count g.B.Business.part c.args.answering.now) (business_at g.B.Business.stands g.B.Business.plan g.B.Business.count g.B.Business.part c.loop.answering) (box_in c.args.life.now.end) adds) (λ adds. AnswersMore (IsOfTurn c.in-Err.fault → ⊥) (business_at g.B.Business.stands g.B.Business.plan g.B.Business.count g.B.Business.part c.args.answering.now) (business_at g.B.Business.stands g.B.Business.plan g.B.Business.count g.B.Business.part c.loop.answering) (box_in c.args.life.now.end) adds) _ _ _ (connection_in g.C.Clock _ _ _ c.loop.life.end) (connection_in g.C.Clock _ _ _ c.turn_once.new.life.end) _ c.loop.invariant.turned
     c.in-Err.ensures.given_up
     (λ e. let same : c.in-Err.fault ≡ faults.Turns = cc in subst IsOfTurn same c.in-Err.ensures.of_turn)
@@ -80,7 +80,7 @@ returns-in-Err-clause-given_up g c =
 
 pub returns-in-Ok-Some-clause-turned : goal.returns-in-Ok-Some-clause-turned
 returns-in-Ok-Some-clause-turned g c = λ close e.
-    turned_first (λ adds. AnswersMore ⊤ (business_at g.B.Business.stands g.B.Business.plan g.B.Business.count g.B.Business.part c.args.answering.now) (business_at g.B.Business.stands g.B.Business.plan g.B.Business.count g.B.Business.part c.answer_turn-in-Ok-Some.new.answering) (box_in c.args.life.now.end) adds) _ (connection_in g.C.Clock _ _ _ c.args.life.now.end) (connection_in g.C.Clock _ _ _ c.turn_once.new.life.end) (line_in c.begin.new.self) _ _ _ c.begin.ensures.begun (record { time = c.begin.ensures.limit; is = refl; later = c.begin.ensures.stays.ticks })
+    turned_first (λ adds. AnswersMore ⊤ (business_at g.B.Business.stands g.B.Business.plan g.B.Business.count g.B.Business.part c.args.answering.now) (business_at g.B.Business.stands g.B.Business.plan g.B.Business.count g.B.Business.part c.answer_turn-in-Ok-Some.new.answering) (box_in c.args.life.now.end) adds) _ (connection_in g.C.Clock _ _ _ c.args.life.now.end) (connection_in g.C.Clock _ _ _ c.turn_once.new.life.end) (line_in c.begin.new.self) _ _ _ c.begin.ensures.begun (record { time = c.begin.ensures.limit; is = refl; read = c.begin.ensures.read })
     (on_adding (λ adds. AnswersMore ⊤ (business_at g.B.Business.stands g.B.Business.plan g.B.Business.count g.B.Business.part c.args.answering.now) (business_at g.B.Business.stands g.B.Business.plan g.B.Business.count g.B.Business.part c.loop.answering) (box_in c.args.life.now.end) adds) (λ adds. delivered_in (items_of c.turn_once.new.life.teller.news) ≡ messages_of adds) (λ adds. AnswersMore ⊤ (business_at g.B.Business.stands g.B.Business.plan g.B.Business.count g.B.Business.part c.args.answering.now) (business_at g.B.Business.stands g.B.Business.plan g.B.Business.count g.B.Business.part c.answer_turn-in-Ok-Some.new.answering) (box_in c.args.life.now.end) adds) _ _ (connection_in g.C.Clock _ _ _ c.loop.life.end) (connection_in g.C.Clock _ _ _ c.turn_once.new.life.end) _ 1 c.loop.invariant.turned c.in-Ok-Some.ensures.turned
     (λ xs ys gains later m delivered. more_turn (business_at g.B.Business.stands g.B.Business.plan g.B.Business.count g.B.Business.part c.args.answering.now) (business_at g.B.Business.stands g.B.Business.plan g.B.Business.count g.B.Business.part c.loop.answering) (box_in c.args.life.now.end) (business_at g.B.Business.stands g.B.Business.plan g.B.Business.count g.B.Business.part c.answer_turn-in-Ok-Some.new.answering) (box_in c.loop.life.end) (box_in c.turn_once.new.life.end) _ _ (items_of c.turn_once.new.life.teller.news) xs ys gains later c.peer_finished-told.ensures c.peer_finished-finished-in-Ok-Some.ensures delivered c.answer_turn-in-Ok-Some.ensures.answered c.answer_turn-in-Ok-Some.ensures.stays m))
 
@@ -111,7 +111,7 @@ returns-clause-stays g c = (stays_on g.C.Clock _ _ _ c.loop.invariant.stays c.cu
 pub returns-clause-given_up : goal.returns-clause-given_up
 returns-clause-given_up g c =
     let cut = c.cut-2.ensures in
-    given_first (λ adds. AnswersMore (IsOfTurn faults.Turns → ⊥) (business_at g.B.Business.stands g.B.Business.plan g.B.Business.count g.B.Business.part c.args.answering.now) (business_at g.B.Business.stands g.B.Business.plan g.B.Business.count g.B.Business.part c.loop.answering) (box_in c.args.life.now.end) adds) _ _ (connection_in g.C.Clock _ _ _ c.args.life.now.end) (connection_in g.C.Clock _ _ _ c.cut-2.new.self) (line_in c.begin.new.self) _ _ c.begin.ensures.begun (record { time = c.begin.ensures.limit; is = refl; later = c.begin.ensures.stays.ticks })
+    given_first (λ adds. AnswersMore (IsOfTurn faults.Turns → ⊥) (business_at g.B.Business.stands g.B.Business.plan g.B.Business.count g.B.Business.part c.args.answering.now) (business_at g.B.Business.stands g.B.Business.plan g.B.Business.count g.B.Business.part c.loop.answering) (box_in c.args.life.now.end) adds) _ _ (connection_in g.C.Clock _ _ _ c.args.life.now.end) (connection_in g.C.Clock _ _ _ c.cut-2.new.self) (line_in c.begin.new.self) _ _ c.begin.ensures.begun (record { time = c.begin.ensures.limit; is = refl; read = c.begin.ensures.read })
     (given_in_cut g.C.Clock (λ adds. AnswersMore (IsOfTurn faults.Turns → ⊥) (business_at g.B.Business.stands g.B.Business.plan g.B.Business.count g.B.Business.part c.args.answering.now) (business_at g.B.Business.stands g.B.Business.plan g.B.Business.count g.B.Business.part c.loop.answering) (box_in c.args.life.now.end) adds) _ _ _ _ _ _ c.loop.life.end c.cut-2.new.self cut.pass cut.inbox cut.clock
     (whole_adding (λ adds. AnswersMore (IsOfTurn faults.Turns → ⊥) (business_at g.B.Business.stands g.B.Business.plan g.B.Business.count g.B.Business.part c.args.answering.now) (business_at g.B.Business.stands g.B.Business.plan g.B.Business.count g.B.Business.part c.loop.answering) (box_in c.args.life.now.end) adds) _ _ _ (connection_in g.C.Clock _ _ _ c.loop.life.end) _
     (c.loop.invariant.turned.0, more_weaker (business_at g.B.Business.stands g.B.Business.plan g.B.Business.count g.B.Business.part c.args.answering.now) (business_at g.B.Business.stands g.B.Business.plan g.B.Business.count g.B.Business.part c.loop.answering) (box_in c.args.life.now.end) ⊤ (IsOfTurn faults.Turns → ⊥) c.loop.invariant.turned.0.adds (λ _. tt) c.loop.invariant.turned.1)

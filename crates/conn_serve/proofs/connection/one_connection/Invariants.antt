@@ -1,6 +1,7 @@
 use Rattle.std.proofs.Common.{◌≡◌, ◌≤◌}
 use Rattle.std.specs.Bool.{⊤}
 use Rattle.gate_staff.specs.Business.{lock_of}
+use Rattle.gw_links.specs.Clocks.{clock_at}
 use Rattle.conn_serve.specs.Answering.{business_of, business_at, AnswersMore}
 use Rattle.gate_senders.specs.Gate.{IsPassAt}
 use Rattle.conn_loop.specs.Ends.{line_in, pass_of, box_in, clock_in, MayTurn, Stays}
@@ -14,7 +15,7 @@ invariant-loop g l = record {
   stays : Stays g.C.Clock l.fn.life.end l.life.end;
   dialer : l.life.dialer ≡ l.fn.life.dialer;
   turned : (t : Turned g.O.Journal.tells g.N.Link.Link.eager
-      (record (connection_in g.C.Clock (g.N.Link.Link.told l.fn.link) (g.N.Link.Link.carried l.fn.link) (g.K.Sink.taken l.fn.life.out) l.fn.life.end) { clock = g.C.Clock.last (clock_in l.initial.life.end); line = line_in l.initial.life.end })
+      (record (connection_in g.C.Clock (g.N.Link.Link.told l.fn.link) (g.N.Link.Link.carried l.fn.link) (g.K.Sink.taken l.fn.life.out) l.fn.life.end) { clock = clock_at g.C.Clock (clock_in l.initial.life.end); line = line_in l.initial.life.end })
       (connection_in g.C.Clock (g.N.Link.Link.told l.link) (g.N.Link.Link.carried l.link) (g.K.Sink.taken l.life.out) l.life.end) l.counter)
       × AnswersMore ⊤ (business_at g.B.Business.stands g.B.Business.plan g.B.Business.count g.B.Business.part l.fn.answering) (business_at g.B.Business.stands g.B.Business.plan g.B.Business.count g.B.Business.part l.answering) (box_in l.fn.life.end) t.adds;
   may : MayTurn l.life.end;

@@ -6,6 +6,8 @@ use Rattle.gate_staff.specs.Business.{AllStay}
 use Rattle.gate_staff.proofs.Resuming.{all_stay}
 use Rattle.conn_loop.specs.Ends.{pass_in, box_in, clock_in}
 use Rattle.conn_loop.proofs.Working.{looks_self}
+use Rattle.gw_links.specs.Clocks.{clock_at}
+use Rattle.gw_links.proofs.Reading.{later_self}
 use Rattle.conn_door.specs.Answers.{answer_of}
 use Rattle.conn_door.specs.declared.answer.LifeEnd.TheVariants as ends
 use Rattle.conn_serve.specs.Answering.{business_at, answering_at, AnsweredLife, AnsweredEach, Unread, ReadOtherwise}
@@ -36,8 +38,7 @@ returns-in-Some-clause-lasts g c =
       inbox = took.never_falls;
       out = omega arith;
       dialer = omega arith;
-      told = refl;
-      ticks = omega arith;
+      ticks = later_self (clock_at g.C.Clock (clock_in c.args.life.now.end));
     }
 
 pub returns-clause-lasts : goal.returns-clause-lasts
@@ -50,7 +51,6 @@ returns-clause-lasts g c =
       inbox = omega (arith, took.never_falls, goes.inbox);
       out = goes.out;
       dialer = goes.dialer;
-      told = goes.told;
       ticks = goes.ticks;
     }
 
@@ -59,7 +59,7 @@ returns-in-Some-clause-through g c =
     let took = c.resume_business.ensures in
     let old = answering_in (hears g.K.Sink g.N.Dialer g.N.Link.Link g.C.Clock) c.args.life.now (business_at g.B.Business.stands g.B.Business.plan g.B.Business.count g.B.Business.part c.args.answering.now) in
     let new = answering_at _ _ _ _ (pass_in c.args.life.now.end) c.resume_business.new.inbox (business_at g.B.Business.stands g.B.Business.plan g.B.Business.count g.B.Business.part c.resume_business.new.answering) in
-    let none = none_resumed g.O.Journal.tells (λ (adds : List InboxRecord). AnsweredLife ⊤ old new adds × (adds ≡ [])) g.N.Link.Link (g.C.Clock.last (clock_in c.args.life.now.end)) _ _ _ (box_in c.args.life.now.end) c.resume_business.new.inbox _ took.content took.kind.0 (life_resumed old new took.told took.read, refl) in
+    let none = none_resumed g.O.Journal.tells (λ (adds : List InboxRecord). AnsweredLife ⊤ old new adds × (adds ≡ [])) g.N.Link.Link (clock_at g.C.Clock (clock_in c.args.life.now.end)) _ _ _ (box_in c.args.life.now.end) c.resume_business.new.inbox _ took.content took.kind.0 (life_resumed old new took.told took.read, refl) in
     record {
       connections = Ok ends.Stopped;
       life = none.0;

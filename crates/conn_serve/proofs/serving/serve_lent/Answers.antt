@@ -6,6 +6,7 @@ use Rattle.gate_senders.specs.Gate.{opening_of}
 use Rattle.conn_steps.specs.Settling.{SameKind}
 use Rattle.conn_steps.proofs.Inboxes.{kind_self}
 use Rattle.conn_door.specs.declared.answer.ServeFault.TheVariants as faults
+use Rattle.gw_links.specs.Clocks.{clock_at}
 use Rattle.conn_serve.specs.Hears.{hears}
 use Rattle.conn_serve.specs.Lives.{serving_with, ComesBack}
 use Rattle.conn_serve.specs.Opening.{opened_state, ServedThrough}
@@ -23,7 +24,7 @@ returns-in-Err-clause-kind g c = subst (λ l. SameKind c.args.lent.inbox l.inbox
 pub returns-in-Err-clause-through : goal.returns-in-Err-clause-through
 returns-in-Err-clause-through g c =
     let heard = hears g.K.Sink g.N.Dialer g.N.Link.Link g.C.Clock in
-    subst (λ l. ServedThrough g.N.Link.Link (g.C.Clock.last c.args.lent.clock) (g.C.Clock.last l.clock) c.args.opening.gate.now (serving_with heard c.args.lent c.args.senders.now.senders.items) (serving_with heard l c.args.senders.now.senders.items) (fresh c.args.opening.config (opened_state (opening_of c.args.opening.gate.now).history c.args.lent.inbox) c.args.opening.most) (Err faults.Memory)) (sym c.in-Err.ensures.back)
+    subst (λ l. ServedThrough g.N.Link.Link (clock_at g.C.Clock c.args.lent.clock) (clock_at g.C.Clock l.clock) c.args.opening.gate.now (serving_with heard c.args.lent c.args.senders.now.senders.items) (serving_with heard l c.args.senders.now.senders.items) (fresh c.args.opening.config (opened_state (opening_of c.args.opening.gate.now).history c.args.lent.inbox) c.args.opening.most) (Err faults.Memory)) (sym c.in-Err.ensures.back)
     (unserved heard c.args.opening.gate.now c.args.lent c.args.senders.now.senders.items _)
 
 pub returns-in-Err-clause-admitted : goal.returns-in-Err-clause-admitted
@@ -45,5 +46,5 @@ pub returns-clause-through : goal.returns-clause-through
 returns-clause-through g c =
     let heard = hears g.K.Sink g.N.Dialer g.N.Link.Link g.C.Clock in
     let served = c.serve-answer in
-    lent_on (λ x y m. ServedThrough g.N.Link.Link (g.C.Clock.last x.clock) (g.C.Clock.last y.clock) c.args.opening.gate.now (serving_with heard x c.args.senders.now.senders.items) (serving_with heard y served.new.senders.senders.items) m served.result) c.args.lent c.end.result c.in-Ok.life served.new.life _
+    lent_on (λ x y m. ServedThrough g.N.Link.Link (clock_at g.C.Clock x.clock) (clock_at g.C.Clock y.clock) c.args.opening.gate.now (serving_with heard x c.args.senders.now.senders.items) (serving_with heard y served.new.senders.senders.items) m served.result) c.args.lent c.end.result c.in-Ok.life served.new.life _
     c.in-Ok.ensures.lent c.in-Ok.ensures.machine c.end.ensures.lent served.ensures.through
