@@ -53,7 +53,7 @@ fn main() -> std::io::Result<()> {
             u16::from_be_bytes([message[4], message[5]])
         };
         if schema != 0xF011 {
-            if !established || next > 1 << 24 {
+            if !established || next > 1 << 26 {
                 status = 12;
                 break;
             }

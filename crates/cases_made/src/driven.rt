@@ -9,12 +9,12 @@ ghost use Rattle.gate_senders.specs.Gate.{opening_of};
 ghost use Rattle.conn_loop.specs.Conn.{line_of, new_line};
 ghost use Rattle.cases_made.specs.Driving.{Rests};
 
-use crate::journals::{Disks, LIMITS, Log, MOST, open_inbox, open_outbox};
+use crate::journals::{Disks, LIMITS, Log, open_inbox, open_outbox};
 use crate::passes::{finish, submit, taken};
 use crate::standing::Standing;
 use crate::turning::make_turn;
 use conn_loop::{Conn, News, NewsItem};
-use fixp_end::{End, EndConfig, EndState, Ending, Role};
+use fixp_end::{End, EndConfig, EndState, Ending, GREATEST_NUMBER, Role};
 use fixp_msgs::{Flow, is_application};
 use gate_senders::{Gate, Kept};
 use gate_turn::Passes;
@@ -114,9 +114,9 @@ fn opened(alloc: Global, config: EndConfig, state: EndState) -> Result<Conn, All
     requires first { 1 ≤ state.inbox_next }
     requires numbered { state.inbox_next + 1 < 2 ^ 64 }
     requires sent { state.sent < 2 ^ 40 }
-    ensures { IfOk result (λ conn. line_of conn ≡ new_line (fresh config state (2 ^ 24)) 16) }
+    ensures { IfOk result (λ conn. line_of conn ≡ new_line (fresh config state (2 ^ 26)) 16) }
 {
-    let end = End::new(alloc, config, state, MOST)?;
+    let end = End::new(alloc, config, state, GREATEST_NUMBER)?;
     Conn::new(alloc, end, 16)
 }
 
@@ -124,12 +124,12 @@ fn opened(alloc: Global, config: EndConfig, state: EndState) -> Result<Conn, All
 /// has too many entries.
 fn new_conn(alloc: Global, gate: &Gate<Log>, inbox: &Inbox<Log>, setup: Setup) -> Option<Conn>
     requires flow { flow_of inbox.now ≡ setup.peer_flow }
-    requires limit { (limits_of inbox.now).entries ≡ 2 ^ 24 }
+    requires limit { (limits_of inbox.now).entries ≡ 2 ^ 26 }
     requires numbered { next_of inbox.now + 1 < 2 ^ 64 }
     ensures may { IfSome result (λ conn. (p : Part) → BeginsHistory (opening_of gate.now).history p.seen → Rests (line_of conn).machine p inbox.now) }
 {
     let state = recorded(gate, inbox);
-    if state.sent > MOST {
+    if state.sent > GREATEST_NUMBER {
         return None;
     }
     opened(alloc, config(alloc, setup), state).ok()

@@ -4,6 +4,7 @@ ghost use Rattle.std.specs.Prelude.{◌≡◌, ◌+◌, ◌≤◌, ◌<◌, ◌^
 ghost use Rattle.jr_kept.specs.Outbox as outboxes;
 ghost use Rattle.jr_kept.specs.Inbox as inboxes;
 
+use fixp_end::GREATEST_NUMBER;
 use fixp_msgs::Flow;
 use gw_fakes::MemDisk;
 use gw_outside::Disk;
@@ -16,12 +17,9 @@ use std::alloc::Global;
 /// A journal on a disk in memory.
 pub type Log = SegJournal<MemDisk>;
 
-/// The greatest number of an application message here.
-pub(crate) const MOST: u64 = 1 << 24;
-
 /// The limits of both journals, which no disk in memory here has room for.
 pub(crate) const LIMITS: Limits = Limits {
-    entries: MOST,
+    entries: GREATEST_NUMBER,
     bytes: 1 << 30,
 };
 
@@ -86,12 +84,12 @@ pub fn open_outbox<D: Disk + Drop>(
 pub(crate) fn open_inbox(alloc: Global, disk: MemDisk, flow: Flow, bytes: u64) -> Option<Inbox<Log>>
     requires small { bytes ≤ 2 ^ 33 }
     ensures flow { IfSome result (λ box. inboxes.flow_of box ≡ flow) }
-    ensures limit { IfSome result (λ box. (inboxes.limits_of box).entries ≡ 2 ^ 24) }
+    ensures limit { IfSome result (λ box. (inboxes.limits_of box).entries ≡ 2 ^ 26) }
     ensures numbered { IfSome result (λ box. inboxes.next_of box + 1 < 2 ^ 64) }
 {
     let entries = LIMITS.entries;
     let limits = Limits { entries, bytes };
     let journal = SegJournal::open(alloc, disk, limits).ok()?;
     let inbox = Inbox::open(alloc, journal, limits, flow).ok()?;
-    (inbox.next() <= MOST + 1).then_some(inbox)
+    (inbox.next() <= GREATEST_NUMBER + 1).then_some(inbox)
 }

@@ -3,7 +3,7 @@
 
 ghost use Rattle.std.specs.Prelude.{◌≡◌, ◌≤◌, ◌<◌, ◌^◌, length, IfSome};
 
-use fixp_end::{Act, End, EndConfig, EndState, Ending, Flow, Phase, Role};
+use fixp_end::{Act, End, EndConfig, EndState, Ending, Flow, GREATEST_NUMBER, Phase, Role};
 use fixp_shake::{is_absent, is_established};
 use gw_outside::Bytes;
 use jr_kept::Stable;
@@ -102,7 +102,7 @@ impl ToldEnd {
         requires early { now ≤ 1000000 }
     {
         let config = config(alloc, role, own_flow, peer_flow, version);
-        let mut end = End::new(alloc, config, recorded, 1 << 24)?;
+        let mut end = End::new(alloc, config, recorded, GREATEST_NUMBER)?;
         end.begin(now);
         Ok(ToldEnd {
             end,

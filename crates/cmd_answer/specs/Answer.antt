@@ -24,7 +24,7 @@ use Rattle.cmd_answer.specs.Lines.{line_of}
 
 -- the greatest number of an application message (this project's profile)
 abbrev pub greatest_number : ℕ
-greatest_number = 2 ^ 24
+greatest_number = 2 ^ 26
 
 -- the acceptor that `answer` is: it reads an unsequenced flow, and sends none
 abbrev pub acceptor_of : Settings → EndConfig

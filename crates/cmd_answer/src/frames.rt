@@ -9,12 +9,9 @@ ghost use Rattle.cmd_answer.specs.Progress.{AnswersOne, IsReady, replies_limit};
 
 use crate::lines::push_line;
 use cmd_config::Settings;
-use fixp_end::{End, EndConfig, EndState, Flow, Role};
+use fixp_end::{End, EndConfig, EndState, Flow, GREATEST_NUMBER, Role};
 use sofh_frame::Order;
 use std::alloc::{AllocError, Global};
-
-/// The greatest number of an application message.
-const GREATEST_NUMBER: u64 = 1 << 24;
 
 /// The configuration of the acceptor.
 fn acceptor_config(settings: Settings) -> EndConfig

@@ -22,11 +22,12 @@ ghost use Rattle.cmd_session.specs.Lived.{IsOfLife, BeganNone};
 ghost use Rattle.cmd_feed.specs.Fed.{refusal_of, status_of_feeding, streams, HasLivedFed};
 
 use cmd_base::Status;
-use cmd_session::{Live, MOST, Over, OverBoxes, made_gate, status_of};
+use cmd_session::{Live, Over, OverBoxes, made_gate, status_of};
 use conn_door::answer_of;
 use conn_fed::{Fed, feed_lent};
 use conn_feed::{FeedEnd, Feeder};
 use conn_serve::{Lent, Opening, ServeFault};
+use fixp_end::GREATEST_NUMBER;
 use fixp_shake::EndConfig;
 use gate_senders::{Gate, Kept};
 use gate_staff::{Plan, Sender, give_last, seat, take_last, unseat};
@@ -155,7 +156,7 @@ fn serve_seated<
         alloc,
         gate,
         config,
-        most: MOST,
+        most: GREATEST_NUMBER,
     };
     let Live { out, dialer, clock } = devices;
     let lent = Lent {

@@ -28,12 +28,12 @@ ghost use Rattle.cmd_session.specs.Answers.{desks_of, plan_of, MayAnswer, AreOf}
 ghost use Rattle.cmd_session.specs.Outsides.{hears};
 ghost use Rattle.cmd_session.specs.Lived.{IsOfLife, BeganNone, HasLived};
 
-use crate::boxes::MOST;
 use crate::life::{Lived, Over, made_gate, status_of};
 use crate::outside::{Live, OverBoxes};
 use cmd_base::Status;
 use cmd_config::Trade;
 use conn_serve::{Answering, Lent, Opening, ServeFault, answer_lent};
+use fixp_end::GREATEST_NUMBER;
 use fixp_shake::EndConfig;
 use gate_senders::{Gate, Kept};
 use gate_staff::{Business, OpenDoor, give_connection, take_connection};
@@ -197,7 +197,7 @@ fn serve_business<
         alloc,
         gate,
         config,
-        most: MOST,
+        most: GREATEST_NUMBER,
     };
     let Live { out, dialer, clock } = devices;
     let lent = Lent {

@@ -19,6 +19,7 @@ ghost use Rattle.cmd_session.specs.Lived.{IsKept, LeavesNoMore, OpensOutbox, Ope
 
 use crate::found::{Found, OfInbox, OfOutbox};
 use cmd_base::{JournalCause, Status, Which};
+use fixp_end::GREATEST_NUMBER;
 use fixp_shake::Flow;
 use gw_outside::Disk;
 use jr_boxes::BoxFault;
@@ -28,12 +29,9 @@ use jr_record::OpenFault;
 use jr_segments::{SegJournal, is_old_format};
 use std::alloc::Global;
 
-/// The greatest number of a message, and the most entries of a journal.
-pub const MOST: u64 = 1 << 26;
-
 /// How large a journal may grow.
 const LIMITS: Limits = Limits {
-    entries: MOST,
+    entries: GREATEST_NUMBER,
     bytes: 1 << 33,
 };
 

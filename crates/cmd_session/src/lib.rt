@@ -13,7 +13,7 @@ mod inputs;
 mod life;
 mod outside;
 
-pub use boxes::{MOST, close_inbox, close_outbox, open_inbox};
+pub use boxes::{close_inbox, close_outbox, open_inbox};
 pub use command::{open_boxes, run_session};
 pub use fixp_shake::Role;
 pub use inputs::end_config;

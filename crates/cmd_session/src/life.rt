@@ -24,10 +24,10 @@ ghost use Rattle.life_laws.specs.PlanLives.{clocked, ServedAt};
 ghost use Rattle.cmd_session.specs.Outsides.{hears};
 ghost use Rattle.cmd_session.specs.Lived.{status_of, IsOfLife, BeganNone, HasLived};
 
-use crate::boxes::MOST;
 use crate::outside::{Live, OverBoxes};
 use cmd_base::{JournalCause, Status};
 use conn_serve::{Lent, Opening, ServeFault, serve_lent};
+use fixp_end::GREATEST_NUMBER;
 use fixp_shake::EndConfig;
 use gate_senders::{Gate, Kept};
 use gate_staff::{Plans, Sender, count_done, give_last, seat, take_last, unseat};
@@ -150,7 +150,7 @@ fn serve_seated<
         alloc,
         gate,
         config,
-        most: MOST,
+        most: GREATEST_NUMBER,
     };
     let Live { out, dialer, clock } = devices;
     let lent = Lent {

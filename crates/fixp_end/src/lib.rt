@@ -16,5 +16,5 @@ mod writing;
 pub use fixp_replies::{Act, EndState, Ending};
 pub use fixp_shake::{EndConfig, Flow, Phase, Role, Violation};
 pub use laws::one_classification;
-pub use machine::End;
+pub use machine::{End, GREATEST_NUMBER};
 pub use sending::frames_fit;

@@ -33,6 +33,9 @@ use sbe_prim::Order;
 use std::alloc::{AllocError, Global};
 use std::marker::Model;
 
+/// The greatest number that an application message may have (this project's profile).
+pub const GREATEST_NUMBER: u64 = 1 << 26;
+
 /// How many frames `End::reserve` makes room for.
 const RESERVED_FRAMES: u16 = 256;
 
@@ -107,7 +110,7 @@ impl End {
     ghost use Rattle.fixp_end.specs.Doing.{Stays, Waits, recorded_once_done, facts_once_done};
     ghost use Rattle.fixp_end.specs.Sending.{AreFrom, payloads_of};
 
-    /// A new end that has begun no connection. `most` is the greatest number of an application message.
+    /// A new end that has begun no connection. `most` is the greatest number of an application message, at most `GREATEST_NUMBER`.
     ///
     /// # Errors
     /// Want of memory for the output of 5,242,880 bytes, for what is to be told, or, where the peer's flow is recoverable, for its

@@ -84,10 +84,10 @@ mark h s begins false e = tt
 
 -- a connection that was made of a new machine, if one was
 pub conn_made : {E : Type 0} (config : EndConfig) (state : EndState) (next sent : ℕ) (r : Result Conn E) (o : Option Conn) → o ≡ result_ok r
-    → IfOk r (λ conn. line_of conn ≡ new_line (fresh config state (2 ^ 24)) 16) → state.inbox_next ≡ next → state.sent ≡ sent → IfSome o (λ conn. IsMadeOf config next sent conn)
+    → IfOk r (λ conn. line_of conn ≡ new_line (fresh config state (2 ^ 26)) 16) → state.inbox_next ≡ next → state.sent ≡ sent → IfSome o (λ conn. IsMadeOf config next sent conn)
 conn_made {E} config state next sent r o is made next_is sent_is = subst (λ (x : Option Conn). IfSome x (λ conn. IsMadeOf config next sent conn)) (sym is) (of_result r made)
   where
-    of_result : (r : Result Conn E) → IfOk r (λ conn. line_of conn ≡ new_line (fresh config state (2 ^ 24)) 16) → IfSome (result_ok r) (λ conn. IsMadeOf config next sent conn)
+    of_result : (r : Result Conn E) → IfOk r (λ conn. line_of conn ≡ new_line (fresh config state (2 ^ 26)) 16) → IfSome (result_ok r) (λ conn. IsMadeOf config next sent conn)
     of_result (Ok conn) made = record { state = state; next_is = next_is; sent_is = sent_is; line = made }
     of_result (Err e) made = tt
 

@@ -184,12 +184,12 @@ ended_over b past leg e over k = record { over = over; opens = k.opens; inbox = 
 
 -- a new end over boxes that hold these records
 pub new_end : (config : EndConfig) (e : DrivenEnd) (next sent : ℕ) (inbox : List InboxRecord) → IsMadeOf config next sent e.conn → e.standing ≡ standings.Over → HoldsBox e.inbox inbox [] → next ≡ next_of e.inbox
-    → sent ≡ length (opening_of e.gate).history.made → next ≤ 2 ^ 24 + 1 → length config.session ≡ 16 → config.keepalive ≤ 60000 → length config.credentials ≤ 2048
+    → sent ≡ length (opening_of e.gate).history.made → next ≤ 2 ^ 26 + 1 → length config.session ≡ 16 → config.keepalive ≤ 60000 → length config.credentials ≤ 2048
     → BeginsHistory (opening_of e.gate).history (known e.pass).seen → BeginsOn config.own_flow config.peer_flow (outbox_of (opening_of e.gate).history) inbox e
 new_end config e next sent inbox made over holds first all few session keepalive credentials seen =
     let m : State = (line_of e.conn).machine in
     let h : History = (opening_of e.gate).history in
-    let is : m ≡ fresh config made.state (2 ^ 24) = ap (λ (l : Line). l.machine) made.line in
+    let is : m ≡ fresh config made.state (2 ^ 26) = ap (λ (l : Line). l.machine) made.line in
     let awaits : made.state.inbox_next ≡ next_number inbox = made.next_is ∙ (first ∙ holds.noticed.next) in
     let many : m.facts.recorded.sent ≡ length h.made = ap (λ (s : State). s.facts.recorded.sent) is ∙ (made.sent_is ∙ all) in
     record {

@@ -71,7 +71,7 @@ pub record IsMadeOf (config : EndConfig) (next sent : ℕ) (conn : Conn) : Type 
   pub state : EndState
   pub next_is : state.inbox_next ≡ next
   pub sent_is : state.sent ≡ sent
-  pub line : line_of conn ≡ new_line (fresh config state (2 ^ 24)) 16
+  pub line : line_of conn ≡ new_line (fresh config state (2 ^ 26)) 16
 
 -- its gate opened on the outbox with which its life began
 abbrev pub OpensWith : Beginning → DrivenEnd → Type 0

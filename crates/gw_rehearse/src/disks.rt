@@ -9,7 +9,8 @@ ghost use Rattle.jr_kept.specs.Outbox as outboxes;
 ghost use Rattle.jr_kept.specs.Inbox as inboxes;
 ghost use Rattle.gw_rehearse.specs.Stopped.{DisksLeaveNoMore, InboxIsLeft, LeavesImages, LeavesNoMore, OutboxIsLeft};
 
-use crate::journals::{Journals, Log, MOST};
+use crate::journals::{Journals, Log};
+use fixp_end::GREATEST_NUMBER;
 use fixp_msgs::Flow;
 use gw_fakes::{MemDisk, Pick};
 use jr_boxes::BoxFault;
@@ -24,7 +25,7 @@ const ROOM: usize = 1 << 26;
 
 /// The limits of both journals.
 const LIMITS: Limits = Limits {
-    entries: MOST,
+    entries: GREATEST_NUMBER,
     bytes: 1 << 30,
 };
 
@@ -143,8 +144,8 @@ pub(crate) fn open_inbox(
 ) -> Result<Inbox<Log>, Option<MemDisk>>
     ensures sound { IfOk result (λ box. inboxes.is_broken box ≡ false) }
     ensures flow { IfOk result (λ box. inboxes.flow_of box ≡ flow) }
-    ensures limit { IfOk result (λ box. (inboxes.limits_of box).entries ≡ 2 ^ 24) }
-    ensures next { IfOk result (λ box. inboxes.next_of box ≤ 2 ^ 24 + 1) }
+    ensures limit { IfOk result (λ box. (inboxes.limits_of box).entries ≡ 2 ^ 26) }
+    ensures next { IfOk result (λ box. inboxes.next_of box ≤ 2 ^ 26 + 1) }
     ensures holds { IfOk result (λ box. ∥ ((i : List InboxRecord) × inboxes.HoldsBox box i []) ∥₁) }
     ensures left { IfOk result (InboxIsLeft disk) }
     ensures returned { IfErr result (λ o. IfSome o (LeavesNoMore disk)) }
@@ -153,7 +154,7 @@ pub(crate) fn open_inbox(
     let journal = open_journal(alloc, disk, limits)?;
     match Inbox::open(alloc, journal, limits, flow) {
         Ok(inbox) => {
-            if inbox.next() > MOST + 1 {
+            if inbox.next() > GREATEST_NUMBER + 1 {
                 return Err(None);
             }
             Ok(inbox)

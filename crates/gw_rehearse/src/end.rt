@@ -28,14 +28,14 @@ ghost use Rattle.gw_rehearse.specs.declared.standing.Standing.TheVariants as sta
 
 use crate::configs::config_of;
 use crate::disks::{Disks, open_inbox, open_outbox};
-use crate::journals::{Journals, Log, MOST};
+use crate::journals::{Journals, Log};
 use crate::posts::posts_of;
 use crate::senders::{finish, go_on, have_sent, submit_next};
 use crate::standing::Standing;
 use crate::turning::make_turn;
 use cmd_script::Script;
 use conn_loop::{Conn, News};
-use fixp_end::{End, EndConfig, EndState, Ending};
+use fixp_end::{End, EndConfig, EndState, Ending, GREATEST_NUMBER};
 use fixp_shake::Role;
 use gate_senders::{Gate, Kept};
 use gate_turn::Pass;
@@ -120,9 +120,9 @@ fn opened(alloc: Global, config: EndConfig, state: EndState) -> Result<Conn, All
     requires first { 1 ≤ state.inbox_next }
     requires numbered { state.inbox_next + 1 < 2 ^ 64 }
     requires sent { state.sent < 2 ^ 40 }
-    ensures { IfOk result (λ conn. line_of conn ≡ new_line (fresh config state (2 ^ 24)) 16) }
+    ensures { IfOk result (λ conn. line_of conn ≡ new_line (fresh config state (2 ^ 26)) 16) }
 {
-    let end = End::new(alloc, config, state, MOST)?;
+    let end = End::new(alloc, config, state, GREATEST_NUMBER)?;
     Conn::new(alloc, end, PER_TURN)
 }
 
@@ -132,13 +132,13 @@ fn new_conn(alloc: Global, gate: &Gate<Log>, inbox: &Inbox<Log>, config: EndConf
     requires keepalive { (100 ≤ config.keepalive) × (config.keepalive ≤ 60000) }
     requires credentials { length config.credentials ≤ 2048 }
     requires flow { flow_of inbox.now ≡ config.peer_flow }
-    requires limit { (limits_of inbox.now).entries ≡ 2 ^ 24 }
+    requires limit { (limits_of inbox.now).entries ≡ 2 ^ 26 }
     requires numbered { next_of inbox.now + 1 < 2 ^ 64 }
     ensures may { IfSome result (λ conn. (p : Part) → BeginsHistory (opening_of gate.now).history p.seen → Rests (line_of conn).machine p inbox.now) }
     ensures made { IfSome result (λ conn. IsMadeOf config (next_of inbox.now) (length (opening_of gate.now).history.made) conn) }
 {
     let state = recorded(gate, inbox);
-    if state.sent > MOST {
+    if state.sent > GREATEST_NUMBER {
         return None;
     }
     opened(alloc, config, state).ok()
@@ -243,8 +243,8 @@ impl DrivenEnd {
         requires sound { outboxes.is_broken outbox ≡ false }
         requires in_sound { is_broken inbox ≡ false }
         requires flow { flow_of inbox ≡ config.peer_flow }
-        requires limit { (limits_of inbox).entries ≡ 2 ^ 24 }
-        requires next { next_of inbox ≤ 2 ^ 24 + 1 }
+        requires limit { (limits_of inbox).entries ≡ 2 ^ 26 }
+        requires next { next_of inbox ≤ 2 ^ 26 + 1 }
         ensures driven { IfSome result (λ end. IsDriven end) }
         ensures sound { IfSome result (λ end. is_given end.standing ≡ false) }
         ensures rests { IfSome result IsResting }

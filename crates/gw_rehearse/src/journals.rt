@@ -9,9 +9,6 @@ use jr_segments::SegJournal;
 /// A journal on a disk in memory.
 pub type Log = SegJournal<MemDisk>;
 
-/// The greatest number of an application message here.
-pub(crate) const MOST: u64 = 1 << 24;
-
 /// The two journals of an end, which has so many senders.
 #[derive(Drop)]
 pub struct Journals {

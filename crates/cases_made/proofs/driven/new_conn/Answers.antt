@@ -8,7 +8,7 @@ returns c =
     let e = c.recorded-state.ensures in
     let r = c.requires in
     record {
-      may = conn_rests c.config.result 16777216 c.recorded-state.result (opening_of c.args.gate.now).history c.args.inbox.now c.opened.result c.ok.result c.ok.ensures.value c.opened.ensures e.sent
+      may = conn_rests c.config.result 67108864 c.recorded-state.result (opening_of c.args.gate.now).history c.args.inbox.now c.opened.result c.ok.result c.ok.ensures.value c.opened.ensures e.sent
           (let few = c.if-state-gt-MOST.false in omega (arith, few)) e.finish (let none = c.config.ensures.credentials in omega (arith, none)) (r.flow ∙ sym c.config.ensures.flow)
           (let limit = r.limit in omega (arith, limit)) e.next e.negotiated e.peer_last;
     }
