@@ -87,7 +87,7 @@ impl Conn {
 
     /// One turn. `news` is emptied first, and has then what was delivered and told. Where output is unsent at its start, or its
     /// tick ends the connection, the turn only sends. Else it receives once, takes at most as many frames as the connection's number, serves the outbox, and
-    /// sends until the link takes nothing. It reads the clock once, and its moment is what the clock gave then, or the machine's last where that is
+    /// sends until the link takes nothing. It reads the clock, and its moment is what the clock gave then, or the machine's last where that is
     /// later. What it records, and what senders add later, carries the turn's moment or a later one.
     ///
     /// # Errors
