@@ -12,10 +12,10 @@ venue= broker=
 trap 'for end in $venue $broker; do kill $(pgrep -P $end) $end 2>/dev/null; done; rm -rf "$folder"' EXIT
 cd "$folder" && mkdir venue broker || exit
 
-cd "$folder/venue" && "$root/fixpgw" format out.jrn in.jrn >said || exit
+cd "$folder/venue" && "$root/fixpgw" format accept "$examples/venue.toml" out.jrn in.jrn >said || exit
 "$examples/fed-end" accept "$address" "$examples/venue.toml" "$examples/fed-venue" 20 2>ends.txt &
 venue=$!
-cd "$folder/broker" && "$root/fixpgw" format out.jrn in.jrn >said || exit
+cd "$folder/broker" && "$root/fixpgw" format connect "$examples/venue.toml" out.jrn in.jrn >said || exit
 "$examples/fed-end" connect "$address" "$examples/venue.toml" "$examples/fed-broker" 20 2>ends.txt &
 broker=$!
 for name in fixpgw python3 fixpgw python3; do

@@ -11,8 +11,8 @@ trap 'kill $venue $broker 2>/dev/null; rm -rf "$folder"' EXIT
 venue= broker=
 cd "$folder" || exit
 
-"$root/fixpgw" format venue-out.jrn venue-in.jrn >said || { cat said; exit 1; }
-"$root/fixpgw" format broker-out.jrn broker-in.jrn >said || { cat said; exit 1; }
+"$root/fixpgw" format accept "$root/examples/venue.toml" venue-out.jrn venue-in.jrn >said || { cat said; exit 1; }
+"$root/fixpgw" format connect "$root/examples/broker.toml" broker-out.jrn broker-in.jrn >said || { cat said; exit 1; }
 
 "$root/fixpgw" accept "$address" 10 "$root/examples/venue.toml" "$root/examples/reports.txt" \
     venue-out.jrn venue-in.jrn venue.out >venue.said 2>venue.told &

@@ -26,8 +26,8 @@ for payload in map(bytes.fromhex, sys.stdin):
 
 # One session, of a venue with this configuration.
 session() {
-    "$root/fixpgw" format "$1-out.jrn" "$1-in.jrn" >said || { cat said; exit 1; }
-    "$root/fixpgw" format broker-out.jrn broker-in.jrn >said || { cat said; exit 1; }
+    "$root/fixpgw" format accept "$root/examples/$1.toml" "$1-out.jrn" "$1-in.jrn" >said || { cat said; exit 1; }
+    "$root/fixpgw" format connect "$root/examples/broker.toml" broker-out.jrn broker-in.jrn >said || { cat said; exit 1; }
     # INPUT of a venue that answers is not opened
     "$root/fixpgw" accept "$address" 10 "$root/examples/$1.toml" none "$1-out.jrn" "$1-in.jrn" venue.out >venue.said 2>venue.told &
     venue=$!

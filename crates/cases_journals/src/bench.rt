@@ -10,7 +10,7 @@ use cases_words::number;
 use gw_fakes::MemDisk;
 use gw_outside::{Bytes, Disk};
 use gw_real::{Begun, FileDisk, Named, Opening};
-use jr_dated::{Journal, Limits, Records};
+use jr_dated::{Form, Journal, Limits, Records};
 use jr_record::Record;
 use jr_segments::{SegJournal, format};
 use std::alloc::{AllocError, Global};
@@ -22,7 +22,7 @@ use std::rt::Env;
 const PAYLOAD: usize = 62;
 
 /// The most records of an append.
-const MOST: u64 = 4096;
+const MOST: u64 = 512;
 
 /// The room of the disk in memory, in bytes.
 const ROOM: usize = 4096;
@@ -30,14 +30,16 @@ const ROOM: usize = 4096;
 /// How a journal begins.
 const JOURNAL: Begun = Begun {
     mark: b"FIXPJRN2",
-    older: b"FIXPJRN1",
+    others: [b"FIXPJRN1", b"FIXPJRN3"],
     length: 17,
+    is_plain: true,
 };
 
 /// The limits of a session's journals.
 const LIMITS: Limits = Limits {
     entries: 1 << 26,
     bytes: 1 << 33,
+    form: Form::Two,
 };
 
 /// So many appends of so many records each.
@@ -73,8 +75,11 @@ fn messages(alloc: Global, count: u64) -> Result<Records, AllocError>
 /// Makes the appends to a new journal on a disk, and tells how many records it has then; none where the disk is refused.
 fn appended<D: Disk + Drop>(alloc: Global, disk: D, task: Task) -> Result<Option<u64>, AllocError> {
     let batch = messages(alloc, task.batch)?;
+    if batch.len() as u64 > MOST {
+        return Ok(None);
+    }
     let mut disk = disk;
-    if format(&mut disk).is_err() {
+    if format(&mut disk, Form::Two).is_err() {
         return Ok(None);
     }
     let Ok(mut journal) = SegJournal::open(alloc, disk, LIMITS) else {

@@ -3,11 +3,18 @@
 use crate::disks::{ROOM, WIDE};
 use gw_fakes::MemDisk;
 use gw_outside::Disk;
-use jr_dated::{Format, Journal};
+use jr_dated::Journal;
 use jr_log::read_journal;
 use jr_record::OpenFault;
 use jr_segments::SegJournal;
 use std::alloc::{AllocError, Global};
+
+/// Whether the records of a journal have moments: format 1 or 2.
+#[derive(Clone, Copy)]
+pub enum Format {
+    One,
+    Two,
+}
 
 /// What opening a disk finds.
 #[derive(Clone, Copy, PartialEq, Eq)]

@@ -1,11 +1,14 @@
 //! Disks in memory, and the steps that are taken on one which no journal holds.
 
-use crate::damage::{changed, cut};
+use crate::damage::{Format, changed, cut};
 use crate::moving::{add_moved, holding};
 use cases_words::{digits, halves, number};
+use fixp_msgs::Flow;
+use fixp_shake::Role;
 use gw_fakes::{MemDisk, Pick};
-use jr_dated::{Format, Limits};
+use jr_dated::{Form, Limits};
 use jr_segments::{SegJournal, format};
+use jr_title::{Binding, Title, Which, WhoSends};
 use std::alloc::{AllocError, Global};
 
 /// The room of each disk, in bytes.
@@ -15,13 +18,38 @@ pub const ROOM: usize = 4096;
 pub const WIDE: Limits = Limits {
     entries: 1000,
     bytes: 100_000,
+    form: Form::Two,
+};
+
+/// That of the page: the outbox of an acceptor.
+pub const TITLED: Form = Form::Three {
+    title: Title {
+        binding: Binding {
+            which: Which::Outbox,
+            role: Role::Acceptor,
+            session: [
+                0x00, 0x11, 0x22, 0x33, 0x44, 0x55, 0x66, 0x77, 0x88, 0x99, 0xAA, 0xBB, 0xCC, 0xDD,
+                0xEE, 0xFF,
+            ],
+            client_flow: Flow::Recoverable,
+            server_flow: Flow::Idempotent,
+            who_sends: WhoSends::Senders,
+        },
+        pair: 1,
+    },
 };
 
 /// The most device calls that an opening is looked for at.
 const MOST: u64 = 64;
 
-/// The limits that a case gives, `within ENTRIES BYTES`.
+/// The limits that a case gives, `within ENTRIES BYTES`; of a titled disk they are of its form.
 pub fn limits_of(disk: &str) -> Limits {
+    if disk == "titled" {
+        return Limits {
+            form: TITLED,
+            ..WIDE
+        };
+    }
     let ("within", limits) = halves(disk) else {
         return WIDE;
     };
@@ -29,17 +57,20 @@ pub fn limits_of(disk: &str) -> Limits {
     Limits {
         entries: number(entries).min(1 << 26),
         bytes: number(bytes).min(1 << 33),
+        form: Form::Two,
     }
 }
 
-/// The disk of a case: empty, or formatted, or `then` the one that was left. That formatting was refused would show at the opening.
+/// The disk of a case: empty, or formatted, or titled, or `then` the one that was left. That formatting was refused would show at the opening.
 pub fn begun(alloc: Global, disk: &str, left: MemDisk) -> Result<MemDisk, AllocError> {
     if disk == "then" {
         return Ok(left);
     }
     let mut made = MemDisk::without_faults(alloc, ROOM)?;
-    if disk != "empty" {
-        let _ = format(&mut made);
+    if disk == "titled" {
+        let _ = format(&mut made, TITLED);
+    } else if disk != "empty" {
+        let _ = format(&mut made, Form::Two);
     }
     Ok(made)
 }
@@ -100,7 +131,12 @@ fn add_told(
     match kind {
         "migrate" => add_moved(alloc, disk, others, told),
         "format" => {
-            let answer = format(disk);
+            let form = if others == "titled" {
+                TITLED
+            } else {
+                Form::Two
+            };
+            let answer = format(disk, form);
             write!(told, " -> {answer:?}")
         }
         "content" => {

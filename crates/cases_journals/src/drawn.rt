@@ -3,7 +3,7 @@
 use crate::noted::{Kind, Noted};
 use cases_words::Chance;
 use gw_fakes::{MemDisk, Pick};
-use jr_dated::Limits;
+use jr_dated::{Form, Limits};
 use std::alloc::{AllocError, Global};
 
 /// The greatest moment of a clock, in milliseconds.
@@ -76,6 +76,7 @@ pub fn limits(chance: &mut Chance, bytes: u64) -> Limits {
     Limits {
         entries: 1000,
         bytes: bytes.saturating_add(room).saturating_sub(50).min(1 << 33),
+        form: Form::Two,
     }
 }
 

@@ -11,6 +11,9 @@ use jr_dated::{Journal, Limits};
 use jr_segments::SegJournal;
 use std::alloc::{AllocError, Global};
 
+/// The records that a batch has at most.
+pub const AT_ONCE: usize = 512;
+
 /// Appends a record, and adds what it gave.
 fn append<J: Journal>(
     alloc: Global,
@@ -36,6 +39,9 @@ fn append_batch<J: Journal>(
 ) -> Result<(), AllocError> {
     let (first, last) = halves(words);
     let batch = applies(alloc, number(first), number(last))?;
+    if batch.len() > AT_ONCE {
+        return told.push_str(" too many");
+    }
     let answer = journal.append_batch(&batch);
     write!(told, " {answer:?}")
 }

@@ -4,6 +4,7 @@ use crate::drawn::{batch_length, fuse, limits, moment, noted, notes, stopped};
 use crate::ending::{Difference, Ending};
 use crate::met::{Met, count};
 use crate::noted::{Noted, records};
+use crate::opened::AT_ONCE;
 use crate::plain::Plain;
 use cases_words::Chance;
 use gw_fakes::MemDisk;
@@ -166,6 +167,10 @@ impl Sequence {
         let (behind, moment) = (self.plain.len(), self.plain.moment);
         let notes = notes(self.alloc, &mut self.chance, length, behind, moment)?;
         let batch = records(self.alloc, notes.as_slice())?;
+        // No sequence has so many.
+        if batch.len() > AT_ONCE {
+            return Ok(true);
+        }
         let answer = journal.append_batch(&batch);
         self.answered(answer, notes.as_slice())
     }

@@ -7,15 +7,16 @@ use crate::sequence::Sequence;
 use cases_words::{halves, number};
 use gw_fakes::MemDisk;
 use gw_outside::Disk;
-use jr_dated::Limits;
+use jr_dated::{Form, Limits};
 use jr_segments::{SegJournal, format};
 use std::alloc::{AllocError, Global};
 
 /// One in so many begins on a long journal.
 const LONG_ONES: u64 = 64;
 
-/// The records of a long journal: a few less than a segment has.
-const LONG: u64 = 4074;
+/// The records of a long journal, 4,074: a few less than a segment has. So many batches, and how many records one has.
+const BATCHES: u64 = 14;
+const BATCH: u64 = 291;
 
 /// The room of a disk, in bytes: more than a sequence fills behind a long journal.
 const ROOM: usize = 1 << 19;
@@ -24,6 +25,7 @@ const ROOM: usize = 1 << 19;
 const WIDE: Limits = Limits {
     entries: 1000,
     bytes: 1 << 20,
+    form: Form::Two,
 };
 
 /// A journal on a disk, and the list that it is.
@@ -36,21 +38,23 @@ struct Start {
 /// A journal without records.
 fn empty(alloc: Global) -> Result<Start, AllocError> {
     let mut disk = MemDisk::without_faults(alloc, ROOM)?;
-    let _ = format(&mut disk);
+    let _ = format(&mut disk, Form::Two);
     Ok(Start {
         disk,
         plain: Plain::new(alloc),
     })
 }
 
-/// A journal of nearly as many records as a segment has, added as one batch.
+/// A journal of nearly as many records as a segment has.
 fn long(alloc: Global) -> Result<Start, Ending> {
     let Start { disk, mut plain } = empty(alloc)?;
     plain.limit = WIDE.bytes;
     let mut sequence = Sequence::of(alloc, 0, plain, Met::nothing());
     match SegJournal::open(alloc, disk, WIDE) {
         Ok(mut journal) => {
-            let _ = sequence.append_notes(&mut journal, LONG)?;
+            for _ in 0..BATCHES {
+                let _ = sequence.append_notes(&mut journal, BATCH)?;
+            }
             Ok(Start {
                 disk: journal.close(),
                 plain: sequence.plain.copy(alloc)?,

@@ -7,7 +7,7 @@ ghost use Rattle.jr_kept.specs.Inbox as inboxes;
 use fixp_msgs::Flow;
 use gw_fakes::MemDisk;
 use gw_outside::Disk;
-use jr_dated::{Journal, Limits};
+use jr_dated::{Form, Journal, Limits};
 use jr_kept::{Inbox, Outbox};
 use jr_record::Record;
 use jr_segments::{SegJournal, format};
@@ -23,12 +23,14 @@ pub(crate) const MOST: u64 = 1 << 24;
 pub(crate) const LIMITS: Limits = Limits {
     entries: MOST,
     bytes: 1 << 30,
+    form: Form::Two,
 };
 
 /// Limits that no case meets but those that give their own.
 pub(crate) const WIDE: Limits = Limits {
     entries: 1000,
     bytes: 100_000,
+    form: Form::Two,
 };
 
 /// The disks of the outbox and of the inbox.
@@ -41,7 +43,7 @@ pub struct Disks {
 /// A new journal on a disk of so many bytes; none where memory runs out.
 pub fn formatted(alloc: Global, room: usize) -> Option<MemDisk> {
     let mut disk = MemDisk::without_faults(alloc, room).ok()?;
-    format(&mut disk).ok()?;
+    format(&mut disk, Form::Two).ok()?;
     Some(disk)
 }
 
@@ -90,7 +92,11 @@ pub(crate) fn open_inbox(alloc: Global, disk: MemDisk, flow: Flow, bytes: u64) -
     ensures numbered { IfSome result (λ box. inboxes.next_of box + 1 < 2 ^ 64) }
 {
     let entries = LIMITS.entries;
-    let limits = Limits { entries, bytes };
+    let limits = Limits {
+        entries,
+        bytes,
+        form: Form::Two,
+    };
     let journal = SegJournal::open(alloc, disk, limits).ok()?;
     let inbox = Inbox::open(alloc, journal, limits, flow).ok()?;
     (inbox.next() <= MOST + 1).then_some(inbox)

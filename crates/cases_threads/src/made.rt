@@ -5,7 +5,7 @@ ghost use Rattle.jr_kept.specs.Outbox.{is_broken};
 
 use gw_fakes::MemDisk;
 use gw_outside::Disk;
-use jr_dated::Limits;
+use jr_dated::{Form, Limits};
 use jr_kept::Outbox;
 use jr_segments::{SegJournal, format};
 use std::alloc::Global;
@@ -17,12 +17,13 @@ pub type Log = SegJournal<MemDisk>;
 pub const WIDE: Limits = Limits {
     entries: 1000,
     bytes: 100_000,
+    form: Form::Two,
 };
 
 /// A formatted disk of so many bytes; None where it is not to be had.
 pub fn formatted(alloc: Global, room: usize) -> Option<MemDisk> {
     let mut disk = MemDisk::without_faults(alloc, room).ok()?;
-    format(&mut disk).ok()?;
+    format(&mut disk, Form::Two).ok()?;
     Some(disk)
 }
 

@@ -8,6 +8,7 @@ mod limits;
 mod purpose;
 mod readers;
 mod settings;
+mod titles;
 
 pub use configuration::{
     Configuration, Link, Trade, read_configuration, read_credentials, read_table,
@@ -20,3 +21,4 @@ pub use limits::{
 pub use purpose::{Purpose, own_flow, peer_flow, role_of};
 pub use readers::{Flows, Sessions};
 pub use settings::{Settings, read_settings};
+pub use titles::binding;

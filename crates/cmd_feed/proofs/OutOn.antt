@@ -1,26 +1,29 @@
 -- OUT, gone on with over an inbox that was opened, and what the disk of the inbox tells and leaves then.
-use Rattle.std.proofs.Common.{◌≡◌, ◌⊎◌, inl, inr, ⊎_elim, ℕ, ◌+◌, ◌≤◌, true, false, Bool, List, [], ◌∷◌, ◌++◌, length, take, drop, slice_index, Option, Some, None, is_some}
+use Rattle.std.proofs.Common.{◌≡◌, ◌⊎◌, inl, inr, ⊎_elim, ℕ, ◌+◌, ◌≤◌, true, false, Bool, List, [], ◌∷◌, ◌++◌, length, take, drop, get_or, Option, Some, None, is_some}
 use Rattle.std.proofs.Common.{refl, sym, ap, subst, ◌∙◌, append-nil, append_assoc, arith}
 use Rattle.std.specs.Prelude.{IfSome, IfNone, IsSomeAnd, flat_map}
 use Rattle.std.specs.Option.{ForSome}
 use Rattle.std.specs.Io.KnownBytes.{Keeps, Appends}
 use Rattle.std.proofs.lemmas.Bool.{false≢true}
-use Rattle.std.proofs.lemmas.List.{take_all, take-append-drop, take-map}
+use Rattle.std.proofs.lemmas.List.{take_all, take-append-drop, take-map, get_or-take}
 use Rattle.session_model.specs.Inbox.{Numbered, InboxRecord}
 use Rattle.fixp_msgs.specs.declared.flow.Flow.{Flow}
 use Rattle.jr_record.specs.declared.record.Record.{Record}
-use Rattle.jr_record.specs.Images.{header as old_header}
 use Rattle.jr_dated.specs.declared.journal.Journal.{Ghosts}
 use Rattle.jr_dated.specs.Dated.{Dated, IsDated, undated}
-use Rattle.jr_dated.specs.Images.{header, IsJournal as IsDatedJournal, Leaves as LeavesDated}
+use Rattle.jr_dated.specs.declared.form.Form.{Form}
+use Rattle.jr_dated.specs.declared.form.Form.TheVariants.{Two, Three}
+use Rattle.jr_dated.specs.declared.limits.Limits.{Limits}
+use Rattle.jr_dated.specs.Images.{HasForm, IsUncut, IsJournal as IsDatedJournal, Leaves as LeavesDated}
+use Rattle.jr_dated.proofs.Forms.{digit, has_digit, one_form}
 use Rattle.jr_dated.specs.Journals.{Holds, Unchanged as SameJournal}
 use Rattle.std.specs.List.{AllByRecursion}
 use Rattle.jr_boxes.specs.Inboxes.{IsInbox, IsWrongAt, record_of, records_of_inbox}
 use Rattle.jr_boxes.specs.declared.faults.Which.TheVariants.{Inbox as InboxOf, Outbox as OutboxOf}
 use Rattle.jr_boxes.specs.declared.faults.JournalCause.{JournalCause}
-use Rattle.jr_boxes.specs.declared.faults.JournalCause.TheVariants.{NotFormatted, OldFormat, Damaged, Wrong, Changed, Already, NotFresh}
+use Rattle.jr_boxes.specs.declared.faults.JournalCause.TheVariants.{NotFormatted, OldFormat, Other, Damaged, Wrong, Changed, Already, NotFresh}
 use Rattle.jr_kept.specs.declared.inbox.Inbox.{Inbox}
-use Rattle.jr_kept.specs.Inbox.{journal_of, flow_of}
+use Rattle.jr_kept.specs.Inbox.{journal_of, flow_of, limits_of}
 use Rattle.jr_kept.proofs.Held.{none_late, holds_same}
 use Rattle.conn_out.specs.Messages.{messages_of, messages_in as dated_messages_in}
 use Rattle.conn_out.specs.Projections.{Tells, Projects, ProjectsOn}
@@ -28,7 +31,7 @@ use Rattle.conn_out.specs.Laws.{AreRising, AreMessages}
 use Rattle.cmd_base.specs.declared.status.Status.{Status}
 use Rattle.cmd_base.specs.declared.status.Status.TheVariants as status
 use Rattle.cmd_session.specs.Boxes.{IsNoBox, IsNotOpened}
-use Rattle.cmd_session.specs.Journals.{IsJournal, Leaves}
+use Rattle.cmd_session.specs.Journals.{IsJournal, IsOldFormat, Leaves}
 use Rattle.cmd_session.specs.Lived.{LeavesImages, KeepsRecords, LeavesNoMore, IsKept, OpensInbox}
 use Rattle.cmd_session.proofs.Verdicts.{at_most_one_verdict}
 use Rattle.cmd_session.proofs.Kept.{records_kept}
@@ -84,19 +87,28 @@ none_excluded flow inbox at is w = w.excluded (take (at + 1) inbox) (record {
       (sym (take-append-drop (at + 1) inbox) ∙ (ap (λ (rs : List InboxRecord). rs ++ drop (at + 1) inbox) e ∙ append_assoc before (r ∷ after) (drop (at + 1) inbox)));
 })
 
-two_headers : old_header ≡ header → ⊥
-two_headers e = let digit : 0x31 ≡ 0x32 = ap (λ (xs : List ℕ). slice_index xs 7) e in omega (arith, digit)
+-- no header is that of format 1
+no_digit : (form : Form) → digit form ≡ 0x31 → ⊥
+no_digit Two e = omega (arith, e)
+no_digit (Three title) e = omega (arith, e)
 
-no_cause : (flow : Flow) (inbox : List InboxRecord) (content : List ℕ) → IsInbox flow (records_of_inbox inbox) inbox → IsJournal content (records_of_inbox inbox)
+not_old : (form : Form) (content : List ℕ) → HasForm form content → IsOldFormat content → ⊥
+not_old form content has old =
+    let eighth : get_or content 7 0 ≡ 0x31 = sym (get_or-take 16 content 7 0 (omega arith)) ∙ ap (λ (xs : List ℕ). get_or xs 7 0) old in
+    no_digit form (sym (has_digit form content has) ∙ eighth)
+
+no_cause : (flow : Flow) (inbox : List InboxRecord) (content : List ℕ) → IsInbox flow (records_of_inbox inbox) inbox → IsJournal content (records_of_inbox inbox) → IsUncut content
     → (cause : JournalCause) → IsNoBox InboxOf flow cause content → ⊥
-no_cause flow inbox content is journal NotFormatted why = at_most_one_verdict.formatted content (records_of_inbox inbox) journal why.0
-no_cause flow inbox content is journal OldFormat why = at_most_one_verdict.formatted content (records_of_inbox inbox) journal (λ two. two_headers (sym why ∙ two))
-no_cause flow inbox content is journal (Damaged at) why = at_most_one_verdict.whole content (records_of_inbox inbox) at journal why
-no_cause flow inbox content is journal (Wrong at) why =
+no_cause flow inbox content is journal uncut NotFormatted why = at_most_one_verdict.formatted content (records_of_inbox inbox) journal why.0
+no_cause flow inbox content is journal uncut OldFormat why = at_most_one_verdict.formatted content (records_of_inbox inbox) journal (λ form has. not_old form content has why)
+no_cause flow inbox content is journal uncut (Other part) why = why
+no_cause flow inbox content is journal uncut (Damaged at) (inl damaged) = at_most_one_verdict.whole content (records_of_inbox inbox) at journal damaged
+no_cause flow inbox content is journal uncut (Damaged at) (inr cut) = uncut at cut
+no_cause flow inbox content is journal uncut (Wrong at) why =
     none_excluded flow inbox at is (subst (λ (rs : List Record). IsWrongAt flow rs at) (at_most_one_verdict.one_list content why.records (records_of_inbox inbox) why.journal journal) why.wrong)
-no_cause flow inbox content is journal (Changed at) why = why
-no_cause flow inbox content is journal Already why = why
-no_cause flow inbox content is journal NotFresh why = why
+no_cause flow inbox content is journal uncut (Changed at) why = why
+no_cause flow inbox content is journal uncut Already why = why
+no_cause flow inbox content is journal uncut NotFresh why = why
 
 -- so a disk that tells it is not refused
 not_refused : (flow : Flow) (first now : Option (List ℕ)) → ((cause : JournalCause) → ForSome now (IsNoBox InboxOf flow cause) → ForSome first (λ _. ⊥))
@@ -110,6 +122,7 @@ not_refused flow first now never status.JournalFault n = tt
 not_refused flow first now never (status.JournalBad OutboxOf cause) n = let same : OutboxOf ≡ InboxOf = n.0 in absurd (cc same)
 not_refused flow first now never (status.JournalBad InboxOf NotFormatted) n = never NotFormatted n.1
 not_refused flow first now never (status.JournalBad InboxOf OldFormat) n = never OldFormat n.1
+not_refused flow first now never (status.JournalBad InboxOf (Other part)) n = never (Other part) n.1
 not_refused flow first now never (status.JournalBad InboxOf (Damaged at)) n = never (Damaged at) n.1
 not_refused flow first now never (status.JournalBad InboxOf (Wrong at)) n = never (Wrong at) n.1
 not_refused flow first now never (status.JournalBad InboxOf (Changed at)) n = never (Changed at) n.1
@@ -185,13 +198,16 @@ module _ {D J : Type 0} {H : Ghosts J} (told : D → Option (List ℕ)) (may_lea
       records_kept told may_leave disk_at H.stands H.leaves before disk j o.holds.dated (records_of_inbox o.inbox) o.holds.bare o.told (holds_now (told before) box old j o taken unchanged) (leaves_are j) closed
 
   module _ (tells : (j : J) → H.is_told j → is_some (told (disk_at j)) ≡ true)
-      (content_of : (j : J) (ds : List Dated) → H.is_broken j ≡ false → H.stands j ds → ForSome (told (disk_at j)) (λ content. IsDatedJournal content ds)) where
+      (content_of : (j : J) (ds : List Dated) → H.is_broken j ≡ false → H.stands j ds → ForSome (told (disk_at j)) (λ content. IsDatedJournal content ds))
+      (formed_of : (j : J) → ForSome (told (disk_at j)) (HasForm (H.limits j).form)) (uncut_of : (j : J) → H.is_broken j ≡ false → ForSome (told (disk_at j)) IsUncut) where
     module _ (first : Option (List ℕ)) (box : Inbox J H) (old j : J) (disk : D) (o : OpensInbox first box) (t : IsToldBy first box) (taken : old ≡ journal_of box)
         (unchanged : SameJournal H.stands H.leaves old j) (sound : H.is_broken j ≡ false) (still : H.is_told old → H.is_told j) (closed : disk ≡ disk_at j) where
       record ToldNow : Type 0 where
         content : List ℕ
         is : told disk ≡ Some content
         journal : IsJournal content (records_of_inbox o.inbox)
+        formed : HasForm (H.limits j).form content
+        uncut : IsUncut content
 
       -- its disk tells a journal of the list that the inbox has
       told_now : (content : List ℕ) → first ≡ Some content → ToldNow
@@ -201,21 +217,30 @@ module _ {D J : Type 0} {H : Ghosts J} (told : D → Option (List ℕ)) (may_lea
             content = now.0;
             is = ap told closed ∙ now.1;
             journal = (o.holds.dated, content_of j o.holds.dated sound (holds_now first box old j o taken unchanged).stands_for now.0 now.1, o.holds.bare);
+            formed = formed_of j now.0 now.1;
+            uncut = uncut_of j sound now.0 now.1;
           }
 
-      pub opens_again : (again : Inbox J H) → OpensInbox (told disk) again → OpensInbox first again
-      opens_again again a = record {
+      -- which is of the inbox's form
+      same_form : H.limits j ≡ H.limits old → (form : Form) (content : List ℕ) → HasForm (H.limits j).form content → HasForm form content → (limits_of box).form ≡ form
+      same_form same form content has other =
+          sym (ap (λ (l : Limits). l.form) (same ∙ ap (λ (x : J). H.limits x) taken ∙ box.limited)) ∙ one_form content (H.limits j).form form has other
+
+      pub opens_again : H.limits j ≡ H.limits old → (again : Inbox J H) → OpensInbox (told disk) again → OpensInbox first again
+      opens_again same again a = record {
         inbox = a.inbox;
         told = λ content is. let now = told_now content is in
             subst (λ (rs : List Record). IsJournal content rs) (at_most_one_verdict.one_list now.content (records_of_inbox o.inbox) (records_of_inbox a.inbox) now.journal (a.told now.content now.is))
             (o.told content is);
         holds = a.holds;
+        formed = λ content is. let now = told_now content is in
+            subst (λ (f : Form). HasForm f content) (same_form same (limits_of again).form now.content now.formed (a.formed now.content now.is)) (o.formed content is);
       }
 
       pub refused_again : (flow : Flow) → flow_of box ≡ flow → (s : Status) → IsNotOpened InboxOf flow (told disk) s → RefusesOut first s
       refused_again flow same s n = not_refused flow first (told disk)
           (λ cause why content is. let now = told_now content is in
-          no_cause flow o.inbox now.content (subst (λ (f : Flow). IsInbox f (records_of_inbox o.inbox) o.inbox) same o.holds.inbox) now.journal cause (why now.content now.is))
+          no_cause flow o.inbox now.content (subst (λ (f : Flow). IsInbox f (records_of_inbox o.inbox) o.inbox) same o.holds.inbox) now.journal now.uncut cause (why now.content now.is))
           s n
 
     -- what a disk that was not opened once more leaves

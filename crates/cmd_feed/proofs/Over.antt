@@ -23,7 +23,8 @@ use Rattle.jr_dated.specs.declared.journal.Journal.{Ghosts}
 use Rattle.jr_record.specs.declared.record.Record.{Record}
 use Rattle.jr_dated.specs.declared.limits.Limits.{Limits as JournalLimits}
 use Rattle.jr_dated.specs.Dated.{Dated, undated}
-use Rattle.jr_dated.specs.Images.{journal_size, Leaves as LeavesDated}
+use Rattle.jr_dated.specs.declared.form.Form.{Form}
+use Rattle.jr_dated.specs.Images.{header_of, journal_size, Leaves as LeavesDated}
 use Rattle.cmd_session.specs.Journals.{IsJournal}
 use Rattle.jr_boxes.specs.Outboxes.{record_of, outbox_of, records_of_history}
 use Rattle.jr_boxes.specs.Inboxes.{records_of_inbox}
@@ -33,6 +34,7 @@ use Rattle.jr_kept.specs.Outbox as outboxes
 use Rattle.jr_kept.specs.Inbox as inboxes
 use Rattle.jr_boxes.proofs.Kept.{length-places}
 use Rattle.gate_turn.specs.Views.{Limits}
+use Rattle.gate_senders.specs.Kept.{bounds}
 use Rattle.conn_steps.specs.Settling.{IsPast, HaveRoom}
 use Rattle.conn_steps.proofs.Either.{either_box}
 use Rattle.conn_door.specs.declared.answer.ServeFault.{ServeFault}
@@ -79,7 +81,7 @@ told_earlier (ends.Full entries bytes) old mid new text h t = Appends-trans old 
 told_earlier ends.Memory old mid new text h t = front_earlier old mid new text h t
 
 module _ {S K D N C J : Type 0} {H : Ghosts J} (outbox : Outbox J H) (sees : Sees S K D N C) (disk_at : J → D) (leaves_are : (j : J) (image : Option (List Dated)) → LeavesDated (sees.may_leave (disk_at j)) image → H.leaves j image)
-    (sizes : (j : J) (ds : List Dated) → H.stands j ds → journal_size (undated ds) ≡ H.size j) where
+    (sizes : (j : J) (ds : List Dated) → H.stands j ds → journal_size (H.limits j).form (undated ds) ≡ H.size j) where
   module _ (config : EndConfig) (senders : Senders) (before after : SessionOutside S K D N C) (closed : Outbox J H) (box since : Inbox J H) (result : Result (Unit {0}) ServeFault)
       (o : HoldsTold (sees.told before.out_disk) outbox) (i : OpensInbox (sees.told before.in_disk) box) (limit : ((outboxes.limits_of outbox).entries ≡ 2 ^ 26) × ((outboxes.limits_of outbox).bytes ≡ 2 ^ 33))
       (in_limit : (inboxes.limits_of box).bytes ≡ 2 ^ 33) (now_out_is : after.out_disk ≡ disk_at (outboxes.journal_of closed)) (now_in_is : after.in_disk ≡ disk_at (inboxes.journal_of since))
@@ -135,13 +137,22 @@ module _ {S K D N C J : Type 0} {H : Ghosts J} (outbox : Outbox J H) (sees : See
     held = either_box since list (refused_of_all (option_to_list l.served.life.given_up)) (l.served.life.refuses.holds i.inbox i.holds)
 
     -- a journal takes as many bytes as the records that its inbox holds
-    sized : (b : Inbox J H) (rs late : List InboxRecord) → inboxes.HoldsBox b rs late → journal_size (records_of_inbox rs) ≡ inboxes.size_of b
-    sized b rs late h = sym (ap (λ (xs : List Record). journal_size xs) h.bare) ∙ sizes (inboxes.journal_of b) h.dated h.journal.stands_for
+    sized : (b : Inbox J H) (rs late : List InboxRecord) → inboxes.HoldsBox b rs late → journal_size (inboxes.limits_of b).form (records_of_inbox rs) ≡ inboxes.size_of b
+    sized b rs late h =
+        subst (λ (x : JournalLimits). journal_size x.form (records_of_inbox rs) ≡ inboxes.size_of b) b.limited
+        (sym (ap (λ (xs : List Record). journal_size (H.limits (inboxes.journal_of b)).form xs) h.bare) ∙ sizes (inboxes.journal_of b) h.dated h.journal.stands_for)
+
+    -- the forms of both journals
+    abbrev out_form : Form
+    out_form = (outboxes.limits_of outbox).form
+
+    abbrev in_form : Form
+    in_form = (inboxes.limits_of box).form
 
     -- what was added had room behind what the inbox's journal took as it opened
-    room : HaveRoom (2 ^ 33) (journal_size (records_of_inbox i.inbox)) (adds_of (all_of l.served.life.ended l.served.life.given_up) ++ refused_of_all (option_to_list l.served.life.given_up))
-    room = subst (λ (n : ℕ). HaveRoom n (journal_size (records_of_inbox i.inbox)) records) in_limit
-        (subst (λ (n : ℕ). HaveRoom (inboxes.limits_of box).bytes n records) (sym (sized box i.inbox [] i.holds)) l.served.life.refuses.room)
+    room : HaveRoom in_form (2 ^ 33) (journal_size in_form (records_of_inbox i.inbox)) (adds_of (all_of l.served.life.ended l.served.life.given_up) ++ refused_of_all (option_to_list l.served.life.given_up))
+    room = subst (λ (n : ℕ). HaveRoom in_form n (journal_size in_form (records_of_inbox i.inbox)) records) in_limit
+        (subst (λ (n : ℕ). HaveRoom in_form (inboxes.limits_of box).bytes n records) (sym (sized box i.inbox [] i.holds)) l.served.life.refuses.room)
       where
         records : List InboxRecord
         records = adds_of (all_of l.served.life.ended l.served.life.given_up) ++ refused_of_all (option_to_list l.served.life.given_up)
@@ -149,18 +160,18 @@ module _ {S K D N C J : Type 0} {H : Ghosts J} (outbox : Outbox J H) (sees : See
     abbrev wanted : List InboxRecord
     wanted = wanted_of_all (option_to_list l.served.life.given_up)
 
-    full_inbox : (entries bytes : ℕ) → FillsInbox since wanted entries bytes → FullInbox list wanted entries bytes
+    full_inbox : (entries bytes : ℕ) → FillsInbox since wanted entries bytes → FullInbox in_form list wanted entries bytes
     full_inbox entries bytes f = record {
       entries_are = f.entries_are ∙ (ap length held.noticed.places ∙ length-places 0 list);
-      bytes_are = f.bytes_are ∙ sym (sized since list (refused_of_all (option_to_list l.served.life.given_up)) held);
-      past = subst (λ (n : ℕ). IsPast n bytes wanted) (ap (λ (x : JournalLimits). x.bytes) l.limits ∙ in_limit) f.past;
+      bytes_are = subst (λ (x : JournalLimits). bytes ≡ journal_size x.form (records_of_inbox list)) l.limits (f.bytes_are ∙ sym (sized since list (refused_of_all (option_to_list l.served.life.given_up)) held));
+      past = subst (λ (n : ℕ). IsPast in_form n bytes wanted) in_limit (subst (λ (x : JournalLimits). IsPast x.form x.bytes bytes wanted) l.limits f.past);
     }
 
-    full_outbox : (entries bytes : ℕ) (plans : List (List (List ℕ))) → WasFull (record { entries = (outboxes.limits_of outbox).entries; bytes = (outboxes.limits_of outbox).bytes }) plans l.opening l.closing entries bytes
-        → WasFull limits plans l.opening l.closing entries bytes
+    full_outbox : (entries bytes : ℕ) (plans : List (List (List ℕ))) → WasFull (bounds (outboxes.limits_of outbox)) plans l.opening l.closing entries bytes
+        → WasFull (limits out_form) plans l.opening l.closing entries bytes
     full_outbox entries bytes plans w =
-        let same : (◌≡◌ {A = Limits} (record { entries = (outboxes.limits_of outbox).entries; bytes = (outboxes.limits_of outbox).bytes }) limits) =
-        ap (λ (n : ℕ). record { entries = n; bytes = (outboxes.limits_of outbox).bytes }) limit.0 ∙ ap (λ (n : ℕ). record { entries = 2 ^ 26; bytes = n }) limit.1 in
+        let same : (◌≡◌ {A = Limits} (bounds (outboxes.limits_of outbox)) (limits out_form)) =
+        ap (λ (n : ℕ). record { entries = n; bytes = (outboxes.limits_of outbox).bytes; header = header_of out_form }) limit.0 ∙ ap (λ (n : ℕ). record { entries = 2 ^ 26; bytes = n; header = header_of out_form }) limit.1 in
         subst (λ (x : Limits). WasFull x plans l.opening l.closing entries bytes) same w
 
     -- it lived over both disks
@@ -174,6 +185,10 @@ module _ {S K D N C J : Type 0} {H : Ghosts J} (outbox : Outbox J H) (sees : See
       refused = l.refused;
       out_opened = λ content is. subst (λ (rs : List Record). IsJournal content rs) (same_records content is) (o.told content is);
       in_opened = i.told;
+      out_form = out_form;
+      in_form = in_form;
+      out_formed = o.formed;
+      in_formed = i.formed;
       holds = i.holds;
       served = record { life = l.served.life; links = l.served.links; clock = by_earlier (sees.last before.clock) at (sees.last after.clock) (all_of l.served.life.ended l.served.life.given_up) least l.served.clock };
       answer = l.answer;
@@ -210,7 +225,7 @@ module _ {S K D N C J : Type 0} {H : Ghosts J} (outbox : Outbox J H) (sees : See
     }
 
 module _ {S I K A D N C J : Type 0} {H : Ghosts J} (outbox : Outbox J H) (seen : FeedSees S I K A D N C) (disk_at : J → D) (leaves_are : (j : J) (image : Option (List Dated)) → LeavesDated (seen.session.may_leave (disk_at j)) image → H.leaves j image)
-    (sizes : (j : J) (ds : List Dated) → H.stands j ds → journal_size (undated ds) ≡ H.size j) where
+    (sizes : (j : J) (ds : List Dated) → H.stands j ds → journal_size (H.limits j).form (undated ds) ≡ H.size j) where
   module _ (config : EndConfig) (count : ℕ) (before after : FeedOutside S I K A D N C) (closed : Outbox J H) (box since : Inbox J H) (status : Status)
       (o : HoldsTold (seen.session.told before.out_disk) outbox) (i : OpensInbox (seen.session.told before.in_disk) box) (limit : ((outboxes.limits_of outbox).entries ≡ 2 ^ 26) × ((outboxes.limits_of outbox).bytes ≡ 2 ^ 33))
       (in_limit : (inboxes.limits_of box).bytes ≡ 2 ^ 33) (now_out_is : after.out_disk ≡ disk_at (outboxes.journal_of closed)) (now_in_is : after.in_disk ≡ disk_at (inboxes.journal_of since))

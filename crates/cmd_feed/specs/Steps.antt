@@ -14,6 +14,8 @@ use Rattle.fixp_shake.specs.declared.config.Role.{Role}
 use Rattle.cmd_config.specs.declared.configuration.Configuration.{Configuration}
 use Rattle.jr_record.specs.declared.record.Record.{Record}
 use Rattle.jr_dated.specs.declared.journal.Journal.{Ghosts}
+use Rattle.jr_dated.specs.declared.form.Form.{Form}
+use Rattle.jr_dated.specs.Images.{HasForm}
 use Rattle.jr_boxes.specs.Inboxes.{records_of_inbox}
 use Rattle.jr_kept.specs.declared.inbox.Inbox.{Inbox}
 use Rattle.jr_kept.specs.declared.outbox.Outbox.{Outbox}
@@ -31,6 +33,8 @@ use Rattle.cmd_session.specs.Journals.{IsJournal}
 use Rattle.cmd_session.specs.Lived.{IsOfLife, LeftBoth, OpensOutbox, OpensInbox}
 use Rattle.cmd_session.specs.Outsides.{live_of, disks_of, KeepsLive, KeepsBehindConfig}
 use Rattle.cmd_session.specs.Steps.{HoldBoxes, RefusedBoxes}
+use Rattle.cmd_session.specs.Titles.{asked_of}
+use Rattle.cmd_session.specs.declared.titles.Asked.{Asked}
 use Rattle.cmd_feed.specs.declared.outside.FeedOutside.{FeedOutside}
 use Rattle.cmd_feed.specs.Outsides.{FeedSees, session_of, KeepsStreams, KeepsLinks}
 use Rattle.cmd_feed.specs.Lived.{HasLivedFedOver}
@@ -72,9 +76,11 @@ RefusesOut told (JournalBad InboxOf cause) = ForSome told (λ _. ⊥)
 RefusesOut told Memory = Unit {0}
 RefusesOut told _ = ⊥
 
--- a disk as a journal was opened on it: where both tell their content, it tells a journal of the records of which it told one; and no count fell
+-- a disk as a journal was opened on it: where both tell their content, it tells a journal of the records of which it told one, in the form that it had; and
+-- no count fell
 pub record IsOpened {D : Type 0} (told : D → Option (List ℕ)) (disk : D → ℕ) (before opened : D) : Type 0 where
   pub tells : ForSome (told before) (λ content. ForSome (told opened) (λ now. (records : List Record) → IsJournal content records → IsJournal now records))
+  pub forms : ForSome (told before) (λ content. ForSome (told opened) (λ now. (form : Form) → HasForm form now → HasForm form content))
   pub never_falls : disk before ≤ disk opened
 
 module _ {J : Type 0} {G : Ghosts J} where
@@ -107,9 +113,9 @@ module _ {S I K A D N C : Type 0} where
     pub kept : KeepsBehindConfig (session_of before) (record (session_of after) { input = before.config })
     pub streams : KeepsStreams before after
 
-  -- a box was not opened; OUT and all behind it is as it was
-  pub record StopsAtBoxes (sees : FeedSees S I K A D N C) (end : EndConfig) (before after : FeedOutside S I K A D N C) (status : Status) : Type 0 where
-    pub refused : RefusedBoxes sees.session.told sees.session.may_leave sees.session.disk end.peer_flow
+  -- the journals are another's, or a box was not opened; OUT and all behind it is as it was
+  pub record StopsAtBoxes (sees : FeedSees S I K A D N C) (asked : Asked) (end : EndConfig) (before after : FeedOutside S I K A D N C) (status : Status) : Type 0 where
+    pub refused : RefusedBoxes sees.session.told sees.session.may_leave sees.session.disk asked end.peer_flow
         (disks_of (session_of before)) (disks_of (session_of after)) status
     pub live : KeepsLive (live_of (session_of before)) (live_of (session_of after))
     pub streams : KeepsStreams before after
@@ -164,21 +170,21 @@ module _ {S I K A D N C J : Type 0} where
       StopsAtOut sees before after status ⊎ StopsAtAccepted sees before after status ⊎ Lives G sees senders end before after status
 
   -- both boxes were opened; and the run ended behind them, over the disk of the inbox as it was opened
-  pub record RunsOverBoxes (G : Ghosts J) (sees : FeedSees S I K A D N C) (senders : ℕ) (end : EndConfig) (before after : FeedOutside S I K A D N C)
+  pub record RunsOverBoxes (G : Ghosts J) (sees : FeedSees S I K A D N C) (senders : ℕ) (asked : Asked) (end : EndConfig) (before after : FeedOutside S I K A D N C)
       (status : Status) : Type 0 where
-    pub boxes : HoldBoxes sees.session.told end.peer_flow (disks_of (session_of before))
+    pub boxes : HoldBoxes sees.session.told asked end.peer_flow (disks_of (session_of before))
     pub opened : D
     pub is_opened : IsOpened sees.session.told sees.session.disk before.in_disk opened
     pub ended : EndsBehindBoxes G sees senders end (record before { in_disk = opened }) after status
 
   -- where a run over the disks ended
-  abbrev pub EndsOverDisks : Ghosts J → FeedSees S I K A D N C → (senders : ℕ) → EndConfig → (before after : FeedOutside S I K A D N C) → Status → Type 0
-  EndsOverDisks G sees senders end before after status = StopsAtBoxes sees end before after status ⊎ RunsOverBoxes G sees senders end before after status
+  abbrev pub EndsOverDisks : Ghosts J → FeedSees S I K A D N C → (senders : ℕ) → Asked → EndConfig → (before after : FeedOutside S I K A D N C) → Status → Type 0
+  EndsOverDisks G sees senders asked end before after status = StopsAtBoxes sees asked end before after status ⊎ RunsOverBoxes G sees senders asked end before after status
 
   -- where a run whose configuration is this ended: it has desks, or the run went over the disks
   abbrev pub EndsFed : Ghosts J → FeedSees S I K A D N C → Role → Configuration → (before after : FeedOutside S I K A D N C) → Status → Type 0
   EndsFed G sees role c before after status = StopsAtDesks c before after status
-      ⊎ ((c.trade.desks ≡ 0) × EndsOverDisks G sees c.trade.senders (end_of role c.link) before after status)
+      ⊎ ((c.trade.desks ≡ 0) × EndsOverDisks G sees c.trade.senders (asked_of role c) (end_of role c.link) before after status)
 
   -- CONFIG spells a configuration, and a run of it ended so
   pub record WasConfigured (G : Ghosts J) (sees : FeedSees S I K A D N C) (role : Role) (before after : FeedOutside S I K A D N C)

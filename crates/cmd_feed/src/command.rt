@@ -16,7 +16,10 @@ use crate::life::live_feeding;
 use crate::outside::FeedOutside;
 use cmd_base::{Status, begin, read_config};
 use cmd_config::{Configuration, Trade};
-use cmd_session::{Live, Over, OverBoxes, Role, close_inbox, close_outbox, end_config, open_boxes};
+use cmd_session::{
+    Asked, Live, Over, OverBoxes, Role, asked_for, close_inbox, close_outbox, end_config,
+    open_boxes,
+};
 use fixp_shake::EndConfig;
 use gw_appended::Appended;
 use gw_links::{Clock, Dialer};
@@ -147,6 +150,7 @@ fn feed_over_disks<
     rt: &R,
     alloc: Global,
     end: EndConfig,
+    asked: Asked,
     senders: u8,
     outside: FeedOutside<S, I, K, A, D, N, C>,
     over: &AtomicBool,
@@ -157,7 +161,7 @@ fn feed_over_disks<
     requires few { senders ≤ 16 }
     requires lent { N.lent outside.dialer ≡ false }
     ensures ended { (config : S) → EndsOverDisks ⟦<SegJournal<D> as Journal>⟧
-        (feed_sees (sees S.Source K.Sink D.Disk N.Dialer N.Link.Link C.Clock) K.keeps I.Source A.Sink) senders end
+        (feed_sees (sees S.Source K.Sink D.Disk N.Dialer N.Link.Link C.Clock) K.keeps I.Source A.Sink) senders asked end
         (record outside { config = config }) result.1 result.0 }
     ensures config { result.1.config ≡ outside.config }
     ensures lent { N.lent result.1.dialer ≡ false }
@@ -176,6 +180,7 @@ fn feed_over_disks<
     let live = Live { out, dialer, clock };
     let (status, live, accepted, out_disk, in_disk) = match open_boxes(
         alloc,
+        &asked,
         end.peer_flow,
         out_disk,
         in_disk,
@@ -238,11 +243,12 @@ pub fn run_feeding<
         Ok(configuration) => configuration,
         Err(status) => return (status, outside),
     };
+    let asked = asked_for(role, &configuration);
     let Configuration { link, trade } = configuration;
     match without_desks(alloc, trade) {
         Ok(()) => {}
         Err(status) => return (status, outside),
     }
     let end = end_config(role, link);
-    feed_over_disks(rt, alloc, end, trade.senders, outside, over)
+    feed_over_disks(rt, alloc, end, asked, trade.senders, outside, over)
 }

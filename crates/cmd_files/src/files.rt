@@ -28,8 +28,9 @@ use std::sync::Wait;
 /// How a journal begins: its magic, and behind it zeros up to the end of its header and the closed byte.
 const JOURNAL: Begun = Begun {
     mark: b"FIXPJRN2",
-    older: b"FIXPJRN1",
+    others: [b"FIXPJRN1", b"FIXPJRN3"],
     length: 17,
+    is_plain: true,
 };
 
 /// The file that the word at a place names, from 1, behind the command; 0 is no file.
@@ -175,7 +176,7 @@ impl<'a> Run<'a> {
             }
             Status::JournalBad { which, cause } => {
                 push_journal(line, self.journal(*which), *which, *cause)?;
-                self.push_unmade(rt, line, *which, *cause, outside.out_disk.is_new())
+                self.push_unmade(rt, alloc, line, *which, *cause, outside.out_disk.is_new())
             }
             Status::Full { entries, bytes } => push_full(line, self.outbox, *entries, *bytes),
             Status::Message(bad) => {
@@ -236,9 +237,10 @@ impl<'a> Run<'a> {
     }
 
     /// Adds what becomes of the other journal, where this one was to be made and is one already.
-    fn push_unmade<R: Files>(
+    fn push_unmade<R: Files<File = File>>(
         &self,
         rt: &R,
+        alloc: Global,
         line: &mut String,
         which: Which,
         cause: JournalCause,
@@ -246,10 +248,10 @@ impl<'a> Run<'a> {
     ) -> Result<(), AllocError> {
         match (cause, which) {
             (JournalCause::Already, Which::Outbox) => {
-                push_other(rt, line, self.outbox, self.inbox, false)
+                push_other(rt, alloc, line, self.outbox, self.inbox, false)
             }
             (JournalCause::Already, Which::Inbox) => {
-                push_other(rt, line, self.inbox, self.outbox, is_outbox_new)
+                push_other(rt, alloc, line, self.inbox, self.outbox, is_outbox_new)
             }
             _ => Ok(()),
         }

@@ -29,7 +29,9 @@ const USAGE: &str =
   fixpgw dump SCHEMA INPUT OUT          prints every frame of INPUT, session messages too, as text to OUT
   fixpgw encode CONFIG INPUT WIRE       writes the messages in the text of INPUT as frames to WIRE
   fixpgw extends NEW OLD OUT            says whether the schema in NEW is a later version of that in OLD
-  fixpgw format OUTBOX INBOX            makes the two journals of a new session
+  fixpgw format ROLE CONFIG OUTBOX INBOX
+                                        makes the two journals of a new session, of an end that CONFIG configures
+  fixpgw format OUTBOX INBOX            makes two that are bound to no session
   fixpgw journal OUTBOX INBOX OUT       prints both journals to OUT
   fixpgw migrate OLD NEW                moves a journal of format 1 to a file of its own, in the format of today
   fixpgw plan SCHEMA TEXT OUT           prints the messages in TEXT as lines of INPUT for their senders
@@ -157,11 +159,15 @@ Says whether one schema is a later version of another: whoever knows the other a
   OUT      `extends`, or `differs` with the place of the first difference (written); - is standard output, and then the status goes to
            standard error";
 
-const FORMAT: &str = "usage: fixpgw format OUTBOX INBOX
+const FORMAT: &str = "usage: fixpgw format ROLE CONFIG OUTBOX INBOX
+       fixpgw format OUTBOX INBOX
 
-Makes the two journals of a new session, without records. A file that is a journal already, of whatever format, is refused.
+Makes the two journals of a new session, without records. A file that is a journal already, of whatever format, is refused. With CONFIG they
+say whose session they are, and accept and connect refuse them with another; each record has a checksum. Without, they are bound to none.
 
-  OUTBOX   the journal of what is sent (made where it is missing; its first 17 bytes are written)
+  ROLE     accept or connect: which command the journals are for
+  CONFIG   the session, as TOML (read); - is standard input
+  OUTBOX   the journal of what is sent (made where it is missing; its first 17 bytes are written, or 66 with CONFIG)
   INBOX    the journal of what is received (likewise; not touched where OUTBOX is refused)";
 
 const JOURNAL: &str = "usage: fixpgw journal OUTBOX INBOX OUT

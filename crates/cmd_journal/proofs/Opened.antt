@@ -3,7 +3,7 @@ use Rattle.std.proofs.Common.{◌≡◌, ℕ, false, List, Option, Some, None, s
 use Rattle.std.specs.Option.{ForSome}
 use Rattle.gw_outside.specs.declared.disk.Disk.{Ghosts}
 use Rattle.jr_dated.specs.Dated.{Dated, undated}
-use Rattle.jr_dated.specs.Images.{IsJournal}
+use Rattle.jr_dated.specs.Images.{IsJournal, IsUncut}
 use Rattle.jr_dated.proofs.Verdicts.{at_most_one_verdict}
 use Rattle.jr_boxes.specs.declared.faults.Which.{Which}
 use Rattle.jr_judge.specs.Judged.{AreThoseOf, IsBox}
@@ -18,7 +18,7 @@ module _ {D : Type 0} {G : Ghosts D} where
   pub rests_opened : (told : Option (List ℕ)) (j : SegJournal D G) → broken_of {D = D} {G = G} j ≡ false → (o : OpensOn {D = D} {G = G} told j) → RestsOn {D = D} {G = G} j o.list
   rests_opened told j sound o = record {
     keeps = o.holds.stands_for.keeps;
-    closed = closed_by (numbers_of j.places) j.size j.moment (G.may_leave j.disk) o.list (j.held sound) o.holds.images;
+    closed = closed_by j.limits.form (numbers_of j.places) j.size j.moment (G.may_leave j.disk) o.list (j.held sound) o.holds.images;
   }
 
   module _ (left : (d : D) (content : List ℕ) → G.told d ≡ Some content → G.may_leave d content) (told : Option (List ℕ)) (j : SegJournal D G) (same : G.told j.disk ≡ told) where
@@ -26,8 +26,8 @@ module _ {D : Type 0} {G : Ghosts D} where
     pub told_is : (k : List Dated) → RestsOn {D = D} {G = G} j k → ForSome told (λ content. IsJournal content k)
     told_is k rests content has = image_is {D = D} {G = G} j k rests content (left j.disk content (same ∙ has))
 
-    pub box_is : (which : Which) (k : List Dated) → RestsOn {D = D} {G = G} j k → AreThoseOf which (undated k) → ForSome told (IsBox which k)
-    box_is which k rests those content has = record { journal = told_is k rests content has; those = those }
+    pub box_is : ForSome told IsUncut → (which : Which) (k : List Dated) → RestsOn {D = D} {G = G} j k → AreThoseOf which (undated k) → ForSome told (IsBox which k)
+    box_is uncut which k rests those content has = record { journal = told_is k rests content has; uncut = uncut content has; those = those }
 
     -- and so is any other list on which it rests
     pub box_same : (which : Which) (h k : List Dated) → ForSome told (IsBox which h) → RestsOn {D = D} {G = G} j k → ForSome told (IsBox which k)

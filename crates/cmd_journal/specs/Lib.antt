@@ -3,3 +3,4 @@ pub mod Lines
 pub mod Moves
 pub mod Printing
 pub mod Prints
+pub mod Titled

@@ -2,7 +2,10 @@
 use Rattle.std.specs.Prelude.{ℕ, ◌+◌, List, [], ◌∷◌, ◌++◌, codes, decimal}
 use Rattle.hex.specs.Hex.{encode_lower}
 use Rattle.jr_record.specs.declared.record.Record.{Record}
+use Rattle.jr_dated.specs.declared.form.Form.{Form}
+use Rattle.jr_dated.specs.declared.form.Form.TheVariants.{Two, Three}
 use Rattle.jr_dated.specs.Dated.{Dated}
+use Rattle.title_text.specs.Words.{title_words}
 use Rattle.jr_boxes.specs.declared.faults.Which.{Which}
 use Rattle.jr_boxes.specs.declared.faults.Which.TheVariants.{Outbox, Inbox}
 use Rattle.jr_record.specs.declared.record.Record.TheVariants.{Entry, Apply, Skip, Negotiated, PeerFinished, Finish}
@@ -26,15 +29,23 @@ abbrev pub lines_from : ℕ → List Dated → List ℕ
 lines_from n [] = []
 lines_from n (d ∷ records) = line_of n d ++ lines_from (n + 1) records
 
--- The lines of a journal: its name, then its records, numbered from 1. In an outbox that is the number of an entry, since no
--- entry stands behind the Finish
-abbrev pub name_of : Which → List ℕ
-name_of Outbox = codes "outbox" ++ 10 ∷ []
-name_of Inbox = codes "inbox" ++ 10 ∷ []
+-- what a journal's first bytes say: nothing in format 2
+abbrev pub form_words : Form → List ℕ
+form_words Two = []
+form_words (Three title) = title_words title
 
-abbrev pub box_lines : Which → List Dated → List ℕ
-box_lines which records = name_of which ++ lines_from 1 records
+abbrev pub name_of : Which → List ℕ
+name_of Outbox = codes "outbox"
+name_of Inbox = codes "inbox"
+
+-- The lines of a journal: its name, with its title, then its records, numbered from 1. In an outbox that is the number of an entry, since no
+-- entry stands behind the Finish
+abbrev pub heading : Which → Form → List ℕ
+heading which form = name_of which ++ form_words form ++ 10 ∷ []
+
+abbrev pub box_lines : Which → Form → List Dated → List ℕ
+box_lines which form records = heading which form ++ lines_from 1 records
 
 -- those of both, the outbox first
-abbrev pub journal_lines : List Dated → List Dated → List ℕ
-journal_lines outbox inbox = box_lines Outbox outbox ++ box_lines Inbox inbox
+abbrev pub journal_lines : (out_form in_form : Form) → (outbox inbox : List Dated) → List ℕ
+journal_lines out_form in_form outbox inbox = box_lines Outbox out_form outbox ++ box_lines Inbox in_form inbox

@@ -5,6 +5,7 @@ use Rattle.gw_outside.specs.Faults.{HasRisen}
 use Rattle.jr_record.specs.declared.record.Record.{Record}
 use Rattle.jr_record.specs.Images.{IsJournal as IsPlainJournal, IsDamaged as IsPlainDamaged, IsNotFormatted as IsPlainNotFormatted}
 use Rattle.jr_dated.specs.Dated.{dated}
+use Rattle.jr_dated.specs.declared.form.Form.TheVariants.{Two}
 use Rattle.jr_dated.specs.Images.{IsJournal, journal_size}
 use Rattle.jr_boxes.specs.declared.faults.Which.TheVariants.{Outbox, Inbox}
 use Rattle.jr_boxes.specs.declared.faults.JournalCause.TheVariants as causes
@@ -41,7 +42,7 @@ pub record IsMoved {D : Type 0} (told : D → Option (List ℕ)) (may_leave : D 
   pub records : List Record
   pub old : ForSome (told before.outbox) (λ content. IsPlainJournal content records)
   pub fresh : ForSome (told before.inbox) IsFresh
-  pub within : journal_size records ≤ 2 ^ 33
+  pub within : journal_size Two records ≤ 2 ^ 33
   pub whole : (image : List ℕ) → may_leave after.inbox image → IsJournal image (dated 0 records)
 
 -- this is why, and NEW is as it was

@@ -5,8 +5,9 @@ use Rattle.std.specs.Io.KnownBytes.{Appends}
 use Rattle.gw_outside.specs.Faults.{HasRisen, TakesFront}
 use Rattle.gw_outside.specs.declared.streams.Sink.{Ghosts as SinkGhosts}
 use Rattle.gw_outside.specs.declared.disk.Disk.{Ghosts as DiskGhosts}
+use Rattle.jr_dated.specs.declared.form.Form.{Form}
 use Rattle.jr_dated.specs.Dated.{Dated}
-use Rattle.jr_dated.specs.Images.{IsJournal}
+use Rattle.jr_dated.specs.Images.{HasForm, IsJournal}
 use Rattle.jr_boxes.specs.declared.faults.Which.{Which}
 use Rattle.jr_boxes.specs.declared.faults.Which.TheVariants.{Outbox, Inbox}
 use Rattle.jr_boxes.specs.declared.faults.JournalCause.{JournalCause}
@@ -41,20 +42,31 @@ pub record HoldBoth {D : Type 0} (told : D → Option (List ℕ)) (may_leave : D
   pub outbox_left : (image : List ℕ) → may_leave after.outbox image → IsJournal image outbox
   pub inbox_left : (image : List ℕ) → may_leave after.inbox image → IsJournal image inbox
 
--- OUT gained all lines of the records that both disks hold, or a front of them
+-- both begin with the headers of these forms
+pub record AreOf {D : Type 0} (told : D → Option (List ℕ)) (disks : Disks D) (out_form in_form : Form) : Type 0 where
+  pub outbox : ForSome (told disks.outbox) (HasForm out_form)
+  pub inbox : ForSome (told disks.inbox) (HasForm in_form)
+
+-- OUT gained all lines of the titles and the records that both disks hold, or a front of them
 pub record PrintsAll {D : Type 0} (told : D → Option (List ℕ)) (may_leave : D → List ℕ → Type 0) (before after : Disks D) (old new : Option (List ℕ)) : Type
     0 where
+  pub out_form : Form
+  pub in_form : Form
+  pub formed : AreOf told before out_form in_form
   pub outbox : List Dated
   pub inbox : List Dated
   pub hold : HoldBoth told may_leave before after outbox inbox
-  pub gained : Appends old new (journal_lines outbox inbox)
+  pub gained : Appends old new (journal_lines out_form in_form outbox inbox)
 
 pub record PrintsFront {D : Type 0} (told : D → Option (List ℕ)) (may_leave : D → List ℕ → Type 0) (before after : Disks D) (old new : Option (List ℕ))
     : Type 0 where
+  pub out_form : Form
+  pub in_form : Form
+  pub formed : AreOf told before out_form in_form
   pub outbox : List Dated
   pub inbox : List Dated
   pub hold : HoldBoth told may_leave before after outbox inbox
-  pub gained : TakesFront old new (journal_lines outbox inbox)
+  pub gained : TakesFront old new (journal_lines out_form in_form outbox inbox)
 
 -- the disk of the outbox holds one
 pub record HoldsOutbox {D : Type 0} (told : D → Option (List ℕ)) (disks : Disks D) : Type 0 where

@@ -9,7 +9,7 @@ ghost use Rattle.jr_boxes.specs.declared.faults.JournalCause.TheVariants as caus
 ghost use Rattle.jr_boxes.specs.declared.faults.Which as boxes;
 ghost use Rattle.jr_boxes.specs.declared.faults.Which.TheVariants as which_box;
 ghost use Rattle.jr_dated.specs.Dated.{Dated};
-ghost use Rattle.jr_segments.specs.Journal.{OnlyRead, RestsOn, broken_of, disk_of};
+ghost use Rattle.jr_segments.specs.Journal.{OnlyRead, RestsOn, broken_of, disk_of, form_of};
 ghost use Rattle.cmd_journal.specs.Lines.{journal_lines};
 ghost use Rattle.cmd_journal.specs.Moves.{KeepsOld};
 ghost use Rattle.cmd_journal.specs.declared.printing.PrintFault.TheVariants as print;
@@ -50,7 +50,7 @@ fn print_records<K: Sink, D: Disk>(
     requires out_sound { broken_of outbox.old ≡ false }
     requires in_sound { broken_of inbox.old ≡ false }
     ensures lines { (h i : List Dated) → RestsOn outbox.old h → RestsOn inbox.old i → (k l : List Dated) × RestsOn outbox.new k × RestsOn inbox.new l
-        × GaveLines (journal_lines k l) (K.taken out.old) (K.taken out.new) result }
+        × GaveLines (journal_lines (form_of outbox.old) (form_of inbox.old) k l) (K.taken out.old) (K.taken out.new) result }
     ensures counted { K.faults out.old ≤ K.faults out.new }
     ensures cause { result ≡ Status.OutputFault → HasRisen (K.faults out.old) (K.faults out.new) }
     ensures disks { result ≡ Status.JournalFault

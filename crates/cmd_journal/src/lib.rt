@@ -11,5 +11,5 @@ mod moving;
 mod printing;
 
 pub use command::journal;
-pub use making::format_journals;
+pub use making::{format_for, format_journals, format_titled};
 pub use moving::migrate_journal;

@@ -1,15 +1,18 @@
-//! A record of a journal as a line.
+//! The title of a journal, and a record of it, as a line.
 
 ghost use Rattle.std.specs.Prelude.{◌≡◌, ◌≤◌, ◌^◌, ◌++◌, [], ◌∷◌, length, codes, decimal, OnOk};
 ghost use Rattle.hex.specs.Hex.{encode_lower};
 ghost use Rattle.jr_record.specs.Records.{IsRecord};
 ghost use Rattle.jr_record.specs.declared.record.Record.TheVariants as kinds;
 ghost use Rattle.jr_dated.specs.Dated.{stamped};
-ghost use Rattle.cmd_journal.specs.Lines.{line_of, words_of};
+ghost use Rattle.cmd_journal.specs.Lines.{form_words, heading, line_of, name_of, words_of};
 
+use jr_boxes::Which;
+use jr_dated::Form;
 use jr_record::Record;
 use std::alloc::AllocError;
 use text_words::{push_hex, push_number};
+use title_text::push_title;
 
 /// Adds a payload behind a blank, and the end of the line.
 fn push_payload(lines: &mut Vec<u8>, payload: &[u8]) -> Result<(), AllocError>
@@ -86,4 +89,36 @@ pub fn push_record(
     push_number(lines, b"at ", moment)?;
     lines.extend_from_slice(b" ")?;
     push_words(lines, number, r)
+}
+
+/// Adds what a journal's first bytes say; nothing in format 2.
+fn push_form(lines: &mut Vec<u8>, form: Form) -> Result<(), AllocError>
+    ensures { OnOk result (lines.new.items ≡ lines.old.items ++ form_words form) }
+{
+    match form {
+        Form::Two => Ok(()),
+        Form::Three { title } => push_title(lines, &title),
+    }
+}
+
+/// The name of a box.
+fn name(which: Which) -> &'static [u8]
+    ensures { result.now ≡ name_of which }
+{
+    match which {
+        Which::Outbox => b"outbox",
+        Which::Inbox => b"inbox",
+    }
+}
+
+/// Adds the first line of a journal: its name, with its title in format 3.
+///
+/// # Errors
+/// Want of memory.
+pub fn push_heading(lines: &mut Vec<u8>, which: Which, form: Form) -> Result<(), AllocError>
+    ensures { OnOk result (lines.new.items ≡ lines.old.items ++ heading which form) }
+{
+    lines.extend_from_slice(name(which))?;
+    push_form(lines, form)?;
+    lines.extend_from_slice(b"\n")
 }

@@ -8,15 +8,15 @@ ghost use Rattle.jr_dated.specs.Dated.{Dated, stamped};
 ghost use Rattle.jr_dated.specs.declared.faults.FetchFault.TheVariants as fetch;
 ghost use Rattle.jr_boxes.specs.declared.faults.Which as boxes;
 ghost use Rattle.jr_boxes.specs.declared.faults.Which.TheVariants as which_box;
-ghost use Rattle.jr_segments.specs.Journal.{OnlyRead, RestsOn, broken_of, disk_of};
-ghost use Rattle.cmd_journal.specs.Lines.{box_lines, journal_lines, line_of, name_of};
+ghost use Rattle.jr_segments.specs.Journal.{OnlyRead, RestsOn, broken_of, disk_of, form_of};
+ghost use Rattle.cmd_journal.specs.Lines.{box_lines, heading, journal_lines, line_of};
 ghost use Rattle.cmd_journal.specs.Printing.{WritesFront, WritesMore};
 ghost use Rattle.cmd_journal.specs.declared.printing.PrintFault.TheVariants as print;
 
-use crate::lines::push_record;
+use crate::lines::{push_heading, push_record};
 use gw_outside::{Disk, Failed, Sink, push_all};
 use jr_boxes::Which;
-use jr_dated::{FetchFault, Journal};
+use jr_dated::{FetchFault, Form, Journal};
 use jr_record::Record;
 use jr_segments::SegJournal;
 use std::alloc::Global;
@@ -93,22 +93,18 @@ fn write_record<K: Sink>(
     }
 }
 
-/// Writes the name of a box.
-fn write_name(lines: &mut Vec<u8>, which: Which) -> Result<(), PrintFault>
-    ensures ok { OnOk result (lines.new.items ≡ lines.old.items ++ name_of which) }
+/// Writes the first line of a box.
+fn write_heading(lines: &mut Vec<u8>, which: Which, form: Form) -> Result<(), PrintFault>
+    ensures ok { OnOk result (lines.new.items ≡ lines.old.items ++ heading which form) }
     ensures memory { OnErr result (result ≡ Err print.Memory) }
 {
-    let name: &[u8] = match which {
-        Which::Outbox => b"outbox\n",
-        Which::Inbox => b"inbox\n",
-    };
-    match lines.extend_from_slice(name) {
+    match push_heading(lines, which, form) {
         Ok(()) => Ok(()),
         Err(_) => Err(PrintFault::Memory),
     }
 }
 
-/// Writes the name of a box, and the lines of its records, which are read one after another.
+/// Writes the first line of a box, and the lines of its records, which are read one after another.
 fn write_box<K: Sink, D: Disk>(
     out: &mut K,
     lines: &mut Vec<u8>,
@@ -117,16 +113,16 @@ fn write_box<K: Sink, D: Disk>(
 ) -> Result<(), PrintFault>
     requires sound { broken_of journal.old ≡ false }
     ensures ok { OnOk result ((h : List Dated) → RestsOn journal.old h → (k : List Dated) × RestsOn journal.new k
-        × WritesMore (K.taken out.old) (K.taken out.new) lines.old.items lines.new.items (box_lines which k)) }
+        × WritesMore (K.taken out.old) (K.taken out.new) lines.old.items lines.new.items (box_lines which (form_of journal.old) k)) }
     ensures err { OnErr result ((h : List Dated) → RestsOn journal.old h → (k : List Dated) × RestsOn journal.new k
-        × WritesFront (K.taken out.old) (K.taken out.new) lines.old.items (box_lines which k)) }
+        × WritesFront (K.taken out.old) (K.taken out.new) lines.old.items (box_lines which (form_of journal.old) k)) }
     ensures counted { K.faults out.old ≤ K.faults out.new }
     ensures cause { IsErrOf result print.Output → HasRisen (K.faults out.old) (K.faults out.new) }
     ensures disk { (box : boxes.Which) → result ≡ Err (print.Disk box) → (box ≡ which) × HasRisen (D.faults (disk_of journal.old)) (D.faults (disk_of journal.new)) }
     ensures changed { (box : boxes.Which) (at : ℕ) → result ≡ Err (print.Changed box at) → (box ≡ which) × (D.told (disk_of journal.old) ≡ None) }
     ensures read { OnlyRead journal.old journal.new }
 {
-    write_name(lines, which)?;
+    write_heading(lines, which, journal.form())?;
     let count = journal.len();
     for at in 0..count {
         let (r, moment) = match journal.record(at) {
@@ -149,9 +145,9 @@ fn write_boxes<K: Sink, D: Disk>(
     requires in_sound { broken_of inbox.old ≡ false }
     requires none { lines.old.items ≡ [] }
     ensures ok { OnOk result ((h i : List Dated) → RestsOn outbox.old h → RestsOn inbox.old i → (k l : List Dated) × RestsOn outbox.new k × RestsOn inbox.new l
-        × Appends (K.taken out.old) (K.taken out.new) (journal_lines k l)) }
+        × Appends (K.taken out.old) (K.taken out.new) (journal_lines (form_of outbox.old) (form_of inbox.old) k l)) }
     ensures err { OnErr result ((h i : List Dated) → RestsOn outbox.old h → RestsOn inbox.old i → (k l : List Dated) × RestsOn outbox.new k × RestsOn inbox.new l
-        × TakesFront (K.taken out.old) (K.taken out.new) (journal_lines k l)) }
+        × TakesFront (K.taken out.old) (K.taken out.new) (journal_lines (form_of outbox.old) (form_of inbox.old) k l)) }
     ensures counted { K.faults out.old ≤ K.faults out.new }
     ensures cause { IsErrOf result print.Output → HasRisen (K.faults out.old) (K.faults out.new) }
     ensures out_disk { IsErrOf result (print.Disk which_box.Outbox) → HasRisen (D.faults (disk_of outbox.old)) (D.faults (disk_of outbox.new)) }
@@ -183,9 +179,9 @@ pub fn print_boxes<K: Sink, D: Disk>(
     requires out_sound { broken_of outbox.old ≡ false }
     requires in_sound { broken_of inbox.old ≡ false }
     ensures ok { OnOk result ((h i : List Dated) → RestsOn outbox.old h → RestsOn inbox.old i → (k l : List Dated) × RestsOn outbox.new k × RestsOn inbox.new l
-        × Appends (K.taken out.old) (K.taken out.new) (journal_lines k l)) }
+        × Appends (K.taken out.old) (K.taken out.new) (journal_lines (form_of outbox.old) (form_of inbox.old) k l)) }
     ensures err { OnErr result ((h i : List Dated) → RestsOn outbox.old h → RestsOn inbox.old i → (k l : List Dated) × RestsOn outbox.new k × RestsOn inbox.new l
-        × TakesFront (K.taken out.old) (K.taken out.new) (journal_lines k l)) }
+        × TakesFront (K.taken out.old) (K.taken out.new) (journal_lines (form_of outbox.old) (form_of inbox.old) k l)) }
     ensures counted { K.faults out.old ≤ K.faults out.new }
     ensures cause { IsErrOf result print.Output → HasRisen (K.faults out.old) (K.faults out.new) }
     ensures out_disk { IsErrOf result (print.Disk which_box.Outbox) → HasRisen (D.faults (disk_of outbox.old)) (D.faults (disk_of outbox.new)) }

@@ -11,7 +11,16 @@ pub journal_completes : {K D : Type 0} (devices : JournalDevices K D) → Journa
 journal_completes devices before after old new counts risen Done outbox inbox out_tells in_tells p cause none =
     let o : outbox ≡ Ok p.outbox = one_verdict Outbox out_tells.content outbox (Ok p.outbox) out_tells.is (p.hold.outbox_told out_tells.content out_tells.tells) in
     let i : inbox ≡ Ok p.inbox = one_verdict Inbox in_tells.content inbox (Ok p.inbox) in_tells.is (p.hold.inbox_told in_tells.content in_tells.tells) in
-    inr (rw (o, i) (refl, p.gained))
+    inr (rw (o, i) (
+      refl,
+      record {
+        out_form = p.out_form;
+        in_form = p.in_form;
+        out_has = p.formed.outbox out_tells.content out_tells.tells;
+        in_has = p.formed.inbox in_tells.content in_tells.tells;
+        gained = p.gained;
+      },
+    ))
 journal_completes devices before after old new counts risen (JournalBad Outbox why) outbox inbox out_tells in_tells (inl p) cause none =
     let o : outbox ≡ Err why = one_verdict Outbox out_tells.content outbox (Err why) out_tells.is (p.why out_tells.content out_tells.tells) in
     inr (rw o (refl, p.out))

@@ -3,6 +3,7 @@ use Rattle.std.proofs.Common.{◌≡◌, ◌⊎◌, ℕ, ◌<◌, ◌≤◌, ◌
 use Rattle.std.specs.Option.{ForSome}
 use Rattle.jr_record.specs.declared.record.Record.{Record}
 use Rattle.jr_record.proofs.Verdicts.{at_most_one_verdict}
+use Rattle.jr_dated.specs.declared.form.Form.TheVariants.{Two}
 use Rattle.jr_dated.specs.Images.{journal_size}
 use Rattle.jr_boxes.specs.declared.faults.Which.TheVariants.{Outbox, Inbox}
 use Rattle.jr_boxes.specs.declared.faults.JournalCause.{JournalCause}
@@ -55,8 +56,8 @@ module _ {D : Type 0} (told : D → Option (List ℕ)) (may_leave : D → List �
   Settles (Err cause) after status = Refused told may_leave before after (JournalBad Outbox cause) status
   Settles (Ok records) after status =
       (ForSome (told before.inbox) IsUsed × Refused told may_leave before after (JournalBad Inbox NotFresh) status)
-      ⊎ ((ForSome (told before.inbox) IsFresh × (2 ^ 33 < journal_size records) × Refused told may_leave before after (Full (length records) (journal_size records)) status)
-      ⊎ (ForSome (told before.inbox) IsFresh × (journal_size records ≤ 2 ^ 33) × Moved may_leave after records status))
+      ⊎ ((ForSome (told before.inbox) IsFresh × (2 ^ 33 < journal_size Two records) × Refused told may_leave before after (Full (length records) (journal_size Two records)) status)
+      ⊎ (ForSome (told before.inbox) IsFresh × (journal_size Two records ≤ 2 ^ 33) × Moved may_leave after records status))
 
   module _ (found : Result (List Record) JournalCause) (o : OldTells told before.outbox found) where
     -- what a status says of OLD is what was found
@@ -78,8 +79,8 @@ module _ {D : Type 0} (told : D → Option (List ℕ)) (may_leave : D → List �
         inr (subst (λ (f : Result (List Record) JournalCause). Settles f after (JournalBad Inbox NotFresh)) (found_is (Ok was.records) was.journal) (inl (m.why.why, record { status_is = refl; new = m.new })))
     settles after old new (Full entries bytes) m caused none =
         let p = m.why.1 o.content o.tells in
-        let past : 2 ^ 33 < journal_size p.records = omega (arith, p.past, p.bytes_are) in
-        let counts : Full entries bytes ≡ Full (length p.records) (journal_size p.records) = ap (λ (n : ℕ). Full n bytes) p.entries_are ∙ ap (Full (length p.records)) p.bytes_are in
+        let past : 2 ^ 33 < journal_size Two p.records = omega (arith, p.past, p.bytes_are) in
+        let counts : Full entries bytes ≡ Full (length p.records) (journal_size Two p.records) = ap (λ (n : ℕ). Full n bytes) p.entries_are ∙ ap (Full (length p.records)) p.bytes_are in
         inr (subst (λ (f : Result (List Record) JournalCause). Settles f after (Full entries bytes)) (one_found o.content (Ok p.records) found p.journal o.is)
         (inr (inl (m.why.0, past, record { status_is = counts; new = m.new }))))
     settles after old new Memory m caused none = inl refl
@@ -97,13 +98,13 @@ module _ {D : Type 0} (told : D → Option (List ℕ)) (may_leave : D → List �
   stale records after status n (inr (inl is)) = absurd (used n.content n.tells n.is is.0)
   stale records after status n (inr (inr is)) = absurd (used n.content n.tells n.is is.0)
 
-  full : (records : List Record) (after : Disks D) (status : Status) → NewTells told before.inbox IsFresh → 2 ^ 33 < journal_size records → Settles (Ok records) after status
-      → Refused told may_leave before after (Full (length records) (journal_size records)) status
+  full : (records : List Record) (after : Disks D) (status : Status) → NewTells told before.inbox IsFresh → 2 ^ 33 < journal_size Two records → Settles (Ok records) after status
+      → Refused told may_leave before after (Full (length records) (journal_size Two records)) status
   full records after status n past (inl is) = absurd (unused n.content n.tells n.is is.0)
   full records after status n past (inr (inl is)) = is.2
   full records after status n past (inr (inr is)) = absurd (omega (arith, past, is.1))
 
-  moved : (records : List Record) (after : Disks D) (status : Status) → NewTells told before.inbox IsFresh → journal_size records ≤ 2 ^ 33 → Settles (Ok records) after status
+  moved : (records : List Record) (after : Disks D) (status : Status) → NewTells told before.inbox IsFresh → journal_size Two records ≤ 2 ^ 33 → Settles (Ok records) after status
       → Moved may_leave after records status
   moved records after status n within (inl is) = absurd (unused n.content n.tells n.is is.0)
   moved records after status n within (inr (inl is)) = absurd (omega (arith, within, is.1))

@@ -1,9 +1,9 @@
 -- What is left for a run over told inputs in which no device failed: its work was done, or memory ran out.
-use Rattle.std.specs.Prelude.{◌≡◌, ◌≢◌, ◌⊎◌, ℕ, ◌^◌, ◌≤◌, List, length, Option, Some, Ok, take}
+use Rattle.std.specs.Prelude.{◌≡◌, ◌⊎◌, ℕ, ◌^◌, ◌≤◌, List, length, Option, Some, Ok}
 use Rattle.std.specs.Io.KnownBytes.{Appends}
 use Rattle.gw_outside.specs.Faults.{HasRisen}
-use Rattle.jr_record.specs.Images.{magic as plain_magic}
-use Rattle.jr_dated.specs.Images.{magic}
+use Rattle.jr_dated.specs.declared.form.Form.TheVariants.{Two}
+use Rattle.jr_segments.specs.Formatting.{HasMagic}
 use Rattle.sbe_layout.specs.declared.plan.Plan.{Plan}
 use Rattle.layout_text.specs.Lines.{lines_of_messages}
 use Rattle.cmd_config.specs.declared.settings.Settings.{Settings}
@@ -80,22 +80,21 @@ EncodeCompletes = (text input : List ℕ) (plan : Plan) (messages : List Message
     → JudgesBy commands.Encode text status → GaveWire (plan_of_text text) input before after status → IsCaused old new status → NoneRose old new
     → (status ≡ Memory) ⊎ WroteFrames plan messages before after status
 
--- a disk tells a content that does not begin with the magic of either format
+-- a disk tells a content that does not begin with the magic of a format
 pub record IsUnformatted {D : Type 0} (told : D → Option (List ℕ)) (disk : D) : Type 0 where
   pub content : List ℕ
   pub tells : told disk ≡ Some content
-  pub begins : take 8 content ≢ magic
-  pub begins_old : take 8 content ≢ plain_magic
+  pub begins : HasMagic content → ⊥
 
 -- both journals were made
 pub record Formatted {D : Type 0} (told : D → Option (List ℕ)) (may_leave : D → List ℕ → Type 0) (before after : Disks D) (status : Status) : Type 0 where
   pub status_is : status ≡ Done
-  pub outbox : IsMade told may_leave before.outbox after.outbox
-  pub inbox : IsMade told may_leave before.inbox after.inbox
+  pub outbox : IsMade Two told may_leave before.outbox after.outbox
+  pub inbox : IsMade Two told may_leave before.inbox after.inbox
 
 -- the same of `format`, which takes no memory: over two disks that are no journals yet it made both
 abbrev pub FormatCompletes : {D : Type 0} → (D → Option (List ℕ)) → (D → List ℕ → Type 0) → (D → ℕ) → Type 0
 FormatCompletes {D} told may_leave faults = (before after : Disks D) (old new : Counts) (status : Status)
     → IsUnformatted told before.outbox → IsUnformatted told before.inbox
-    → Formats told may_leave faults before after status → IsCaused old new status → NoneRose old new
+    → Formats Two Two told may_leave faults before after status → IsCaused old new status → NoneRose old new
     → Formatted told may_leave before after status

@@ -3,6 +3,7 @@ use Rattle.std.specs.Prelude.{◌≡◌, ◌⊎◌, ℕ, ◌<◌, ◌≤◌, ◌
 use Rattle.jr_record.specs.declared.record.Record.{Record}
 use Rattle.jr_record.specs.Images.{IsJournal as IsPlainJournal, IsDamaged as IsPlainDamaged, IsNotFormatted as IsPlainNotFormatted}
 use Rattle.jr_dated.specs.Dated.{dated}
+use Rattle.jr_dated.specs.declared.form.Form.TheVariants.{Two}
 use Rattle.jr_dated.specs.Images.{IsJournal, journal_size}
 use Rattle.jr_boxes.specs.declared.faults.Which.TheVariants.{Outbox, Inbox}
 use Rattle.jr_boxes.specs.declared.faults.JournalCause.{JournalCause}
@@ -59,6 +60,6 @@ module _ {D : Type 0} (told : D → Option (List ℕ)) (may_leave : D → List �
     pub stale : (before : Disks D) (records : List Record) → OldTells told before.outbox (Ok records) → NewTells told before.inbox IsUsed
         → Ends (λ b a s. Refused told may_leave b a (JournalBad Inbox NotFresh) s) before
     pub full : (before : Disks D) (records : List Record) → OldTells told before.outbox (Ok records) → NewTells told before.inbox IsFresh
-        → 2 ^ 33 < journal_size records → Ends (λ b a s. Refused told may_leave b a (Full (length records) (journal_size records)) s) before
+        → 2 ^ 33 < journal_size Two records → Ends (λ b a s. Refused told may_leave b a (Full (length records) (journal_size Two records)) s) before
     pub moved : (before : Disks D) (records : List Record) → OldTells told before.outbox (Ok records) → NewTells told before.inbox IsFresh
-        → journal_size records ≤ 2 ^ 33 → Ends (λ b a s. Moved may_leave a records s) before
+        → journal_size Two records ≤ 2 ^ 33 → Ends (λ b a s. Moved may_leave a records s) before

@@ -17,6 +17,7 @@ ghost use Rattle.cmd_codec.specs.Layouts.{GaveLayout};
 ghost use Rattle.cmd_codec.specs.Decodes.{GaveText};
 ghost use Rattle.cmd_codec.specs.declared.shown.Shown.{Shown};
 ghost use Rattle.cmd_codec.specs.Encodes.{GaveWire, LeavesWire};
+ghost use Rattle.jr_dated.specs.declared.form.Form.TheVariants as forms;
 ghost use Rattle.cmd_journal.specs.Formats.{Formats, KeepsBehindHeader, KeepsJournal};
 ghost use Rattle.cmd_journal.specs.Prints.{Prints, journal_devices};
 ghost use Rattle.cmd_journal.specs.Moves.{KeepsOld, Moves};
@@ -68,9 +69,9 @@ pub fn run<R: Wait, S: Source, K: Sink, D: Disk>(
     ensures encode_output { command_of (bytes_of words.now) ≡ Some commands.Encode → (text input : List ℕ) → S.left outside.config ≡ Some text → S.left outside.input ≡ Some input →
         GaveWire (plan_of_text text) input (K.taken outside.wire) (K.taken result.1.wire) result.0 }
     ensures untouched_by_encode { command_of (bytes_of words.now) ≡ Some commands.Encode → (result.1.out ≡ outside.out) × KeepsDisks outside result.1 }
-    ensures format_output { command_of (bytes_of words.now) ≡ Some commands.Format → Formats D.told D.may_leave D.faults (disks_of outside) (disks_of result.1) result.0 }
+    ensures format_output { command_of (bytes_of words.now) ≡ Some commands.Format → Formats forms.Two forms.Two D.told D.may_leave D.faults (disks_of outside) (disks_of result.1) result.0 }
     ensures format_kept { command_of (bytes_of words.now) ≡ Some commands.Format → KeepsJournal D.told D.may_leave outside.out_disk result.1.out_disk × KeepsJournal D.told D.may_leave outside.in_disk result.1.in_disk }
-    ensures format_within { command_of (bytes_of words.now) ≡ Some commands.Format → KeepsBehindHeader D.may_leave outside.out_disk result.1.out_disk × KeepsBehindHeader D.may_leave outside.in_disk result.1.in_disk }
+    ensures format_within { command_of (bytes_of words.now) ≡ Some commands.Format → KeepsBehindHeader forms.Two D.may_leave outside.out_disk result.1.out_disk × KeepsBehindHeader forms.Two D.may_leave outside.in_disk result.1.in_disk }
     ensures untouched_by_format { command_of (bytes_of words.now) ≡ Some commands.Format → KeepsStreams outside result.1 }
 
     ensures journal_output { command_of (bytes_of words.now) ≡ Some commands.Journal → Prints (journal_devices K.Sink D.Disk) (disks_of outside) (disks_of result.1) outside.out result.1.out result.0 }

@@ -6,6 +6,8 @@ use Rattle.session_model.specs.Journal.{History}
 use Rattle.jr_boxes.specs.Outboxes.{records_of_history}
 use Rattle.plan_outbox.specs.Behind.{IsPastAt}
 use Rattle.jr_dated.specs.declared.journal.Journal.{Ghosts}
+use Rattle.jr_dated.specs.declared.limits.Limits.{Limits}
+use Rattle.jr_dated.specs.Images.{HasForm}
 use Rattle.jr_kept.specs.declared.outbox.Outbox.{Outbox}
 use Rattle.plan_outbox.specs.Progress.{WasRead}
 use Rattle.cmd_session.specs.Journals.{IsJournal}
@@ -29,6 +31,7 @@ still_opens told old new read o = record {
   told = λ h s content is. o.told h ((read.content.stands h).1 s) content is;
   holds = read.holds o.history [] o.holds;
   is_told = λ content is. read.told (o.is_told content is);
+  formed = subst (λ (l : Limits). ForSome told (HasForm l.form)) (sym read.limits) o.formed;
 }
 
 -- that nothing was found, and what was

@@ -10,7 +10,9 @@ use Rattle.jr_dated.specs.declared.journal.Journal.{Ghosts}
 use Rattle.jr_dated.specs.Dated.{Dated, undated}
 use Rattle.jr_boxes.specs.Outboxes.{records_of_history}
 use Rattle.jr_kept.specs.declared.outbox.Outbox.{Outbox}
-use Rattle.jr_kept.specs.Outbox.{HoldsBox, SameButMoment, journal_of, is_broken}
+use Rattle.jr_dated.specs.Images.{HasForm}
+use Rattle.jr_dated.specs.declared.limits.Limits.{Limits}
+use Rattle.jr_kept.specs.Outbox.{HoldsBox, SameButMoment, journal_of, is_broken, limits_of}
 use Rattle.jr_kept.proofs.Held.{none_late}
 use Rattle.jr_segments.specs.Journal.{StandsFor, MayLeave, disk_of, broken_of}
 use Rattle.jr_segments.specs.declared.journal.SegJournal.{SegJournal}
@@ -29,12 +31,13 @@ whole_image : (closing image : List Dated) → IsImage closing [] image → imag
 whole_image closing image i = i.holds ∙ (ap (λ (ds : List Dated). closing ++ ds) (no_more i.kept i.beginning) ∙ append-nil closing)
 
 module _ {J : Type 0} {H : Ghosts J} where
-  -- an outbox holds a history, of which a content, where it is told, is a journal, and then no other
+  -- an outbox holds a history, of which a content, where it is told, is a journal in its form, and then no other
   pub record HoldsTold (content : Option (List ℕ)) (box : Outbox J H) : Type 0 where
     pub history : History
     pub told : ForSome content (λ bytes. IsJournal bytes (records_of_history history))
     pub holds : HoldsBox box history []
     pub one : ForSome content (λ bytes. (h : History) → HoldsBox box h [] → h ≡ history)
+    pub formed : ForSome content (HasForm (limits_of box).form)
 
   module _ (left : (j : J) (ds : List Dated) → H.is_told j → H.is_broken j ≡ false → H.stands j ds → H.leaves j (Some ds)) (old new : Outbox J H) (sound : is_broken old ≡ false) (same : SameButMoment old new) where
     same_dated : (h k : History) (a : HoldsBox old h []) (b : HoldsBox new k []) → H.is_told (journal_of old) → a.dated ≡ b.dated
@@ -53,6 +56,7 @@ module _ {J : Type 0} {H : Ghosts J} where
       told = o.told o.history (standing old o.history o.holds);
       holds = same.holds o.history [] o.holds;
       one = one_held content o;
+      formed = subst (λ (l : Limits). ForSome content (HasForm l.form)) (sym same.limits) o.formed;
     }
 
     -- the plans that go on from the one go on from the other

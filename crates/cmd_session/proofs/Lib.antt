@@ -10,5 +10,6 @@ pub mod Given
 pub mod Histories
 mod Opening
 pub mod Later
+pub mod Titled
 pub mod Parted
 pub mod Crossing

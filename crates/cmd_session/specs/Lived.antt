@@ -14,7 +14,8 @@ use Rattle.turn_laws.specs.MachineLives.{life_in}
 use Rattle.turn_laws.specs.LoopLives.{machine_life}
 use Rattle.jr_dated.specs.declared.journal.Journal.{Ghosts}
 use Rattle.jr_record.specs.declared.record.Record.{Record}
-use Rattle.jr_dated.specs.Images.{journal_size}
+use Rattle.jr_dated.specs.declared.form.Form.{Form}
+use Rattle.jr_dated.specs.Images.{HasForm, header_of, journal_size}
 use Rattle.cmd_session.specs.Journals.{IsJournal, Leaves}
 use Rattle.jr_boxes.specs.Outboxes.{record_of, outbox_of, records_of_history}
 use Rattle.jr_boxes.specs.Inboxes.{records_of_inbox}
@@ -101,29 +102,32 @@ pub record LeftBoth {D : Type 0} (told : D → Option (List ℕ)) (may_leave : D
   pub outbox : KeepsRecords told may_leave before.outbox after.outbox
   pub inbox : KeepsRecords told may_leave before.inbox after.inbox
 
--- an inbox of this list has so many messages, and so many bytes, and its journal no room for the one record that was wanted
-pub record FullInbox (inbox wanted : List InboxRecord) (entries bytes : ℕ) : Type 0 where
+-- an inbox of this list has so many messages, and so many bytes in its journal's form, and its journal no room for the one record that was wanted
+pub record FullInbox (form : Form) (inbox wanted : List InboxRecord) (entries bytes : ℕ) : Type 0 where
   pub entries_are : entries ≡ length (applied inbox)
-  pub bytes_are : bytes ≡ journal_size (records_of_inbox inbox)
-  pub past : IsPast (2 ^ 33) bytes wanted
+  pub bytes_are : bytes ≡ journal_size form (records_of_inbox inbox)
+  pub past : IsPast form (2 ^ 33) bytes wanted
 
--- the limits of both journals
-abbrev pub limits : Limits
-limits = record { entries = 2 ^ 26; bytes = 2 ^ 33 }
+-- the limits of both journals, of which each has its form
+abbrev pub limits : Form → Limits
+limits form = record { entries = 2 ^ 26; bytes = 2 ^ 33; header = header_of form }
 
 module _ {J : Type 0} {G : Ghosts J} where
-  -- a content, where it is told, is a journal of each history for which the outbox stands, and its disk tells it; and the outbox holds one
+  -- a content, where it is told, is a journal, in the form of the outbox, of each history for which that stands, and its disk tells it; and the outbox
+  -- holds one
   pub record OpensOutbox (content : Option (List ℕ)) (box : Outbox J G) : Type 0 where
     pub history : History
     pub told : (h : History) → outboxes.StandsFor box h → ForSome content (λ bytes. IsJournal bytes (records_of_history h))
     pub holds : outboxes.HoldsBox box history []
     pub is_told : ForSome content (λ bytes. G.is_told (outboxes.journal_of box))
+    pub formed : ForSome content (HasForm (outboxes.limits_of box).form)
 
-  -- a content is a journal of a list, which the inbox holds
+  -- a content is a journal, in the form of the inbox, of a list, which that holds
   pub record OpensInbox (content : Option (List ℕ)) (box : Inbox J G) : Type 0 where
     pub inbox : List InboxRecord
     pub told : ForSome content (λ bytes. IsJournal bytes (records_of_inbox inbox))
     pub holds : inboxes.HoldsBox box inbox []
+    pub formed : ForSome content (HasForm (inboxes.limits_of box).form)
 
   -- plans go on from the history for which an outbox stands, where its disk told a content
   abbrev pub GoOn : List (List (List ℕ)) → Option (List ℕ) → Outbox J G → Type 0
@@ -138,7 +142,7 @@ module _ {J : Type 0} {G : Ghosts J} where
     -- Where no sender was refused, and nothing else hindered them, they came to the end of what they were to send, whatever the status. Every record that
     -- the life added to its inbox had room, and so had the one whose append the disk failed. Where the connections came to
     -- both finishes, as at status 0, the own one stands in the closing history and the peer's in the inbox, but for an absent flow. Why it
-    -- answers so: the connections and the refusal say it (`IsLifeAnswer`, `answer_of`), and the counts
+    -- answers so: the connections and the refusal say it (`IsLifeAnswer`, `answer_of`), and the counts, which are of the forms of both journals
     pub record LivedOver (sees : Sees S K D N C) (config : EndConfig) (senders : Senders)
         (before after : SessionOutside S K D N C) (old new : Inbox J G) (result : Result (Unit {0}) ServeFault) : Type 0 where
       pub opening : History
@@ -149,6 +153,10 @@ module _ {J : Type 0} {G : Ghosts J} where
       pub refused : Option ServeFault
       pub out_opened : ForSome (sees.told before.out_disk) (λ content. IsJournal content (records_of_history opening))
       pub in_opened : ForSome (sees.told before.in_disk) (λ content. IsJournal content (records_of_inbox inbox))
+      pub out_form : Form
+      pub in_form : Form
+      pub out_formed : ForSome (sees.told before.out_disk) (HasForm out_form)
+      pub in_formed : ForSome (sees.told before.in_disk) (HasForm in_form)
       pub holds : inboxes.HoldsBox old inbox []
       pub served : ServedOver G.tells sees.links (sees.last before.clock) (sees.last after.clock)
           (life_at (sees.carried before.dialer) (sees.taken before.out) opening old)
@@ -173,7 +181,7 @@ module _ {J : Type 0} {G : Ghosts J} where
       pub out_whole : (HasRisen (sees.disk before.out_disk) (sees.disk after.out_disk) → ⊥) → lost ≡ []
       pub in_left : LeavesImages (sees.may_leave after.in_disk) (records_of_inbox (inbox ++ adds_of (all_of served.life.ended served.life.given_up)))
           (records_of_inbox (refused_of_all (option_to_list served.life.given_up)))
-      pub room : HaveRoom (2 ^ 33) (journal_size (records_of_inbox inbox))
+      pub room : HaveRoom in_form (2 ^ 33) (journal_size in_form (records_of_inbox inbox))
           (adds_of (all_of served.life.ended served.life.given_up) ++ refused_of_all (option_to_list served.life.given_up))
       pub marked : IsUnrefused result → 0 < senders.count
           → (senders.waits ≡ true → has_peer_finished (inbox ++ adds_of (all_of served.life.ended served.life.given_up)) ≡ true) → closing.finished ≡ true
@@ -186,8 +194,8 @@ module _ {J : Type 0} {G : Ghosts J} where
           → HasRisen (sees.disk before.out_disk) (sees.disk after.out_disk) ⊎ HasRisen (sees.disk before.in_disk) (sees.disk after.in_disk)
       pub changed : (which : Which) (at : ℕ) → result ≡ Err (faults.Changed which at) → IsChanged senders.waits G.tells G.tells seen which at
       pub full : (entries bytes : ℕ) → result ≡ Err (faults.Full entries bytes)
-          → FullInbox (inbox ++ adds_of (all_of served.life.ended served.life.given_up)) (wanted_of_all (option_to_list served.life.given_up)) entries bytes
-          ⊎ ((looks : senders.waits ≡ true → G.tells) → WasFull limits (plans_at senders (planned looks).answered) opening closing entries bytes)
+          → FullInbox in_form (inbox ++ adds_of (all_of served.life.ended served.life.given_up)) (wanted_of_all (option_to_list served.life.given_up)) entries bytes
+          ⊎ ((looks : senders.waits ≡ true → G.tells) → WasFull (limits out_form) (plans_at senders (planned looks).answered) opening closing entries bytes)
 
 module _ {S K D N C : Type 0} where
   -- INPUT has these plans, and the status is one of a life, with its cause where it blames OUT or the dialer

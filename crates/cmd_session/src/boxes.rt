@@ -1,14 +1,15 @@
 //! The journals of a session: opened as its boxes, and closed to their disks.
 
-ghost use Rattle.std.specs.Prelude.{◌≡◌, ◌⊎◌, ℕ, ◌+◌, ◌<◌, ◌≤◌, ◌^◌, false, List, Option, IfOk, IfErr};
+ghost use Rattle.std.specs.Prelude.{◌≡◌, ℕ, ◌+◌, ◌<◌, ◌≤◌, ◌^◌, false, List, Option, IfOk, IfErr};
 ghost use Rattle.std.specs.Option.{ForSome};
 ghost use Rattle.gw_outside.specs.Disk.{LeavesSame};
 ghost use Rattle.gw_outside.specs.Faults.{HasRisen};
 ghost use Rattle.fixp_msgs.specs.declared.flow.Flow as flows;
 ghost use Rattle.fixp_msgs.specs.declared.flow.Flow.TheVariants as flow_variants;
 ghost use Rattle.jr_record.specs.declared.faults.OpenFault.TheVariants as open_fault;
-ghost use Rattle.jr_dated.specs.declared.formats.Format.TheVariants as format;
-ghost use Rattle.jr_segments.specs.Journal.{OpensOn, broken_of, disk_of, limits_of};
+ghost use Rattle.jr_dated.specs.Images.{HasForm, IsNotFormatted, IsUncut};
+ghost use Rattle.jr_dated.specs.declared.form.Form as forms;
+ghost use Rattle.jr_segments.specs.Journal.{OpensOn, broken_of, disk_of, form_of, limits_of};
 ghost use Rattle.jr_segments.specs.Opening.{Refuses};
 ghost use Rattle.jr_boxes.specs.declared.faults.BoxFault.TheVariants as box_fault;
 ghost use Rattle.jr_boxes.specs.declared.faults.Which.TheVariants as boxes;
@@ -22,24 +23,31 @@ use cmd_base::{JournalCause, Status, Which};
 use fixp_shake::Flow;
 use gw_outside::Disk;
 use jr_boxes::BoxFault;
-use jr_dated::Limits;
+use jr_dated::{Form, Limits};
 use jr_kept::{Inbox, Outbox};
 use jr_record::OpenFault;
-use jr_segments::{SegJournal, is_old_format};
+use jr_segments::{SegJournal, is_old_format, read_form};
 use std::alloc::Global;
 
 /// The greatest number of a message, and the most entries of a journal.
 pub const MOST: u64 = 1 << 26;
 
-/// How large a journal may grow.
-const LIMITS: Limits = Limits {
-    entries: MOST,
-    bytes: 1 << 33,
-};
+/// How large a journal of this form may grow.
+fn limits(form: Form) -> Limits
+    ensures entries { result.entries ≡ 2 ^ 26 }
+    ensures bytes { result.bytes ≡ 2 ^ 33 }
+    ensures form { result.form ≡ form }
+{
+    Limits {
+        entries: MOST,
+        bytes: 1 << 33,
+        form,
+    }
+}
 
 /// The status of a disk that has not the header of a journal, or has that of format 1.
 fn not_formatted<D: Disk>(which: Which, disk: &mut D) -> Status
-    ensures refused { (flow : flows.Flow) → ForSome (D.told disk.old) (Refuses format.Two open_fault.NotFormatted) → IsNotOpened which flow (D.told disk.old) result }
+    ensures refused { (flow : flows.Flow) → ForSome (D.told disk.old) IsNotFormatted → IsNotOpened which flow (D.told disk.old) result }
     ensures content { D.told disk.new ≡ D.told disk.old }
     ensures images { LeavesSame (D.may_leave disk.old) (D.may_leave disk.new) }
     ensures fault { result ≡ Status.JournalFault → HasRisen (D.faults disk.old) (D.faults disk.new) }
@@ -58,22 +66,42 @@ fn not_formatted<D: Disk>(which: Which, disk: &mut D) -> Status
     }
 }
 
-/// The status of a disk that was not opened as a journal.
-fn not_opened<D: Disk>(which: Which, fault: OpenFault, disk: &mut D) -> Status
-    ensures refused { (flow : flows.Flow) → ForSome (D.told disk.old) (Refuses format.Two fault) → IsNotOpened which flow (D.told disk.old) result }
-    ensures content { D.told disk.new ≡ D.told disk.old }
-    ensures images { LeavesSame (D.may_leave disk.old) (D.may_leave disk.new) }
-    ensures fault { result ≡ Status.JournalFault → (fault ≡ open_fault.Fault) ⊎ HasRisen (D.faults disk.old) (D.faults disk.new) }
-    ensures never_falls { D.faults disk.old ≤ D.faults disk.new }
+/// The status of a disk that begins with the header of a form, and was not opened as such a journal.
+fn not_opened(which: Which, fault: OpenFault) -> Status
+    ensures refused { (form : forms.Form) (flow : flows.Flow) (content : Option (List ℕ)) → ForSome content (HasForm form) → ForSome content (Refuses form fault) → IsNotOpened which flow content result }
+    ensures fault { result ≡ Status.JournalFault → fault ≡ open_fault.Fault }
 {
     match fault {
         OpenFault::Memory => Status::Memory,
         OpenFault::Fault => Status::JournalFault,
-        OpenFault::NotFormatted => not_formatted(which, disk),
+        OpenFault::NotFormatted => Status::JournalBad {
+            which,
+            cause: JournalCause::NotFormatted,
+        },
         OpenFault::Damaged { at } => Status::JournalBad {
             which,
             cause: JournalCause::Damaged { at },
         },
+    }
+}
+
+/// The form of the journal on a disk.
+///
+/// # Errors
+/// `JournalFault` where a call of the disk failed, and `JournalBad` where it begins with no header.
+fn form_on<D: Disk>(which: Which, disk: &mut D) -> Result<Form, Status>
+    ensures form { IfOk result (λ form. ForSome (D.told disk.old) (HasForm form)) }
+    ensures quiet { IfOk result (λ _. D.faults disk.new ≡ D.faults disk.old) }
+    ensures refused { IfErr result (λ status. (flow : flows.Flow) → IsNotOpened which flow (D.told disk.old) status) }
+    ensures content { D.told disk.new ≡ D.told disk.old }
+    ensures images { LeavesSame (D.may_leave disk.old) (D.may_leave disk.new) }
+    ensures cause { IfErr result (λ status. status ≡ Status.JournalFault → HasRisen (D.faults disk.old) (D.faults disk.new)) }
+    ensures never_falls { D.faults disk.old ≤ D.faults disk.new }
+{
+    match read_form(disk) {
+        Ok(Some(form)) => Ok(form),
+        Ok(None) => Err(not_formatted(which, disk)),
+        Err(_) => Err(Status::JournalFault),
     }
 }
 
@@ -92,19 +120,16 @@ fn excluded(which: Which, fault: BoxFault) -> Status
     }
 }
 
-/// The journal of a disk, opened.
+/// The journal of a disk, opened in the form that it has.
 ///
 /// # Errors
 /// The disk comes back with each: `JournalFault` where a call of it failed, `JournalBad` with the cause why its content is no
 /// journal, and `Memory`.
-fn open_journal<D: Disk>(
-    alloc: Global,
-    which: Which,
-    disk: D,
-    limits: Limits,
-) -> Result<SegJournal<D>, (D, Status)>
+fn open_journal<D: Disk>(alloc: Global, which: Which, disk: D) -> Result<SegJournal<D>, (D, Status)>
     ensures opened { IfOk result (OpensOn (D.told disk)) }
-    ensures limits { IfOk result (λ j. limits_of j ≡ limits) }
+    ensures formed { IfOk result (λ j. ForSome (D.told disk) (HasForm (form_of j))) }
+    ensures uncut { IfOk result (λ j. ForSome (D.told disk) IsUncut) }
+    ensures limits { IfOk result (λ j. ((limits_of j).entries ≡ 2 ^ 26) × ((limits_of j).bytes ≡ 2 ^ 33)) }
     ensures sound { IfOk result (λ j. broken_of j ≡ false) }
     ensures content { IfOk result (λ j. D.told (disk_of j) ≡ D.told disk) }
     ensures quiet { IfOk result (λ j. D.faults (disk_of j) ≡ D.faults disk) }
@@ -113,12 +138,14 @@ fn open_journal<D: Disk>(
     ensures refused_never_falls { IfErr result (λ e. D.faults disk ≤ D.faults e.0) }
     ensures cause { IfErr result (λ e. e.1 ≡ Status.JournalFault → HasRisen (D.faults disk) (D.faults e.0)) }
 {
-    match SegJournal::open(alloc, disk, limits) {
+    let mut disk = disk;
+    let form = match form_on(which, &mut disk) {
+        Ok(form) => form,
+        Err(status) => return Err((disk, status)),
+    };
+    match SegJournal::open(alloc, disk, limits(form)) {
         Ok(journal) => Ok(journal),
-        Err((mut disk, fault)) => {
-            let status = not_opened(which, fault, &mut disk);
-            Err((disk, status))
-        }
+        Err((disk, fault)) => Err((disk, not_opened(which, fault))),
     }
 }
 
@@ -139,11 +166,11 @@ pub fn open_outbox<D: Disk>(alloc: Global, disk: D) -> Result<Outbox<SegJournal<
     ensures refused_never_falls { IfErr result (λ e. D.faults disk ≤ D.faults e.0) }
     ensures cause { IfErr result (λ e. e.1 ≡ Status.JournalFault → HasRisen (D.faults disk) (D.faults e.0)) }
 {
-    let limits = LIMITS;
-    let journal = match open_journal(alloc, Which::Outbox, disk, limits) {
+    let journal = match open_journal(alloc, Which::Outbox, disk) {
         Ok(journal) => journal,
         Err(refused) => return Err(refused),
     };
+    let limits = journal.limits();
     match Outbox::open(alloc, journal, limits) {
         Ok(outbox) => {
             let _found = Found::of::<Outbox<SegJournal<D>>, OfOutbox>(&outbox);
@@ -175,11 +202,11 @@ pub fn open_inbox<D: Disk>(
     ensures refused_never_falls { IfErr result (λ e. D.faults disk ≤ D.faults e.0) }
     ensures cause { IfErr result (λ e. e.1 ≡ Status.JournalFault → HasRisen (D.faults disk) (D.faults e.0)) }
 {
-    let limits = LIMITS;
-    let journal = match open_journal(alloc, Which::Inbox, disk, limits) {
+    let journal = match open_journal(alloc, Which::Inbox, disk) {
         Ok(journal) => journal,
         Err(refused) => return Err(refused),
     };
+    let limits = journal.limits();
     match Inbox::open(alloc, journal, limits, flow) {
         Ok(inbox) => {
             let _found = Found::of::<Inbox<SegJournal<D>>, OfInbox>(&inbox);

@@ -23,6 +23,7 @@ use crate::going_on::plans_on;
 use crate::inputs::end_config;
 use crate::life::{Over, live};
 use crate::outside::{Live, OverBoxes, SessionOutside};
+use crate::titles::{Asked, asked_for, bound};
 use cmd_base::{Status, begin, read_config};
 use cmd_config::Configuration;
 use fixp_shake::{EndConfig, Flow, Role};
@@ -39,17 +40,18 @@ use std::thread::Threads;
 /// The outbox and the inbox of a session on one kind of disk.
 pub type Boxes<D> = (Outbox<SegJournal<D>>, Inbox<SegJournal<D>>);
 
-/// Opens the boxes on their disks, the outbox first.
+/// Opens the boxes on their disks, the outbox first, where their titles are those that are asked for.
 ///
 /// # Errors
 /// The status, and both disks.
 pub fn open_boxes<D: Disk>(
     alloc: Global,
+    asked: &Asked,
     flow: Flow,
     out_disk: D,
     in_disk: D,
 ) -> Result<Boxes<D>, (Status, D, D)>
-    ensures told { IfOk result (λ _. HoldBoxes D.told flow (record { outbox = out_disk; inbox = in_disk })) }
+    ensures told { IfOk result (λ _. HoldBoxes D.told asked.now flow (record { outbox = out_disk; inbox = in_disk })) }
     ensures opened { IfOk result (λ boxes. OpensOutbox (D.told out_disk) boxes.0 × OpensInbox (D.told in_disk) boxes.1) }
     ensures sound { IfOk result (λ boxes. outboxes.is_broken boxes.0 ≡ false) }
     ensures in_sound { IfOk result (λ boxes. inboxes.is_broken boxes.1 ≡ false) }
@@ -59,9 +61,15 @@ pub fn open_boxes<D: Disk>(
     ensures numbered { IfOk result (λ boxes. flow ≡ flows.Recoverable → inboxes.next_of boxes.1 + 1 < 2 ^ 64) }
     ensures few { IfOk result (λ boxes. outboxes.front_of boxes.0 < 2 ^ 40) }
     ensures never_falls { IfOk result (λ boxes. (D.faults out_disk ≤ outboxes.faults_of boxes.0) × (D.faults in_disk ≤ inboxes.faults_of boxes.1)) }
-    ensures refused { IfErr result (λ e. RefusedBoxes D.told D.may_leave D.faults flow (record { outbox = out_disk; inbox = in_disk }) (record { outbox = e.1; inbox = e.2 }) e.0) }
+    ensures refused { IfErr result (λ e. RefusedBoxes D.told D.may_leave D.faults asked.now flow (record { outbox = out_disk; inbox = in_disk }) (record { outbox = e.1; inbox = e.2 }) e.0) }
     ensures refused_never_falls { IfErr result (λ e. (D.faults out_disk ≤ D.faults e.1) × (D.faults in_disk ≤ D.faults e.2)) }
 {
+    let mut out_disk = out_disk;
+    let mut in_disk = in_disk;
+    match bound(asked, &mut out_disk, &mut in_disk) {
+        Ok(()) => {}
+        Err(status) => return Err((status, out_disk, in_disk)),
+    }
     let outbox = match open_outbox(alloc, out_disk) {
         Ok(outbox) => outbox,
         Err((disk, status)) => return Err((status, disk, in_disk)),
@@ -81,13 +89,14 @@ type Opened<D> = (Outbox<SegJournal<D>>, Inbox<SegJournal<D>>, Vec<Plan>);
 /// The status, and both disks.
 fn open_session<S: Source, D: Disk>(
     alloc: Global,
+    asked: &Asked,
     flow: Flow,
     senders: u8,
     input: &mut S,
     out_disk: D,
     in_disk: D,
 ) -> Result<Opened<D>, (Status, D, D)>
-    ensures told { IfOk result (λ _. HoldBoxes D.told flow (record { outbox = out_disk; inbox = in_disk })) }
+    ensures told { IfOk result (λ _. HoldBoxes D.told asked.now flow (record { outbox = out_disk; inbox = in_disk })) }
     ensures opened { IfOk result (λ s. OpensOutbox (D.told out_disk) s.0 × OpensInbox (D.told in_disk) s.1) }
     ensures planned { IfOk result (λ s. ArePlanned senders (S.left input.old) (map payloads_of s.2.items)) }
     ensures many { IfOk result (λ s. vec_len s.2 ≡ senders) }
@@ -101,14 +110,14 @@ fn open_session<S: Source, D: Disk>(
     ensures few { IfOk result (λ s. outboxes.front_of s.0 < 2 ^ 40) }
     ensures never_falls { IfOk result (λ s. (D.faults out_disk ≤ outboxes.faults_of s.0) × (D.faults in_disk ≤ inboxes.faults_of s.1)) }
     ensures refused { IfErr result (λ e.
-        (RefusedBoxes D.told D.may_leave D.faults flow (record { outbox = out_disk; inbox = in_disk }) (record { outbox = e.1; inbox = e.2 }) e.0 × (input.new ≡ input.old))
-        ⊎ (HoldBoxes D.told flow (record { outbox = out_disk; inbox = in_disk })
+        (RefusedBoxes D.told D.may_leave D.faults asked.now flow (record { outbox = out_disk; inbox = in_disk }) (record { outbox = e.1; inbox = e.2 }) e.0 × (input.new ≡ input.old))
+        ⊎ (HoldBoxes D.told asked.now flow (record { outbox = out_disk; inbox = in_disk })
         × (RefusedInput senders S.left S.faults input.old input.new e.0 ⊎ RefusedPlans senders (S.left input.old) D.told D.faults out_disk e.1 e.0)
         × LeftBoth D.told D.may_leave (record { outbox = out_disk; inbox = in_disk }) (record { outbox = e.1; inbox = e.2 }))) }
     ensures counted { S.faults input.old ≤ S.faults input.new }
     ensures refused_never_falls { IfErr result (λ e. (D.faults out_disk ≤ D.faults e.1) × (D.faults in_disk ≤ D.faults e.2)) }
 {
-    let (outbox, inbox) = match open_boxes(alloc, flow, out_disk, in_disk) {
+    let (outbox, inbox) = match open_boxes(alloc, asked, flow, out_disk, in_disk) {
         Ok(boxes) => boxes,
         Err(refused) => return Err(refused),
     };
@@ -191,6 +200,7 @@ fn run_answering<S: Source, K: Sink, D: Disk + Send, N: Dialer, C: Clock, R: Thr
     rt: &R,
     alloc: Global,
     end: EndConfig,
+    asked: Asked,
     answerer: Answerer,
     outside: SessionOutside<S, K, D, N, C>,
 ) -> (Status, SessionOutside<S, K, D, N, C>)
@@ -199,7 +209,7 @@ fn run_answering<S: Source, K: Sink, D: Disk + Send, N: Dialer, C: Clock, R: Thr
     requires greatest { end.keepalive ≤ 60000 }
     requires credentials { length end.credentials ≤ 2048 }
     requires lent { N.lent outside.dialer ≡ false }
-    ensures ended { (config : S) → EndsAnswering ⟦<SegJournal<D> as Journal>⟧ (sees S.Source K.Sink D.Disk N.Dialer N.Link.Link C.Clock) end (answering (plan_of answerer) (desks_of answerer)) (record outside { config = config }) result.1 result.0 }
+    ensures ended { (config : S) → EndsAnswering ⟦<SegJournal<D> as Journal>⟧ (sees S.Source K.Sink D.Disk N.Dialer N.Link.Link C.Clock) asked end (answering (plan_of answerer) (desks_of answerer)) (record outside { config = config }) result.1 result.0 }
     ensures config { result.1.config ≡ outside.config }
     ensures input { result.1.input ≡ outside.input }
     ensures lent { N.lent result.1.dialer ≡ false }
@@ -217,6 +227,7 @@ fn run_answering<S: Source, K: Sink, D: Disk + Send, N: Dialer, C: Clock, R: Thr
     let mut live = Live { out, dialer, clock };
     let (status, live, out_disk, in_disk) = match open_boxes(
         alloc,
+        &asked,
         end.peer_flow,
         out_disk,
         in_disk,
@@ -271,6 +282,7 @@ fn run_by_plans<S: Source, K: Sink, D: Disk + Send, N: Dialer, C: Clock, R: Thre
     ensures lent { N.lent result.1.dialer ≡ false }
     ensures none_fell { NoneFellInSession (counts_of (sees S.Source K.Sink D.Disk N.Dialer N.Link.Link C.Clock) outside) (counts_of (sees S.Source K.Sink D.Disk N.Dialer N.Link.Link C.Clock) result.1) }
 {
+    let asked = asked_for(role, &configuration);
     let Configuration { link, trade } = configuration;
     let end = end_config(role, link);
     let SessionOutside {
@@ -285,6 +297,7 @@ fn run_by_plans<S: Source, K: Sink, D: Disk + Send, N: Dialer, C: Clock, R: Thre
     let mut live = Live { out, dialer, clock };
     let (status, live, out_disk, in_disk) = match open_session(
         alloc,
+        &asked,
         end.peer_flow,
         trade.senders,
         &mut input,
@@ -351,15 +364,16 @@ fn run_over_disks<
     match answerer_of(configuration.trade) {
         None => run_by_plans(rt, alloc, role, configuration, outside),
         Some(answerer) => {
+            let asked = asked_for(role, &configuration);
             let end = end_config(role, configuration.link);
-            run_answering(rt, alloc, end, answerer, outside)
+            run_answering(rt, alloc, end, asked, answerer, outside)
         }
     }
 }
 
 /// `accept` for an acceptor, and `connect` for an initiator: one life of the session that CONFIG configures, over the journals on the
 /// two disks, with the plans in INPUT, which have to go on from the outbox, or with the desks that it names, and then INPUT is left as it is.
-/// CONFIG comes first, then the journals, the outbox first, then INPUT and its plans beside the outbox, and then OUT is begun; where one of
+/// CONFIG comes first, then the titles of the journals, the journals, the outbox first, then INPUT and its plans beside the outbox, and then OUT is begun; where one of
 /// them is refused or fails, all behind it is left as it was.
 pub fn run_session<
     S: Source,

@@ -6,9 +6,11 @@ use Rattle.std.specs.Io.KnownBytes.{Appends}
 use Rattle.std.proofs.KnownBytes.{Appends-nil, Appends-trans}
 use Rattle.gw_outside.specs.Faults.{TakesFront}
 use Rattle.sbe_layout.specs.declared.plan.Plan.{Plan}
+use Rattle.jr_dated.specs.declared.form.Form.{Form}
 use Rattle.jr_dated.specs.Dated.{Dated}
 use Rattle.jr_stream.specs.Images.{counted}
 use Rattle.jr_stream.specs.declared.reader.End.{End}
+use Rattle.jr_shown.specs.declared.choice.Choice.{Choice}
 use Rattle.jr_shown.specs.declared.choice.Start.{Start}
 use Rattle.jr_shown.specs.declared.choice.Style.{Style}
 use Rattle.jr_shown.specs.declared.shower.Shower.{Shower}
@@ -40,8 +42,8 @@ pub no_front : (now : Option (List ℕ)) (lines : List ℕ) → TakesFront now n
 no_front now lines = record { count = 0; within = omega arith; appended = Appends-nil now }
 
 -- nothing was shown yet
-pub shown_none : (style : Style) (plan : Plan) (start : Start) (most : ℕ) (before now : Option (List ℕ)) (s : Shower) → IsNew style start most s → Appends before now [] → HasShown style plan start most [] before now s
-shown_none style plan start most before now s fresh nothing = record {
+pub shown_none : (choice : Choice) (plan : Plan) (form : Form) (start : Start) (before now : Option (List ℕ)) (s : Shower) → IsNew choice.style form start choice.most s → Appends before now [] → HasShown choice plan form start [] before now s
+shown_none choice plan form start before now s fresh nothing = record {
   pushed = [];
   gained = nothing;
   style_is = fresh.style_is;
@@ -49,24 +51,24 @@ shown_none style plan start most before now s fresh nothing = record {
 }
 
 -- a record was shown, and some lines were pushed
-pub shown_more : (style : Style) (plan : Plan) (start : Start) (most : ℕ) (records : List Dated) (d : Dated) (before out now : Option (List ℕ)) (old mid new : Shower)
-    → HasShown style plan start most records before out old → Takes plan d old mid → Pushes out now mid new → HasShown style plan start most (records ++ d ∷ []) before now new
-shown_more style plan start most records d before out now old mid new h takes p = record {
+pub shown_more : (choice : Choice) (plan : Plan) (form : Form) (start : Start) (records : List Dated) (d : Dated) (before out now : Option (List ℕ)) (old mid new : Shower)
+    → HasShown choice plan form start records before out old → Takes plan d old mid → Pushes out now mid new → HasShown choice plan form start (records ++ d ∷ []) before now new
+shown_more choice plan form start records d before out now old mid new h takes p = record {
   pushed = h.pushed ++ p.pushed;
   gained = Appends-trans before out now h.pushed p.pushed h.gained p.gained;
   style_is = p.style ∙ takes.style ∙ h.style_is;
   same = λ ds.
       let behind = goes_on plan new ds in
-      ap (records_shown style plan start most) (append_assoc records (d ∷ []) ds) ∙ h.same (d ∷ ds)
+      ap (records_shown choice.style plan form start choice.most) (append_assoc records (d ∷ []) ds) ∙ h.same (d ∷ ds)
       ∙ ap (λ (l : List ℕ). h.pushed ++ l)
       (takes.same ds ∙ ap (λ (l : List ℕ). mid.lines.items ++ l) (sym (p.same plan ds)) ∙ ap (λ (l : List ℕ). l ++ behind) p.joins ∙ append_assoc p.pushed new.lines.items behind)
       ∙ sym (append_assoc h.pushed p.pushed (new.lines.items ++ behind));
 }
 
 -- what waited was pushed
-pub shown_on : (style : Style) (plan : Plan) (start : Start) (most : ℕ) (records : List Dated) (before out now : Option (List ℕ)) (old new : Shower) → HasShown style plan start most records before out old
-    → Pushes out now old new → HasShown style plan start most records before now new
-shown_on style plan start most records before out now old new h p = record {
+pub shown_on : (choice : Choice) (plan : Plan) (form : Form) (start : Start) (records : List Dated) (before out now : Option (List ℕ)) (old new : Shower) → HasShown choice plan form start records before out old
+    → Pushes out now old new → HasShown choice plan form start records before now new
+shown_on choice plan form start records before out now old new h p = record {
   pushed = h.pushed ++ p.pushed;
   gained = Appends-trans before out now h.pushed p.pushed h.gained p.gained;
   style_is = p.style ∙ h.style_is;
@@ -79,32 +81,32 @@ shown_on style plan start most records before out now old new h p = record {
 }
 
 -- a front of its lines was pushed
-pub shown_front : (style : Style) (plan : Plan) (start : Start) (most : ℕ) (records : List Dated) (d : Dated) (before out now : Option (List ℕ)) (old mid : Shower)
-    → HasShown style plan start most records before out old → Takes plan d old mid → TakesFront out now mid.lines.items → TakesFront before now (records_shown style plan start most (records ++ d ∷ []))
-shown_front style plan start most records d before out now old mid h takes front =
-    more-front before out now h.pushed mid.lines.items (goes_on plan mid []) (records_shown style plan start most (records ++ d ∷ []))
+pub shown_front : (choice : Choice) (plan : Plan) (form : Form) (start : Start) (records : List Dated) (d : Dated) (before out now : Option (List ℕ)) (old mid : Shower)
+    → HasShown choice plan form start records before out old → Takes plan d old mid → TakesFront out now mid.lines.items → TakesFront before now (records_shown choice.style plan form start choice.most (records ++ d ∷ []))
+shown_front choice plan form start records d before out now old mid h takes front =
+    more-front before out now h.pushed mid.lines.items (goes_on plan mid []) (records_shown choice.style plan form start choice.most (records ++ d ∷ []))
     (h.same (d ∷ []) ∙ ap (λ (l : List ℕ). h.pushed ++ l) (takes.same [])) h.gained front
 
 -- the lines of the records are those that were pushed and those that wait
-lines_now : (style : Style) (plan : Plan) (start : Start) (most : ℕ) (records : List Dated) (before now : Option (List ℕ)) (s : Shower) (h : HasShown style plan start most records before now s)
-    → records_shown style plan start most records ≡ h.pushed ++ s.lines.items
-lines_now style plan start most records before now s h =
-    ap (records_shown style plan start most) (sym (append-nil records)) ∙ h.same []
+lines_now : (choice : Choice) (plan : Plan) (form : Form) (start : Start) (records : List Dated) (before now : Option (List ℕ)) (s : Shower) (h : HasShown choice plan form start records before now s)
+    → records_shown choice.style plan form start choice.most records ≡ h.pushed ++ s.lines.items
+lines_now choice plan form start records before now s h =
+    ap (records_shown choice.style plan form start choice.most) (sym (append-nil records)) ∙ h.same []
     ∙ ap (λ (l : List ℕ). h.pushed ++ l) (ap (λ (l : List ℕ). s.lines.items ++ l) (none_on s.style plan s.is_showing s.start s.left s.number) ∙ append-nil s.lines.items)
 
 -- what was pushed so far is a front of them
-pub shown_so_far : (style : Style) (plan : Plan) (start : Start) (most : ℕ) (records : List Dated) (before now : Option (List ℕ)) (s : Shower) → HasShown style plan start most records before now s
-    → TakesFront before now (records_shown style plan start most records)
-shown_so_far style plan start most records before now s h =
-    more-front before now now h.pushed s.lines.items [] (records_shown style plan start most records)
-    (lines_now style plan start most records before now s h ∙ ap (λ (l : List ℕ). h.pushed ++ l) (sym (append-nil s.lines.items))) h.gained (no_front now s.lines.items)
+pub shown_so_far : (choice : Choice) (plan : Plan) (form : Form) (start : Start) (records : List Dated) (before now : Option (List ℕ)) (s : Shower) → HasShown choice plan form start records before now s
+    → TakesFront before now (records_shown choice.style plan form start choice.most records)
+shown_so_far choice plan form start records before now s h =
+    more-front before now now h.pushed s.lines.items [] (records_shown choice.style plan form start choice.most records)
+    (lines_now choice plan form start records before now s h ∙ ap (λ (l : List ℕ). h.pushed ++ l) (sym (append-nil s.lines.items))) h.gained (no_front now s.lines.items)
 
 -- or a front of what waited
-pub shown_partly : (style : Style) (plan : Plan) (start : Start) (most : ℕ) (records : List Dated) (before out now : Option (List ℕ)) (s : Shower) → HasShown style plan start most records before out s
-    → TakesFront out now s.lines.items → TakesFront before now (records_shown style plan start most records)
-shown_partly style plan start most records before out now s h front =
-    more-front before out now h.pushed s.lines.items [] (records_shown style plan start most records)
-    (lines_now style plan start most records before out s h ∙ ap (λ (l : List ℕ). h.pushed ++ l) (sym (append-nil s.lines.items))) h.gained front
+pub shown_partly : (choice : Choice) (plan : Plan) (form : Form) (start : Start) (records : List Dated) (before out now : Option (List ℕ)) (s : Shower) → HasShown choice plan form start records before out s
+    → TakesFront out now s.lines.items → TakesFront before now (records_shown choice.style plan form start choice.most records)
+shown_partly choice plan form start records before out now s h front =
+    more-front before out now h.pushed s.lines.items [] (records_shown choice.style plan form start choice.most records)
+    (lines_now choice plan form start records before out s h ∙ ap (λ (l : List ℕ). h.pushed ++ l) (sym (append-nil s.lines.items))) h.gained front
 
 -- ---- no record more
 
@@ -121,25 +123,25 @@ none_more style plan true start n ds = refl
 none_more style plan false start n ds = none_chosen style plan start n ds
 
 -- as many were shown as were asked for
-pub shown_full : (style : Style) (plan : Plan) (start : Start) (most : ℕ) (records : List Dated) (before now : Option (List ℕ)) (s : Shower) → HasShown style plan start most records before now s → s.left ≡ 0
-    → (more : List Dated) → records_shown style plan start most (records ++ more) ≡ records_shown style plan start most records
-shown_full style plan start most records before now s h none more =
+pub shown_full : (choice : Choice) (plan : Plan) (form : Form) (start : Start) (records : List Dated) (before now : Option (List ℕ)) (s : Shower) → HasShown choice plan form start records before now s → s.left ≡ 0
+    → (more : List Dated) → records_shown choice.style plan form start choice.most (records ++ more) ≡ records_shown choice.style plan form start choice.most records
+shown_full choice plan form start records before now s h none more =
     let nothing : goes_on plan s more ≡ [] = rw none (none_more s.style plan s.is_showing s.start s.number more) in
     h.same more ∙ ap (λ (l : List ℕ). h.pushed ++ (s.lines.items ++ l)) nothing ∙ ap (λ (l : List ℕ). h.pushed ++ l) (append-nil s.lines.items)
-    ∙ sym (lines_now style plan start most records before now s h)
+    ∙ sym (lines_now choice plan form start records before now s h)
 
 -- ---- the end
 
-module _ (style : Style) (plan : Plan) (start : Start) (most : ℕ) (records : List Dated) (before out now : Option (List ℕ)) (s : Shower) (end : End) (h : HasShown style plan start most records before out s) where
-  whole : shown style plan start most records end ≡ h.pushed ++ (s.lines.items ++ end_in style end)
-  whole = ap (λ (l : List ℕ). l ++ end_in style end) (lines_now style plan start most records before out s h) ∙ append_assoc h.pushed s.lines.items (end_in style end)
+module _ (choice : Choice) (plan : Plan) (form : Form) (start : Start) (records : List Dated) (before out now : Option (List ℕ)) (s : Shower) (end : End) (h : HasShown choice plan form start records before out s) where
+  whole : shown choice.style plan form start choice.most records end ≡ h.pushed ++ (s.lines.items ++ end_in choice.style end)
+  whole = ap (λ (l : List ℕ). l ++ end_in choice.style end) (lines_now choice plan form start records before out s h) ∙ append_assoc h.pushed s.lines.items (end_in choice.style end)
 
   -- all lines were pushed
-  pub shown_all : Appends out now (s.lines.items ++ end_in style end) → Appends before now (shown style plan start most records end)
-  shown_all gained = subst (Appends before now) (sym whole) (Appends-trans before out now h.pushed (s.lines.items ++ end_in style end) h.gained gained)
+  pub shown_all : Appends out now (s.lines.items ++ end_in choice.style end) → Appends before now (shown choice.style plan form start choice.most records end)
+  shown_all gained = subst (Appends before now) (sym whole) (Appends-trans before out now h.pushed (s.lines.items ++ end_in choice.style end) h.gained gained)
 
   -- or a front of them
-  pub shown_part : TakesFront out now (s.lines.items ++ end_in style end) → TakesFront before now (shown style plan start most records end)
+  pub shown_part : TakesFront out now (s.lines.items ++ end_in choice.style end) → TakesFront before now (shown choice.style plan form start choice.most records end)
   shown_part front =
-      more-front before out now h.pushed (s.lines.items ++ end_in style end) [] (shown style plan start most records end)
-      (whole ∙ ap (λ (l : List ℕ). h.pushed ++ l) (sym (append-nil (s.lines.items ++ end_in style end)))) h.gained front
+      more-front before out now h.pushed (s.lines.items ++ end_in choice.style end) [] (shown choice.style plan form start choice.most records end)
+      (whole ∙ ap (λ (l : List ℕ). h.pushed ++ l) (sym (append-nil (s.lines.items ++ end_in choice.style end)))) h.gained front

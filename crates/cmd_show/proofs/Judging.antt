@@ -4,7 +4,6 @@ use Rattle.schema_toml.specs.declared.fault.ConfigFault.{ConfigFault}
 use Rattle.sbe_layout.specs.declared.plan.Plan.{Plan}
 use Rattle.jr_record.specs.declared.faults.OpenFault.{OpenFault}
 use Rattle.jr_record.specs.declared.faults.OpenFault.TheVariants as faults
-use Rattle.jr_dated.specs.declared.formats.Format.TheVariants.{Two}
 use Rattle.jr_dated.specs.Dated.{Dated}
 use Rattle.jr_stream.specs.Reading.{IsUnread, Refuses}
 use Rattle.jr_stream.specs.declared.reader.End.{End}
@@ -187,7 +186,7 @@ gave_refused asked out (outcomes.Damaged at) schema is judged ok = absurd is
 gave_refused asked out (outcomes.Changed at) schema is judged ok = absurd is
 
 -- nor where no journal was found when its end was looked for
-pub gave_ahead : (asked : Asked) (out : Option (List ℕ)) (fault : OpenFault) → Refuses Two fault asked.ahead → Gave asked out out (unread_by Ahead fault)
+pub gave_ahead : (asked : Asked) (out : Option (List ℕ)) (fault : OpenFault) → Refuses fault asked.ahead → Gave asked out out (unread_by Ahead fault)
 gave_ahead asked out faults.Memory refused = inl (keeps_self out)
 gave_ahead asked out faults.Fault refused = keeps_self out
 gave_ahead asked out faults.NotFormatted refused = (refused, keeps_self out)
@@ -336,7 +335,7 @@ pub following_refused : (asked : Asked) (out : Option (List ℕ)) (o : Outcome) 
 following_refused asked out o schema is judged ok = gave_following asked out out o (λ e. subst IsRefusal e is) (gave_refused asked out o schema is judged ok)
 
 -- nor where no journal was found when its end was looked for
-pub following_ahead_of : (asked : Asked) (out : Option (List ℕ)) (fault : OpenFault) → Refuses Two fault asked.ahead → GaveFollowing asked out out (unread_by Ahead fault)
+pub following_ahead_of : (asked : Asked) (out : Option (List ℕ)) (fault : OpenFault) → Refuses fault asked.ahead → GaveFollowing asked out out (unread_by Ahead fault)
 following_ahead_of asked out fault refused = gave_following asked out out (unread_by Ahead fault) (unread_on fault) (gave_ahead asked out fault refused)
   where
     unread_on : (fault : OpenFault) → unread_by Ahead fault ≡ outcomes.Done → ⊥

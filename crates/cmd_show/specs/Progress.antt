@@ -6,7 +6,7 @@ use Rattle.gw_outside.specs.Faults.{TakesFront}
 use Rattle.jr_record.specs.declared.faults.OpenFault.{OpenFault}
 use Rattle.jr_record.specs.declared.faults.OpenFault.TheVariants as faults
 use Rattle.sbe_layout.specs.declared.plan.Plan.{Plan}
-use Rattle.jr_dated.specs.declared.formats.Format.TheVariants.{Two}
+use Rattle.jr_dated.specs.declared.form.Form.{Form}
 use Rattle.jr_dated.specs.Dated.{Dated}
 use Rattle.jr_stream.specs.Images.{BeginsWith, HasRecords, place_behind}
 use Rattle.jr_stream.specs.Reading.{Reading, HasTaken}
@@ -27,11 +27,11 @@ use Rattle.cmd_show.specs.Promise.{Asked, Gave, GaveFollowing}
 -- ---- records, one after another
 
 -- what was pushed and what waits are the lines of these records, whatever follows them
-pub record HasShown (style : Style) (plan : Plan) (start : Start) (most : ℕ) (records : List Dated) (before now : Option (List ℕ)) (s : Shower) : Type 0 where
+pub record HasShown (choice : Choice) (plan : Plan) (form : Form) (start : Start) (records : List Dated) (before now : Option (List ℕ)) (s : Shower) : Type 0 where
   pub pushed : List ℕ
   pub gained : Appends before now pushed
-  pub style_is : s.style ≡ style
-  pub same : (ds : List Dated) → records_shown style plan start most (records ++ ds) ≡ pushed ++ (s.lines.items ++ goes_on plan s ds)
+  pub style_is : s.style ≡ choice.style
+  pub same : (ds : List Dated) → records_shown choice.style plan form start choice.most (records ++ ds) ≡ pushed ++ (s.lines.items ++ goes_on plan s ds)
 
 -- some lines were pushed, and the others wait
 pub record Pushes (out now : Option (List ℕ)) (old new : Shower) : Type 0 where
@@ -43,10 +43,10 @@ pub record Pushes (out now : Option (List ℕ)) (old new : Shower) : Type 0 wher
 
 -- what the next record leaves: it was taken and shown, or a front of all lines was pushed
 abbrev pub Adds : Plan → Dated → Option (List ℕ) → Option (List ℕ) → Shower → Shower → Option Outcome → Type 0
-Adds plan d out now old new None = (style : Style) (start : Start) (most : ℕ) (records : List Dated) (before : Option (List ℕ)) → HasShown style plan start most records before out old
-    → HasShown style plan start most (records ++ d ∷ []) before now new
-Adds plan d out now old new (Some outcomes.OutputFault) = (style : Style) (start : Start) (most : ℕ) (records : List Dated) (before : Option (List ℕ))
-    → HasShown style plan start most records before out old → TakesFront before now (records_shown style plan start most (records ++ d ∷ []))
+Adds plan d out now old new None = (choice : Choice) (form : Form) (start : Start) (records : List Dated) (before : Option (List ℕ)) → HasShown choice plan form start records before out old
+    → HasShown choice plan form start (records ++ d ∷ []) before now new
+Adds plan d out now old new (Some outcomes.OutputFault) = (choice : Choice) (form : Form) (start : Start) (records : List Dated) (before : Option (List ℕ))
+    → HasShown choice plan form start records before out old → TakesFront before now (records_shown choice.style plan form start choice.most (records ++ d ∷ []))
 Adds plan d out now old new (Some outcomes.Memory) = now ≡ out
 Adds plan d out now old new (Some _) = ⊥
 
@@ -91,28 +91,27 @@ KeepsTo asked before after outcome = before.journal ≡ Some asked.image → Gav
 -- these records were taken and shown
 pub record Stands (asked : Asked) (start : Start) (before now : Streams) (r : Reading) (s : Shower) : Type 0 where
   pub is_start : IsStart asked.choice.begin asked.ahead start
-  pub format : r.format ≡ Two
   pub records : List Dated
   pub taken : HasTaken before.journal now.journal records r
-  pub showing : HasShown asked.choice.style asked.plan start asked.choice.most records before.out now.out s
+  pub showing : HasShown asked.choice asked.plan r.form start records before.out now.out s
 
--- all records of the journal were taken and shown, but for the lines that wait, and this is their end
-pub record Ended (asked : Asked) (start : Start) (before : Streams) (out : Option (List ℕ)) (end : End) (s : Shower) : Type 0 where
+-- all records of the journal, which is of this form, were taken and shown, but for the lines that wait, and this is their end
+pub record Ended (asked : Asked) (start : Start) (before : Streams) (out : Option (List ℕ)) (form : Form) (end : End) (s : Shower) : Type 0 where
   pub is_start : IsStart asked.choice.begin asked.ahead start
   pub records : List Dated
-  pub has : ForSome before.journal (λ image. HasRecords Two image records end)
-  pub showing : HasShown asked.choice.style asked.plan start asked.choice.most records before.out out s
+  pub has : ForSome before.journal (λ image. HasRecords form image records end)
+  pub showing : HasShown asked.choice asked.plan form start records before.out out s
 
 -- what a round leaves: it goes on, or the end was reached, or the promise is kept
 abbrev pub AfterRound : Asked → Start → Streams → Streams → Reading → Shower → Result (Option End) Outcome → Type 0
 AfterRound asked start before now r s (Ok None) = Stands asked start before now r s
-AfterRound asked start before now r s (Ok (Some end)) = Ended asked start before now.out end s
+AfterRound asked start before now r s (Ok (Some end)) = Ended asked start before now.out r.form end s
 AfterRound asked start before now r s (Err outcome) = KeepsTo asked before now outcome
 
--- what all rounds leave
-abbrev pub AfterAll : Asked → Start → Streams → Streams → Shower → Result End Outcome → Type 0
-AfterAll asked start before now s (Ok end) = Ended asked start before now.out end s
-AfterAll asked start before now s (Err outcome) = KeepsTo asked before now outcome
+-- what all rounds leave, of a journal of this form
+abbrev pub AfterAll : Asked → Start → Streams → Streams → Form → Shower → Result End Outcome → Type 0
+AfterAll asked start before now form s (Ok end) = Ended asked start before now.out form end s
+AfterAll asked start before now form s (Err outcome) = KeepsTo asked before now outcome
 
 -- the outcomes of a reading that did not come to the end
 abbrev pub IsReadsEnd : Outcome → Type 0
@@ -142,23 +141,24 @@ IsLate _ = ⊤
 
 -- ---- a journal that is followed
 
--- what it told when it was looked at last, whether it was seen to change, and what OUT has taken
+-- the form that it is read in, what it told when it was looked at last, whether it was seen to change, and what OUT has taken
 pub record Followed : Type 0 where
+  pub form : Form
   pub told : Option (List ℕ)
   pub has_changed : Bool
   pub out : Option (List ℕ)
 
 -- its content begins with records that were taken and shown, but for the lines that wait, and the reading goes on at this place behind them
-pub record Waits (asked : Asked) (start : Start) (before now : Option (List ℕ)) (at : ℕ) (s : Shower) : Type 0 where
+pub record Waits (asked : Asked) (start : Start) (before now : Option (List ℕ)) (form : Form) (at : ℕ) (s : Shower) : Type 0 where
   pub is_start : IsStart asked.choice.begin asked.ahead start
   pub records : List Dated
-  pub front : BeginsWith Two asked.image records
-  pub place : at ≡ place_behind Two records
-  pub showing : HasShown asked.choice.style asked.plan start asked.choice.most records before now s
+  pub front : BeginsWith form asked.image records
+  pub place : at ≡ place_behind form records
+  pub showing : HasShown asked.choice asked.plan form start records before now s
 
 -- so it is with the content that it told, if it never changed
 abbrev pub Goes : Plan → Choice → List ℕ → Start → Option (List ℕ) → Followed → ℕ → Shower → Type 0
-Goes plan choice ahead start before f at s = (image : List ℕ) → f.told ≡ Some image → f.has_changed ≡ false → Waits (asked_by plan choice ahead image) start before f.out at s
+Goes plan choice ahead start before f at s = (image : List ℕ) → f.told ≡ Some image → f.has_changed ≡ false → Waits (asked_by plan choice ahead image) start before f.out f.form at s
 
 -- and so is the promise kept
 abbrev pub Keeps : Plan → Choice → List ℕ → Option (List ℕ) → Followed → Outcome → Type 0
@@ -167,7 +167,7 @@ Keeps plan choice ahead before f outcome = (image : List ℕ) → f.told ≡ Som
 -- what a look leaves: the end of the records that stood there, or how the run ends
 abbrev pub AfterLook : Plan → Choice → List ℕ → Start → Option (List ℕ) → Followed → Shower → Result End Outcome → Type 0
 AfterLook plan choice ahead start before f s (Ok end) =
-    (image : List ℕ) → f.told ≡ Some image → f.has_changed ≡ false → Ended (asked_by plan choice ahead image) start (record { journal = Some image; out = before }) f.out end s
+    (image : List ℕ) → f.told ≡ Some image → f.has_changed ≡ false → Ended (asked_by plan choice ahead image) start (record { journal = Some image; out = before }) f.out f.form end s
 AfterLook plan choice ahead start before f s (Err outcome) = Keeps plan choice ahead before f outcome
 
 -- what a look and its lines leave: the place at which the next one goes on, or how the run ends

@@ -4,9 +4,9 @@ use Rattle.std.specs.Io.KnownBytes.{Appends, Keeps}
 use Rattle.gw_outside.specs.Faults.{TakesFront}
 use Rattle.schema_toml.specs.declared.fault.ConfigFault.{ConfigFault}
 use Rattle.sbe_layout.specs.declared.plan.Plan.{Plan}
-use Rattle.jr_dated.specs.declared.formats.Format.TheVariants.{Two}
+use Rattle.jr_dated.specs.declared.form.Form.{Form}
 use Rattle.jr_dated.specs.Dated.{Dated}
-use Rattle.jr_dated.specs.Formats.{IsNotFormattedIn}
+use Rattle.jr_dated.specs.Images.{IsNotFormatted}
 use Rattle.jr_stream.specs.Images.{BeginsWith, HasRecords}
 use Rattle.jr_stream.specs.declared.reader.End.{End}
 use Rattle.jr_stream.specs.declared.reader.End.TheVariants as ends
@@ -83,21 +83,23 @@ pub record Asked : Type 0 where
   pub ahead : List ℕ
   pub image : List ℕ
 
--- these lines show some records with which the journal begins
+-- these lines show the title and some records with which the journal begins
 pub record ShowsSome (asked : Asked) (lines : List ℕ) : Type 0 where
+  pub form : Form
   pub start : Start
   pub is_start : IsStart asked.choice.begin asked.ahead start
   pub records : List Dated
-  pub front : BeginsWith Two asked.image records
-  pub lines_are : lines ≡ records_shown asked.choice.style asked.plan start asked.choice.most records
+  pub front : BeginsWith form asked.image records
+  pub lines_are : lines ≡ records_shown asked.choice.style asked.plan form start asked.choice.most records
 
--- these lines show all records of the journal, and its end
+-- these lines show the title, all records of the journal, and its end
 pub record ShowsAll (asked : Asked) (end : End) (lines : List ℕ) : Type 0 where
+  pub form : Form
   pub start : Start
   pub is_start : IsStart asked.choice.begin asked.ahead start
   pub records : List Dated
-  pub has : HasRecords Two asked.image records end
-  pub lines_are : lines ≡ shown asked.choice.style asked.plan start asked.choice.most records end
+  pub has : HasRecords form asked.image records end
+  pub lines_are : lines ≡ shown asked.choice.style asked.plan form start asked.choice.most records end
 
 -- OUT gained all lines
 pub record GaveAll (asked : Asked) (end : End) (before after : Option (List ℕ)) : Type 0 where
@@ -121,8 +123,8 @@ pub record GaveFront (asked : Asked) (before after : Option (List ℕ)) : Type 0
 abbrev pub Gave : Asked → Option (List ℕ) → Option (List ℕ) → Outcome → Type 0
 Gave asked before after outcomes.Done = (at : ℕ) × GaveAll asked (ends.Closed at) before after
 Gave asked before after (outcomes.Damaged at) = GaveAll asked (ends.Damaged at) before after
-Gave asked before after (outcomes.NotFormatted Ahead) = IsNotFormattedIn Two asked.ahead × Keeps before after
-Gave asked before after (outcomes.NotFormatted Journal) = IsNotFormattedIn Two asked.image × Keeps before after
+Gave asked before after (outcomes.NotFormatted Ahead) = IsNotFormatted asked.ahead × Keeps before after
+Gave asked before after (outcomes.NotFormatted Journal) = IsNotFormatted asked.image × Keeps before after
 Gave asked before after (outcomes.NotFormatted Schema) = ⊥
 Gave asked before after (outcomes.InputFault Journal) = Keeps before after ⊎ GaveSome asked before after
 Gave asked before after (outcomes.InputFault _) = Keeps before after
@@ -133,16 +135,16 @@ Gave asked before after (outcomes.Changed at) = ⊥
 
 -- ---- a journal that is followed
 
--- behind these records no other is shown: COUNT were
-abbrev pub IsFull : Asked → Start → List Dated → Type 0
-IsFull asked start records = (more : List Dated)
-    → records_shown asked.choice.style asked.plan start asked.choice.most (records ++ more) ≡ records_shown asked.choice.style asked.plan start asked.choice.most records
+-- behind these records of a journal of this form no other is shown: COUNT were
+abbrev pub IsFull : Asked → Form → Start → List Dated → Type 0
+IsFull asked form start records = (more : List Dated)
+    → records_shown asked.choice.style asked.plan form start asked.choice.most (records ++ more) ≡ records_shown asked.choice.style asked.plan form start asked.choice.most records
 
 -- OUT gained all lines, and no record that comes would be shown
 pub record GaveFull (asked : Asked) (before after : Option (List ℕ)) : Type 0 where
   pub at : ℕ
   pub gave : GaveAll asked (ends.Closed at) before after
-  pub full : IsFull asked gave.shows.start gave.shows.records
+  pub full : IsFull asked gave.shows.form gave.shows.start gave.shows.records
 
 -- what an outcome says of OUT and of a journal that was followed, where the content that it told last is the one asked of, and nothing in front
 -- of the places where the reading stopped ever changed

@@ -3,7 +3,6 @@
 ghost use Rattle.std.specs.Prelude.{◌≡◌, ◌≤◌, ◌<◌, ℕ, List, Option, [], false, true, Some, IfOk, IfErr, IfSome, IfNone, OnOk, OnErr};
 ghost use Rattle.gw_outside.specs.Faults.{HasRisen};
 ghost use Rattle.sbe_layout.specs.Legal.{LegalPlan};
-ghost use Rattle.jr_dated.specs.declared.formats.Format.TheVariants.{Two};
 ghost use Rattle.jr_stream.specs.Images.{BeginsWith, place_behind};
 ghost use Rattle.jr_shown.specs.Shown.{IsStart};
 ghost use Rattle.jr_shown.specs.declared.choice.Choice as choices;
@@ -16,7 +15,6 @@ use crate::stream::{finish, push_waiting, show_to_end, unread};
 use cmd_base::begin;
 use gw_growing::Growing;
 use gw_outside::Sink;
-use jr_dated::Format;
 use jr_shown::{Choice, Shower, Start};
 use jr_stream::{End, RecordReader};
 use sbe_layout::Plan;
@@ -29,8 +27,7 @@ use std::sync::Wait;
 /// How the run ends.
 #[tactic(auto, using(crate::proofs::Judging::unread_cause, crate::proofs::Judging::unread_output, crate::proofs::Judging::unread_still))]
 fn opened<G: Growing>(alloc: Global, journal: &mut G) -> Result<RecordReader, Outcome>
-    ensures begins { IfOk result (λ reader. (image : List ℕ) → G.told journal.new ≡ Some image → BeginsWith Two image [] × (reader.place ≡ place_behind Two [])) }
-    ensures format { IfOk result (λ reader. reader.format ≡ Two) }
+    ensures begins { IfOk result (λ reader. (image : List ℕ) → G.told journal.new ≡ Some image → BeginsWith reader.form image [] × (reader.place ≡ place_behind reader.form [])) }
     ensures refused { IfErr result (λ outcome. (asked : Asked) (now : Option (List ℕ)) → G.told journal.new ≡ Some asked.image → G.has_changed journal.new ≡ false → GaveFollowing asked now now outcome) }
     ensures late { IfErr result IsLateFollowing }
     ensures changed { IfErr result (λ outcome. (at : ℕ) → outcome ≡ Outcome.Changed at → G.has_changed journal.new ≡ true) }
@@ -45,7 +42,7 @@ fn opened<G: Growing>(alloc: Global, journal: &mut G) -> Result<RecordReader, Ou
             origin: Origin::Journal,
         }),
     };
-    let reader = RecordReader::behind_header(alloc, Format::Two, &mut seen);
+    let reader = RecordReader::behind_header(alloc, &mut seen);
     journal.back(seen);
     match reader {
         Ok(reader) => Ok(reader),
@@ -69,11 +66,9 @@ fn look_on<R: Wait, G: Growing, K: Sink>(
     out: &mut K,
 ) -> Result<End, Outcome>
     requires legal { LegalPlan plan.now }
-    requires format { reader.old.format ≡ Two }
     ensures after { (choice : choices.Choice) (ahead : List ℕ) (start : starts.Start) (before : Option (List ℕ))
-        → Goes plan.now choice ahead start before (record { told = G.told journal.old; has_changed = G.has_changed journal.old; out = K.taken out.old }) at shower.old
-        → AfterLook plan.now choice ahead start before (record { told = G.told journal.new; has_changed = G.has_changed journal.new; out = K.taken out.new }) shower.new result }
-    ensures format { OnOk result (reader.new.format ≡ Two) }
+        → Goes plan.now choice ahead start before (record { form = reader.old.form; told = G.told journal.old; has_changed = G.has_changed journal.old; out = K.taken out.old }) at shower.old
+        → AfterLook plan.now choice ahead start before (record { form = reader.new.form; told = G.told journal.new; has_changed = G.has_changed journal.new; out = K.taken out.new }) shower.new result }
     ensures end { IfErr result IsLooksEnd }
     ensures changed { IfErr result (λ outcome. (place : ℕ) → outcome ≡ Outcome.Changed place → G.has_changed journal.new ≡ true) }
     ensures journal_counted { G.faults journal.old ≤ G.faults journal.new }
@@ -121,12 +116,10 @@ fn turn<R: Wait, G: Growing, K: Sink>(
     out: &mut K,
 ) -> Result<u64, Outcome>
     requires legal { LegalPlan plan.now }
-    requires format { reader.old.format ≡ Two }
     ensures after { (choice : choices.Choice) (ahead : List ℕ) (start : starts.Start) (before : Option (List ℕ))
-        → Goes plan.now choice ahead start before (record { told = G.told journal.old; has_changed = G.has_changed journal.old; out = K.taken out.old }) at shower.old
-        → AfterTurn plan.now choice ahead start before (record { told = G.told journal.new; has_changed = G.has_changed journal.new; out = K.taken out.new }) shower.new result }
+        → Goes plan.now choice ahead start before (record { form = reader.old.form; told = G.told journal.old; has_changed = G.has_changed journal.old; out = K.taken out.old }) at shower.old
+        → AfterTurn plan.now choice ahead start before (record { form = reader.new.form; told = G.told journal.new; has_changed = G.has_changed journal.new; out = K.taken out.new }) shower.new result }
     ensures pushed { OnOk result (shower.new.lines.items ≡ []) }
-    ensures format { OnOk result (reader.new.format ≡ Two) }
     ensures end { IfErr result IsTurnsEnd }
     ensures changed { IfErr result (λ outcome. (place : ℕ) → outcome ≡ Outcome.Changed place → G.has_changed journal.new ≡ true) }
     ensures journal_counted { G.faults journal.old ≤ G.faults journal.new }
@@ -144,8 +137,8 @@ fn turn<R: Wait, G: Growing, K: Sink>(
     }
 }
 
-/// Shows the records of a journal from the start on, and goes on as records come, until as many were shown as were asked for. The output is begun once
-/// the header was read.
+/// Shows the title of a journal and its records from the start on, and goes on as records come, until as many were shown as were asked for. The output
+/// is begun once the header was read.
 #[tactic(auto, using(crate::proofs::Judging::turn_late, crate::proofs::Judging::turn_spares))]
 pub(crate) fn follow_records<R: Wait, G: Growing, K: Sink>(
     rt: &R,
@@ -171,10 +164,12 @@ pub(crate) fn follow_records<R: Wait, G: Growing, K: Sink>(
         Ok(reader) => reader,
         Err(outcome) => return outcome,
     };
+    let Ok(mut shower) = Shower::new(alloc, choice.style, reader.form(), start, choice.most) else {
+        return Outcome::Memory;
+    };
     let Ok(()) = begin(out) else {
         return Outcome::OutputFault;
     };
-    let mut shower = Shower::new(alloc, choice.style, start, choice.most);
     let mut at = reader.place();
     for _ in rt.forever() {
         match turn(rt, alloc, plan, &mut reader, &mut shower, at, journal, out) {

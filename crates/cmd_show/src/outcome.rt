@@ -31,8 +31,8 @@ pub enum Outcome {
     /// OUT could not be written.
     #[error("output: OUT could not be written")]
     OutputFault,
-    /// JOURNAL does not begin with the header of format 2, in the reading that is named.
-    #[error("journal: JOURNAL is no journal of format 2")]
+    /// JOURNAL does not begin with the header of format 2 or 3, in the reading that is named.
+    #[error("journal: JOURNAL is no journal of format 2 or 3")]
     NotFormatted { origin: Origin },
     /// No record and no end of the records stands at this place; what stands before it was written.
     #[error("journal: no record and no end of the records stands at byte {at}")]

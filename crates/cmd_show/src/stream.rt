@@ -14,7 +14,6 @@ ghost use Rattle.cmd_show.specs.Progress.{Adds, AfterAll, AfterRound, Finishes, 
 use crate::outcome::{Origin, Outcome};
 use cmd_base::begin;
 use gw_outside::{Failed, Sink, Source, push_all};
-use jr_dated::Format;
 use jr_record::{OpenFault, Record};
 use jr_shown::{Choice, Shower, Start};
 use jr_stream::{End, Found, RecordReader};
@@ -139,7 +138,6 @@ fn round<S: Source, K: Sink>(
     ensures after { (choice : choices.Choice) (ahead image : List ℕ) (start : starts.Start) (before : Streams)
         → Stands (asked_by plan.now choice ahead image) start before (record { journal = S.left journal.old; out = K.taken out.old }) reader.old shower.old
         → AfterRound (asked_by plan.now choice ahead image) start before (record { journal = S.left journal.new; out = K.taken out.new }) reader.new shower.new result }
-    ensures format { OnOk result (reader.new.format ≡ reader.old.format) }
     ensures end { IfErr result IsReadsEnd }
     ensures journal_counted { S.faults journal.old ≤ S.faults journal.new }
     ensures out_counted { K.faults out.old ≤ K.faults out.new }
@@ -174,8 +172,7 @@ pub(crate) fn show_to_end<R: Wait, S: Source, K: Sink>(
     requires { LegalPlan plan.now }
     ensures after { (choice : choices.Choice) (ahead image : List ℕ) (start : starts.Start) (before : Streams)
         → Stands (asked_by plan.now choice ahead image) start before (record { journal = S.left journal.old; out = K.taken out.old }) reader.old shower.old
-        → AfterAll (asked_by plan.now choice ahead image) start before (record { journal = S.left journal.new; out = K.taken out.new }) shower.new result }
-    ensures format { OnOk result (reader.new.format ≡ reader.old.format) }
+        → AfterAll (asked_by plan.now choice ahead image) start before (record { journal = S.left journal.new; out = K.taken out.new }) reader.new.form shower.new result }
     ensures end { IfErr result IsReadsEnd }
     ensures journal_counted { S.faults journal.old ≤ S.faults journal.new }
     ensures out_counted { K.faults out.old ≤ K.faults out.new }
@@ -192,7 +189,7 @@ pub(crate) fn show_to_end<R: Wait, S: Source, K: Sink>(
     unreachable!()
 }
 
-/// Shows the records of a journal from the start on, and its end. The output is begun once the header was read.
+/// Shows the title of a journal, its records from the start on, and its end. The output is begun once the header was read.
 #[tactic(auto, using(crate::proofs::Judging::unread_late, crate::proofs::Judging::unread_cause, crate::proofs::Judging::unread_output, crate::proofs::Judging::finishes_end, crate::proofs::Judging::finishes_input, crate::proofs::Judging::reads_end, crate::proofs::Judging::end_late, crate::proofs::Judging::end_spares))]
 pub(crate) fn show_records<R: Wait, S: Source, K: Sink>(
     rt: &R,
@@ -214,14 +211,16 @@ pub(crate) fn show_records<R: Wait, S: Source, K: Sink>(
     ensures journal_cause { result ≡ Outcome.InputFault Origin.Journal → HasRisen (S.faults journal.old) (S.faults journal.new) }
     ensures out_cause { result ≡ Outcome.OutputFault → HasRisen (K.faults out.old) (K.faults out.new) }
 {
-    let mut reader = match RecordReader::behind_header(alloc, Format::Two, journal) {
+    let mut reader = match RecordReader::behind_header(alloc, journal) {
         Ok(reader) => reader,
         Err(fault) => return unread(Origin::Journal, fault),
+    };
+    let Ok(mut shower) = Shower::new(alloc, choice.style, reader.form(), start, choice.most) else {
+        return Outcome::Memory;
     };
     let Ok(()) = begin(out) else {
         return Outcome::OutputFault;
     };
-    let mut shower = Shower::new(alloc, choice.style, start, choice.most);
     match show_to_end(rt, alloc, plan, &mut reader, &mut shower, journal, out) {
         Ok(end) => finish(alloc, &mut shower, end, out),
         Err(outcome) => outcome,

@@ -62,7 +62,7 @@ module _ {J : Type 0} {G : Ghosts J} where
     pub is_tried : IsTried now l frames refusal tried
     pub refuses : Refuses box box' (added now l frames ++ stood_of now (lines_after now l frames) refusal) (refused_by fault tried)
     pub past : (entries bytes : ℕ) → fault ≡ faults.Full entries bytes
-        → IsPast (limits_of box').bytes bytes (wanted_of now (lines_after now l frames) refusal)
+        → IsPast (limits_of box').form (limits_of box').bytes bytes (wanted_of now (lines_after now l frames) refusal)
     pub recorded : IfSome refusal (λ r. (fault ≡ faults.Memory → ⊥) → IsOfRecord now (lines_after now l frames) r)
     pub of_inbox : IfSome refusal (λ r. OfInbox fault)
     pub news_are : news' ≡ news ++ (told now l frames ++ told_of now (lines_after now l frames) refusal)

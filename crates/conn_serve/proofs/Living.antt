@@ -520,7 +520,7 @@ module _ {J : Type 0} {G : Ghosts J} {tells : Type 0} where
         came = came_with old.dialed mid.dialed new.dialed l.ended x l.lived.came g.came;
         tells = told_with old.dialed mid.dialed new.dialed l.ended x l.lived.came l.lived.tells g.tells;
         answer = answer;
-        past = λ entries bytes e. subst (IsPast (limits_of new.box).bytes bytes) (sym (append-nil x.wanted)) (g.past entries bytes (full entries bytes e));
+        past = λ entries bytes e. subst (IsPast (limits_of new.box).form (limits_of new.box).bytes bytes) (sym (append-nil x.wanted)) (g.past entries bytes (full entries bytes e));
       } in
       let served : ServedOver tells G' p t old new m result = record {
         life = life;

@@ -29,8 +29,8 @@ module _ {J : Type 0} {G : Ghosts J} where
       → Refuses mid new gained refused → Refuses box new gained refused
   refuses_resumed box mid new gained refused content limits r = record {
     holds = λ i h. r.holds i ((content.holds i []).0 h);
-    room = subst (λ (n : ℕ). HaveRoom (limits_of box).bytes n (gained ++ refused)) content.size
-        (subst (λ (l : Limits). HaveRoom l.bytes (size_of mid) (gained ++ refused)) limits r.room);
+    room = subst (λ (n : ℕ). HaveRoom (limits_of box).form (limits_of box).bytes n (gained ++ refused)) content.size
+        (subst (λ (l : Limits). HaveRoom l.form l.bytes (size_of mid) (gained ++ refused)) limits r.room);
   }
 
   pub kind_resumed : (box mid : Inbox J G) → (limits_of mid ≡ limits_of box) × (flow_of mid ≡ flow_of box) → is_broken mid ≡ false → SameKind box mid

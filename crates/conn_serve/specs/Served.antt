@@ -140,7 +140,7 @@ module _ {J : Type 0} {G : Ghosts J} where
     pub tells : IsTrue (is_some old.dialed) → All IsTold (all_of ended given_up)
     pub answer : IsLifeAnswer behind new.seen mid new.dialed ended given_up result
     pub past : (entries bytes : ℕ) → result ≡ Err (faults.Full entries bytes)
-        → IsPast (limits_of new.box).bytes bytes (wanted_of_all (option_to_list given_up))
+        → IsPast (limits_of new.box).form (limits_of new.box).bytes bytes (wanted_of_all (option_to_list given_up))
 
   -- so it was over links of a dialer, one behind another, by a clock that gave these moments last before and behind them
   pub record ServedOver {L : Type 0} (told : Type 0) (G' : LinkGhosts L) (before behind : ℕ) (old new : LifeAt J G) (m : State)
@@ -180,7 +180,7 @@ module _ {J : Type 0} {G : Ghosts J} where
     pub cut_short : (why ≡ Some faults.Journal → IsSome connection.leg.cut)
         × ((entries bytes : ℕ) → why ≡ Some (faults.Full entries bytes) → IsSome connection.leg.cut)
     pub cut_changed : (which : Which) (at : ℕ) → why ≡ Some (faults.Changed which at) → IsSome connection.leg.cut
-    pub past : (entries bytes : ℕ) → why ≡ Some (faults.Full entries bytes) → IsPast (limits_of new.box).bytes bytes connection.wanted
+    pub past : (entries bytes : ℕ) → why ≡ Some (faults.Full entries bytes) → IsPast (limits_of new.box).form (limits_of new.box).bytes bytes connection.wanted
 
   -- no connection was made
   pub record MadeNone (old new : LifeAt J G) (m m' : State) : Type 0 where

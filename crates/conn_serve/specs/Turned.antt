@@ -84,7 +84,7 @@ module _ {J : Type 0} {G : Ghosts J} where
     pub spent : why ≡ Some faults.Turns → IsSpent behind.line turns cut
     pub cut_short : (why ≡ Some faults.Journal → IsSome cut) × ((entries bytes : ℕ) → why ≡ Some (faults.Full entries bytes) → IsSome cut)
     pub cut_changed : (which : Which) (at : ℕ) → why ≡ Some (faults.Changed which at) → IsSome cut
-    pub past : (entries bytes : ℕ) → why ≡ Some (faults.Full entries bytes) → IsPast (limits_of new.box).bytes bytes wanted
+    pub past : (entries bytes : ℕ) → why ≡ Some (faults.Full entries bytes) → IsPast (limits_of new.box).form (limits_of new.box).bytes bytes wanted
 
   -- the next connection may begin of this machine, with this pass and this inbox
   pub record MayBegin (m : State) (p : Part) (box : Inbox J G) : Type 0 where

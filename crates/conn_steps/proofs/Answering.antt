@@ -85,9 +85,9 @@ refused_record count _ answer act reply is replies h other = ap is_record (sym r
 module _ {J : Type 0} {G : Ghosts J} where
   -- a record that is past the inbox's limit is so where the turn answers Full
   pub past_as : (after : Inbox J G) (count : ℕ) (fault : AppendFault) (answer : TurnFault) (records others : List InboxRecord) → answer ≡ fault_of count fault → others ≡ records
-      → ((bytes : ℕ) → fault ≡ append.Full bytes → IsPast (limits_of after).bytes bytes records)
-      → (entries bytes : ℕ) → answer ≡ faults.Full entries bytes → IsPast (limits_of after).bytes bytes others
-  past_as after count fault answer records others is same h entries bytes e = subst (IsPast (limits_of after).bytes bytes) (sym same) (h bytes (full_at count fault entries bytes (sym is ∙ e)))
+      → ((bytes : ℕ) → fault ≡ append.Full bytes → IsPast (limits_of after).form (limits_of after).bytes bytes records)
+      → (entries bytes : ℕ) → answer ≡ faults.Full entries bytes → IsPast (limits_of after).form (limits_of after).bytes bytes others
+  past_as after count fault answer records others is same h entries bytes e = subst (IsPast (limits_of after).form (limits_of after).bytes bytes) (sym same) (h bytes (full_at count fault entries bytes (sym is ∙ e)))
 
   -- what a refusal of the inbox may leave is what the turn's fault may leave
   pub refuses_as : (box after : Inbox J G) (count : ℕ) (fault : AppendFault) (answer : TurnFault) (gained records : List InboxRecord) → answer ≡ fault_of count fault

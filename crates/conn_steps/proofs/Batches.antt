@@ -92,7 +92,7 @@ module _ {J : Type 0} {G : Ghosts J} where
   gains_fitting n box after ps limits held tells = subst (λ (rs : List InboxRecord). Gains box after rs) (same_fitting box n ps) (record {
     holds = held;
     limits = limits;
-    size = tells.size ∙ ap (λ (k : ℕ). size_of box + k) (bytes-sizes (fitting_applies box n ps));
+    size = tells.size ∙ ap (λ (k : ℕ). size_of box + k) (bytes-sizes (limits_of box).form (fitting_applies box n ps));
     room = fits-room (limits_of box) (size_of box) (applied_from n ps);
   })
 
@@ -123,8 +123,8 @@ module _ {J : Type 0} {G : Ghosts J} where
       let few : k < length i = ⊎_elim (λ less. less)
       (λ more. absurd (cut (fitting_all (limits_of box) (size_of box) i (omega (arith, more, length_fitting box n ps))))) (within k (length i)) in
       let gained : Gains box after (applies (take k ms)) = gains_fitting n box after ps limits held tells in
-      let past : IsPast (limits_of box).bytes (size_of box + bytes_of (take k i)) (take 1 (drop k i)) = fits-past (limits_of box) (size_of box) i few in
-      let size_is : size_of box + bytes_of (take k i) ≡ bytes = ap (λ (rs : List InboxRecord). size_of box + bytes_of rs) (same_fitting box n ps) ∙ (sym gained.size ∙ sym size) in
+      let past : IsPast (limits_of box).form (limits_of box).bytes (size_of box + bytes_of (limits_of box).form (take k i)) (take 1 (drop k i)) = fits-past (limits_of box) (size_of box) i few in
+      let size_is : size_of box + bytes_of (limits_of box).form (take k i) ≡ bytes = ap (λ (rs : List InboxRecord). size_of box + bytes_of (limits_of box).form rs) (same_fitting box n ps) ∙ (sym gained.size ∙ sym size) in
       let next : take 1 (drop k i) ≡ applies (take 1 (drop k ms)) =
       ap (λ (rs : List InboxRecord). take 1 (drop k rs)) (applied-numbered n ps) ∙ (ap (λ (rs : List InboxRecord). take 1 rs) (applies-drop k ms) ∙ applies-take 1 (drop k ms)) in
       record {
@@ -140,8 +140,8 @@ module _ {J : Type 0} {G : Ghosts J} where
           full = λ b e. (let same : b ≡ bytes = cc (e) in same ∙ size);
         };
         past = λ b e. (let same : bytes ≡ b = cc (e) in
-            subst (λ (l : Limits). IsPast l.bytes b (applies (take 1 (drop k ms)))) (sym limits)
-            (subst (λ (rs : List InboxRecord). IsPast (limits_of box).bytes b rs) next (subst (λ (x : ℕ). IsPast (limits_of box).bytes x (take 1 (drop k i))) (size_is ∙ same) past)));
+            subst (λ (l : Limits). IsPast l.form l.bytes b (applies (take 1 (drop k ms)))) (sym limits)
+            (subst (λ (rs : List InboxRecord). IsPast (limits_of box).form (limits_of box).bytes b rs) next (subst (λ (x : ℕ). IsPast (limits_of box).form (limits_of box).bytes x (take 1 (drop k i))) (size_is ∙ same) past)));
       }
 
   -- none was added, and nothing changed
@@ -221,7 +221,7 @@ module _ {J : Type 0} {G : Ghosts J} where
   -- the record of an act was refused before anything was written
   unchanged_refused : (box after : Inbox J G) (news : List NewsItem) (act : Act) (fault : AppendFault) → SameContent box after → refused_by fault (settled_by act) ≡ [] → is_record act ≡ true
       → (fault ≡ append.Broken → is_broken after ≡ true) → (fault ≡ append.Fault → ⊥)
-      → ((b : ℕ) → fault ≡ append.Full b → (b ≡ size_of after) × IsPast (limits_of after).bytes b (settled_by act)) → Refused box after news news act fault
+      → ((b : ℕ) → fault ≡ append.Full b → (b ≡ size_of after) × IsPast (limits_of after).form (limits_of after).bytes b (settled_by act)) → Refused box after news news act fault
   unchanged_refused box after news act fault same left stable broken failed full = record {
     refuses = subst (λ (rs : List InboxRecord). Refuses box after [] rs) (sym left)
         (record { holds = λ i h. few_either after (i ++ []) [] (omega arith) (subst (λ (rs : List InboxRecord). HoldsBox after rs []) (sym (append-nil i)) ((same.holds i []).0 h)); room = tt });
@@ -235,8 +235,8 @@ module _ {J : Type 0} {G : Ghosts J} where
   pub refused_act : (box after : Inbox J G) (news : List NewsItem) (act : Act) (r : InboxRecord) (result : Result (Unit {0}) AppendFault) → settled_by act ≡ r ∷ [] → is_record act ≡ true
       → IfErr result (λ fault. (fault ≡ append.Fault → ⊥) → Unchanged box after) → (IsErrOf result append.Fault → HasRisen (faults_of box) (faults_of after))
       → (IsErrOf result append.Fault → (i : List InboxRecord) → HoldsBox box i [] → HoldsBox after i (r ∷ [])) → ((result ≡ Err append.Broken) ↔ (is_broken box ≡ true))
-      → ((b : ℕ) → result ≡ Err (append.Full b) → (b ≡ size_of box) × IsPast (limits_of after).bytes b (r ∷ []))
-      → (IsErrOf result append.Fault → HaveRoom (limits_of box).bytes (size_of box) (r ∷ [])) → IfErr result (Refused box after news news act)
+      → ((b : ℕ) → result ≡ Err (append.Full b) → (b ≡ size_of box) × IsPast (limits_of after).form (limits_of after).bytes b (r ∷ []))
+      → (IsErrOf result append.Fault → HaveRoom (limits_of box).form (limits_of box).bytes (size_of box) (r ∷ [])) → IfErr result (Refused box after news news act)
   refused_act box after news act r (Ok done) is stable unchanged cause failed broken full room = tt
   refused_act box after news act r (Err append.Broken) is stable unchanged cause failed broken full room =
       let same = unchanged (λ e. absurd (cc (e))) in
@@ -244,7 +244,7 @@ module _ {J : Type 0} {G : Ghosts J} where
   refused_act box after news act r (Err (append.Full n)) is stable unchanged cause failed broken full room =
       let same = unchanged (λ e. absurd (cc (e))) in
       unchanged_refused box after news act (append.Full n) same.content refl stable (λ e. absurd (cc (e))) (λ e. absurd (cc (e)))
-      (λ b e. (let past = full b (ap (λ (f : AppendFault). Err f) e) in (past.0 ∙ sym same.content.size, subst (λ (rs : List InboxRecord). IsPast (limits_of after).bytes b rs) (sym is) past.1)))
+      (λ b e. (let past = full b (ap (λ (f : AppendFault). Err f) e) in (past.0 ∙ sym same.content.size, subst (λ (rs : List InboxRecord). IsPast (limits_of after).form (limits_of after).bytes b rs) (sym is) past.1)))
   refused_act box after news act r (Err append.Memory) is stable unchanged cause failed broken full room =
       let same = unchanged (λ e. absurd (cc (e))) in
       unchanged_refused box after news act append.Memory same.content refl stable (λ e. absurd (cc (e))) (λ e. absurd (cc (e))) (λ b e. absurd (cc (e)))
@@ -261,10 +261,10 @@ module _ {J : Type 0} {G : Ghosts J} where
 
   -- where a call of the disk failed the record had room
   pub had_room : (box : Inbox J G) (x : Record) (result : Result (Unit {0}) AppendFault) → ((result ≡ Err append.Broken) ↔ (is_broken box ≡ true))
-      → ((result ≡ Err (append.Full (size_of box))) ↔ IsPastLimit box x) → IsErrOf result append.Fault → size_of box + record_size x ≤ (limits_of box).bytes
-  had_room box x result broken full failed = ⊎_elim (λ past. absurd (by_state (is_broken box) refl past)) (λ within. within) (within (limits_of box).bytes (size_of box + record_size x))
+      → ((result ≡ Err (append.Full (size_of box))) ↔ IsPastLimit box x) → IsErrOf result append.Fault → size_of box + record_size (limits_of box).form x ≤ (limits_of box).bytes
+  had_room box x result broken full failed = ⊎_elim (λ past. absurd (by_state (is_broken box) refl past)) (λ within. within) (within (limits_of box).bytes (size_of box + record_size (limits_of box).form x))
     where
-      by_state : (b : Bool) → is_broken box ≡ b → (limits_of box).bytes < size_of box + record_size x → ⊥
+      by_state : (b : Bool) → is_broken box ≡ b → (limits_of box).bytes < size_of box + record_size (limits_of box).form x → ⊥
       by_state true e past = (let other = broken.1 e in absurd (cc (other, failed)))
       by_state false e past = (let other = full.1 (record { sound = e; past = past }) in absurd (cc (other, failed)))
 

@@ -42,7 +42,7 @@ module _ {J : Type 0} {G : Ghosts J} where
   cut_latest : (now count : ℕ) (old : TakingEnd J G) (box : Inbox J G) (news : List NewsItem) (f : LatestFrames now count old box news) (line : Line) (after : Inbox J G) (later : List NewsItem)
       (ms : List Numbered) (k n : ℕ) (fault : TurnFault) → count ≤ old.line.per_turn → ms ≡ messages_in now (lines_after now old.line f.stable) f.latest → k < length ms
       → Refuses box after (applies (take k ms)) (refused_by fault (applies (take n (drop k ms)))) → later ≡ news ++ delivers (take k ms)
-      → ((entries bytes : ℕ) → fault ≡ faults.Full entries bytes → IsPast (limits_of after).bytes bytes (applies (take 1 (drop k ms)))) → CutFrames now old (taking_end line after later) fault
+      → ((entries bytes : ℕ) → fault ≡ faults.Full entries bytes → IsPast (limits_of after).form (limits_of after).bytes bytes (applies (take 1 (drop k ms)))) → CutFrames now old (taking_end line after later) fault
   cut_latest now count old box news f line after later ms k n fault many are few refuses said past = record {
     frames = frames;
     few = omega (arith, length-append f.stable u.stable, length-append u.stable u.later, ap (λ (ts : List TakenFrame). length ts) u.are, f.many, many, u.some);
@@ -64,7 +64,7 @@ module _ {J : Type 0} {G : Ghosts J} where
     refuses = subst (λ (rs : List InboxRecord). Refuses old.box after rs (refused_by fault (applies (take n (drop k ms))))) (sym gained)
         (subst (λ (rs : List InboxRecord). Refuses old.box after rs (refused_by fault (applies (take n (drop k ms))))) (append_assoc (added now old.line f.stable) (settled_first now l f.latest) (applies (take k ms)))
         (refuses_on old.box box after (added now old.line f.stable ++ settled_first now l f.latest) (applies (take k ms)) (refused_by fault (applies (take n (drop k ms)))) f.gains refuses));
-    past = λ entries bytes e. subst (λ (rs : List InboxRecord). IsPast (limits_of after).bytes bytes rs) (sym wanted) (past entries bytes e);
+    past = λ entries bytes e. subst (λ (rs : List InboxRecord). IsPast (limits_of after).form (limits_of after).bytes bytes rs) (sym wanted) (past entries bytes e);
     recorded = λ _. subst (λ (x : Line). IsOfRecord now x u.refusal) (sym there) u.recorded;
     news_are = said ∙ (ap (λ (ns : List NewsItem). ns ++ delivers (take k ms)) f.news_are
         ∙ (append_assoc old.news (told now old.line f.stable ++ handed_first now l f.latest) (delivers (take k ms))

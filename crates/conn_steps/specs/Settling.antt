@@ -15,6 +15,7 @@ use Rattle.jr_record.specs.declared.faults.AppendFault.{AppendFault}
 use Rattle.jr_record.specs.declared.faults.AppendFault.TheVariants as append
 use Rattle.jr_kept.specs.declared.inbox.Inbox.{Inbox}
 use Rattle.gw_outside.specs.Faults.{HasRisen}
+use Rattle.jr_dated.specs.declared.form.Form.{Form}
 use Rattle.jr_dated.specs.Images.{record_size}
 use Rattle.jr_record.specs.Records.{is_control}
 use Rattle.jr_boxes.specs.Inboxes.{record_of}
@@ -38,23 +39,23 @@ refused_by (append.Full bytes) records = []
 refused_by append.Memory records = []
 refused_by append.Fault records = records
 
--- of some records there is one, which is not exempt from the limit, and a journal of so many bytes has no room for it within that
-pub record IsPast (limit bytes : ℕ) (records : List InboxRecord) : Type 0 where
+-- of some records there is one, which is not exempt from the limit, and a journal of this form and of so many bytes has no room for it within that
+pub record IsPast (form : Form) (limit bytes : ℕ) (records : List InboxRecord) : Type 0 where
   pub one : InboxRecord
   pub is : records ≡ one ∷ []
   pub plain : is_control (record_of one) ≡ false
-  pub past : limit < bytes + record_size (record_of one)
+  pub past : limit < bytes + record_size form (record_of one)
 
--- how many bytes these records take in a journal, each with its gate
-abbrev pub bytes_of : List InboxRecord → ℕ
-bytes_of [] = 0
-bytes_of (r ∷ rs) = record_size (record_of r) + bytes_of rs
+-- how many bytes these records take in a journal of this form, each with its gate
+abbrev pub bytes_of : Form → List InboxRecord → ℕ
+bytes_of form [] = 0
+bytes_of form (r ∷ rs) = record_size form (record_of r) + bytes_of form rs
 
 -- each of some records, one behind another, has room behind a journal of so many bytes within this limit, or is exempt from it
-abbrev pub HaveRoom : (limit bytes : ℕ) → List InboxRecord → Type 0
-HaveRoom limit bytes [] = ⊤
-HaveRoom limit bytes (r ∷ rs) = (is_control (record_of r) ≡ false → bytes + record_size (record_of r) ≤ limit)
-    × HaveRoom limit (bytes + record_size (record_of r)) rs
+abbrev pub HaveRoom : Form → (limit bytes : ℕ) → List InboxRecord → Type 0
+HaveRoom form limit bytes [] = ⊤
+HaveRoom form limit bytes (r ∷ rs) = (is_control (record_of r) ≡ false → bytes + record_size form (record_of r) ≤ limit)
+    × HaveRoom form limit (bytes + record_size form (record_of r)) rs
 
 module _ {J : Type 0} {G : Ghosts J} where
   -- what a fault of an append tells: after Fault the count of its disk's faults rose, at Broken the inbox is broken, and at Full its journal has so
@@ -95,14 +96,14 @@ module _ {J : Type 0} {G : Ghosts J} where
   pub record Gains (old new : Inbox J G) (records : List InboxRecord) : Type 0 where
     pub holds : (i : List InboxRecord) → HoldsBox old i [] → HoldsBox new (i ++ records) []
     pub limits : limits_of new ≡ limits_of old
-    pub size : size_of new ≡ size_of old + bytes_of records
-    pub room : HaveRoom (limits_of old).bytes (size_of old) records
+    pub size : size_of new ≡ size_of old + bytes_of (limits_of old).form records
+    pub room : HaveRoom (limits_of old).form (limits_of old).bytes (size_of old) records
 
   -- Whichever list it held, it holds that list and those gained, and a stop may leave behind them all of those refused, or none: those that
   -- one call tried, where its disk failed. Each of these, and each gained had room
   pub record Refuses (old new : Inbox J G) (gained refused : List InboxRecord) : Type 0 where
     pub holds : (i : List InboxRecord) → HoldsBox old i [] → HoldsEitherBox new (i ++ gained) refused
-    pub room : HaveRoom (limits_of old).bytes (size_of old) (gained ++ refused)
+    pub room : HaveRoom (limits_of old).form (limits_of old).bytes (size_of old) (gained ++ refused)
 
   -- an act that applies no message is settled: its records stand in the inbox, which records what is recorded after it, and what it tells was
   -- told
@@ -117,7 +118,7 @@ module _ {J : Type 0} {G : Ghosts J} where
     pub refuses : Refuses box box' [] (refused_by fault (settled_by act))
     pub news_are : news' ≡ news
     pub faulty : IsFaulty box box' fault
-    pub past : (bytes : ℕ) → fault ≡ append.Full bytes → IsPast (limits_of box').bytes bytes (settled_by act)
+    pub past : (bytes : ℕ) → fault ≡ append.Full bytes → IsPast (limits_of box').form (limits_of box').bytes bytes (settled_by act)
     pub recorded : (fault ≡ append.Memory → ⊥) → is_record act ≡ true
 
   -- all that waited stands in the inbox, and was told
@@ -137,4 +138,4 @@ module _ {J : Type 0} {G : Ghosts J} where
     pub refuses : Refuses box box' (applies (take count waiting)) (refused_by fault (applies (take tried (drop count waiting))))
     pub news_are : news' ≡ news ++ delivers (take count waiting)
     pub faulty : IsFaulty box box' fault
-    pub past : (bytes : ℕ) → fault ≡ append.Full bytes → IsPast (limits_of box').bytes bytes (applies (take 1 (drop count waiting)))
+    pub past : (bytes : ℕ) → fault ≡ append.Full bytes → IsPast (limits_of box').form (limits_of box').bytes bytes (applies (take 1 (drop count waiting)))

@@ -180,7 +180,7 @@ module _ {J : Type 0} {G : Ghosts J} where
     pub is_tried : IsTried now old.line frames (Some refusal) tried
     pub refuses : Refuses old.box new.box (added now old.line frames ++ stood now (lines_after now old.line frames) refusal) (refused_by fault tried)
     pub past : (entries bytes : ℕ) → fault ≡ faults.Full entries bytes
-        → IsPast (limits_of new.box).bytes bytes (refused now (lines_after now old.line frames) refusal)
+        → IsPast (limits_of new.box).form (limits_of new.box).bytes bytes (refused now (lines_after now old.line frames) refusal)
     pub recorded : (fault ≡ faults.Memory → ⊥) → IsOfRecord now (lines_after now old.line frames) refusal
     pub news_are : new.news ≡ old.news ++ (told now old.line frames ++ told_before now (lines_after now old.line frames) refusal)
 

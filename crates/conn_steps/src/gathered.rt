@@ -73,6 +73,13 @@ impl Gathered {
         self.payloads.is_empty()
     }
 
+    /// Whether more are gathered than a turn may gather, which are not added at once.
+    pub(crate) fn is_past(&self) -> bool
+        ensures { result ≡ false → length (payloads_in self.now) ≤ 512 }
+    {
+        self.payloads.len() > MOST
+    }
+
     /// The payloads, in order.
     pub(crate) fn payloads(&self) -> &[Bytes]
         ensures { result.now ≡ payloads_in self.now }

@@ -40,6 +40,10 @@ pub(crate) fn apply_gathered<J: Journal>(
     if gathered.is_empty() {
         return Ok(());
     }
+    // A turn gathers no more than may be added at once, so this never comes to pass.
+    if gathered.is_past() {
+        return Err(AppendFault::Memory);
+    }
     if news.reserve(gathered.payloads().len()).is_err() {
         return Err(AppendFault::Memory);
     }

@@ -8,6 +8,7 @@ mod dumping;
 mod extending;
 mod feeding;
 mod following;
+mod formatting;
 mod muxes;
 mod piped;
 mod planning;
@@ -24,6 +25,7 @@ use datagrams::{DatagramFiles, deliver_over_files};
 use dumping::{DumpFiles, dump_over_files};
 use extending::{ExtendsFiles, extends_over_files};
 use feeding::{AcceptedFile, Feeds, feed_over_sockets};
+use formatting::{FormatFiles, format_over_files};
 use gw_fed_files::ComingFile;
 use gw_real::{FileDisk, Opening};
 use muxes::{MuxFiles, answer_over_files};
@@ -116,6 +118,9 @@ fn run_words<R: Threads + Wait + Sync + Clock + Files<File = File> + Print + Epr
     }
     if let Some(files) = ShowFiles::of(words) {
         return show_over_files(rt, files);
+    }
+    if let Some(files) = FormatFiles::of(words) {
+        return format_over_files(rt, files);
     }
     let report = if command_of(words).is_some() {
         run_over_files(rt, words)

@@ -144,7 +144,7 @@ impl<'a> ShowFiles<'a> {
             Outcome::OutputFault => push_unwritten(line, reasons.out_name, reasons.out),
             Outcome::NotFormatted { .. } => {
                 push_place(line, self.journal)?;
-                line.push_str("no journal of format 2")
+                line.push_str("no journal of format 2 or 3")
             }
             Outcome::Damaged { at } => {
                 push_place(line, self.journal)?;

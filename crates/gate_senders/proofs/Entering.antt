@@ -7,11 +7,13 @@ use Rattle.session_model.specs.Journal.{Entry, History, OutboxRecord, entries_of
 use Rattle.jr_record.specs.declared.record.Record.{Record}
 use Rattle.jr_record.specs.declared.record.Record.TheVariants as kinds
 use Rattle.jr_dated.specs.declared.limits.Limits.{Limits}
-use Rattle.jr_dated.specs.Images.{record_size, sizes, journal_size}
+use Rattle.jr_dated.specs.declared.form.Form.{Form}
+use Rattle.jr_dated.specs.Images.{record_size, sizes, sum_size, journal_size}
 use Rattle.jr_dated.specs.Journals.{fitting}
 use Rattle.jr_boxes.specs.declared.faults.SubmitFault.{SubmitFault}
 use Rattle.jr_boxes.specs.declared.faults.SubmitFault.TheVariants as submit
 use Rattle.jr_kept.specs.Faults.{OnEntered, OnFull, OnUnbegun}
+use Rattle.jr_boxes.specs.Outboxes.{records_of_history}
 use Rattle.jr_kept.specs.Entries.{entries_behind, records_of, with_entries, fitting_entries}
 use Rattle.jr_dated.specs.declared.journal.Journal.{Ghosts}
 use Rattle.jr_dated.specs.Dated.{Dated, undated}
@@ -22,7 +24,7 @@ use Rattle.jr_kept.proofs.Held.{entry_size, either_holds}
 use Rattle.gw_outside.specs.Faults.{HasRisen}
 use Rattle.gate_turn.specs.Views.{HasFailed}
 use Rattle.gate_turn.specs.Views as Views
-use Rattle.gate_senders.specs.Kept.{failures, account, StaysSound, IsFullAt, IsCutAt}
+use Rattle.gate_senders.specs.Kept.{bounds, failures, account, StaysSound, IsFullAt, IsCutAt}
 use Rattle.gate_senders.specs.Kept as kept
 use Rattle.gate_senders.proofs.Keeping.{front_is, mine_is, size_is}
 use Rattle.jr_kept.proofs.Batches.{length-entries, take_entries, length-records_of, fitting_are, fitting_few, fitting_within, fitting_whole}
@@ -42,28 +44,28 @@ fit_are limits entries bytes sender own ps =
     length_taken (suc n) (e ∷ es) within = ap suc (length_taken n es (omega (arith, within)))
 
 -- the first message whose entry has no room behind so many bytes
-record Stops (limit size : ℕ) (fit : List Record) (ps : List (List ℕ)) : Type 0 where
+record Stops (form : Form) (limit size : ℕ) (fit : List Record) (ps : List (List ℕ)) : Type 0 where
   payload : List ℕ
   next : slice_get ps (length fit) ≡ Some payload
-  past : limit < size + sizes fit + (24 + length payload)
+  past : limit < size + sizes form fit + (24 + sum_size form + length payload)
 
 -- where fewer records fit than there are, the next one is past the limit of bytes
 stops : (limits : Limits) (size sender own : ℕ) (ps : List (List ℕ)) → length (fitting limits size (records_of (entries_behind sender own ps))) < length ps
-    → Stops limits.bytes size (fitting limits size (records_of (entries_behind sender own ps))) ps
+    → Stops limits.form limits.bytes size (fitting limits size (records_of (entries_behind sender own ps))) ps
 stops limits size sender own [] fewer = absurd (omega arith)
 stops limits size sender own (p ∷ ps) fewer =
     let r : Record = kinds.Entry sender (own + 1) p in
-    by_test (nat_lt limits.bytes (size + record_size r)) refl (fitting limits (size + record_size r) (records_of (entries_behind sender (own + 1) ps)))
-    (λ less. stops limits (size + record_size r) sender (own + 1) ps less) fewer
+    by_test (nat_lt limits.bytes (size + record_size limits.form r)) refl (fitting limits (size + record_size limits.form r) (records_of (entries_behind sender (own + 1) ps)))
+    (λ less. stops limits (size + record_size limits.form r) sender (own + 1) ps less) fewer
   where
-    by_test : (b : Bool) → nat_lt limits.bytes (size + record_size (kinds.Entry sender (own + 1) p)) ≡ b → (behind : List Record)
-        → (length behind < length ps → Stops limits.bytes (size + record_size (kinds.Entry sender (own + 1) p)) behind ps)
+    by_test : (b : Bool) → nat_lt limits.bytes (size + record_size limits.form (kinds.Entry sender (own + 1) p)) ≡ b → (behind : List Record)
+        → (length behind < length ps → Stops limits.form limits.bytes (size + record_size limits.form (kinds.Entry sender (own + 1) p)) behind ps)
         → length (if b then [] else kinds.Entry sender (own + 1) p ∷ behind) < length (p ∷ ps)
-        → Stops limits.bytes size (if b then [] else kinds.Entry sender (own + 1) p ∷ behind) (p ∷ ps)
-    by_test true past behind on fewer = record { payload = p; next = refl; past = is_past limits.bytes size (record_size (kinds.Entry sender (own + 1) p)) (length p) (entry_size sender (own + 1) p) past }
+        → Stops limits.form limits.bytes size (if b then [] else kinds.Entry sender (own + 1) p ∷ behind) (p ∷ ps)
+    by_test true past behind on fewer = record { payload = p; next = refl; past = is_past limits.bytes size (record_size limits.form (kinds.Entry sender (own + 1) p)) (length p) (sum_size limits.form) (entry_size limits.form sender (own + 1) p) past }
       where
-        is_past : (limit size n k : ℕ) → n ≡ 24 + k → nat_lt limit (size + n) ≡ true → limit < size + 0 + (24 + k)
-        is_past limit size n k is past = let less = ltb-true limit (size + n) past in omega (arith, is, less)
+        is_past : (limit size n k sum : ℕ) → n ≡ 24 + sum + k → nat_lt limit (size + n) ≡ true → limit < size + 0 + (24 + sum + k)
+        is_past limit size n k sum is past = let less = ltb-true limit (size + n) past in omega (arith, is, less)
     by_test false past behind on fewer =
         let more = on (omega (arith, fewer)) in
         record { payload = more.payload; next = more.next; past = omega (arith, more.past) }
@@ -78,7 +80,7 @@ taken_get (suc room) (suc n) (y ∷ ys) x there = taken_get room n ys x there
 pub record Cut (limits : Limits) (entries bytes count size : ℕ) (ps : List (List ℕ)) : Type 0 where
   pub payload : List ℕ
   pub next : slice_get ps count ≡ Some payload
-  pub past : (limits.entries ≤ entries + count) ⊎ (limits.bytes < bytes + size + (24 + length payload))
+  pub past : (limits.entries ≤ entries + count) ⊎ (limits.bytes < bytes + size + (24 + sum_size limits.form + length payload))
 
 short_taken : {A : Type 0} (n : ℕ) (xs : List A) → length (take n xs) < length xs → length (take n xs) ≡ n
 short_taken zero xs less = refl
@@ -94,7 +96,7 @@ get_there (suc n) (x ∷ xs) within = get_there n xs (omega (arith, within))
 pub cut_at : (limits : Limits) (entries bytes sender own : ℕ) (ps : List (List ℕ))
     → fitting_entries limits entries bytes (entries_behind sender own ps) ≢ entries_behind sender own ps
     → Cut limits entries bytes (length (fitting_entries limits entries bytes (entries_behind sender own ps)))
-    (sizes (records_of (fitting_entries limits entries bytes (entries_behind sender own ps)))) ps
+    (sizes limits.form (records_of (fitting_entries limits entries bytes (entries_behind sender own ps)))) ps
 cut_at limits entries bytes sender own ps not_all =
     ⊎_elim by_bytes by_entries (cases_lt (length fit) (length (take room ps)))
   where
@@ -114,18 +116,18 @@ cut_at limits entries bytes sender own ps not_all =
     are : fitting limits bytes (records_of (entries_behind sender own (take room ps))) ≡ records_of fit
     are = ap (λ (xs : List Entry). fitting limits bytes (records_of xs)) (sym (take_entries room sender own ps)) ∙ fitting_are limits entries bytes es
 
-    by_bytes : length fit < length (take room ps) → Cut limits entries bytes (length fit) (sizes (records_of fit)) ps
+    by_bytes : length fit < length (take room ps) → Cut limits entries bytes (length fit) (sizes limits.form (records_of fit)) ps
     by_bytes less =
         let long : length (fitting limits bytes (records_of (entries_behind sender own (take room ps)))) ≡ length fit = ap length are ∙ length-records_of fit in
-        let at : Stops limits.bytes bytes (records_of fit) (take room ps) =
-        subst (λ (rs : List Record). Stops limits.bytes bytes rs (take room ps)) are (stops limits bytes sender own (take room ps) (omega (arith, less, long))) in
+        let at : Stops limits.form limits.bytes bytes (records_of fit) (take room ps) =
+        subst (λ (rs : List Record). Stops limits.form limits.bytes bytes rs (take room ps)) are (stops limits bytes sender own (take room ps) (omega (arith, less, long))) in
         record {
           payload = at.payload;
           next = ap (slice_get ps) (sym (length-records_of fit)) ∙ taken_get room (length (records_of fit)) ps at.payload at.next;
           past = inr at.past;
         }
 
-    by_entries : length (take room ps) ≤ length fit → Cut limits entries bytes (length fit) (sizes (records_of fit)) ps
+    by_entries : length (take room ps) ≤ length fit → Cut limits entries bytes (length fit) (sizes limits.form (records_of fit)) ps
     by_entries least =
         let there = get_there (length fit) ps fewer in
         let full : length (take room ps) ≡ room = short_taken room ps (omega (arith, least, fewer)) in
@@ -157,10 +159,10 @@ module _ {J : Type 0} {G : Ghosts J} where
   -- where not all were entered, the next one is past a limit
   pub is_cut : (old new : Outbox J G) (h : History) (refused : List OutboxRecord) (sender : ℕ) (ps : List (List ℕ)) → next_fitting old sender ps ≢ next_entries old sender ps
       → HasEnteredAll old new sender (next_fitting old sender ps) → h.finished ≢ true
-      → ((dated : List Dated) → G.stands new.journal dated → (length dated ≡ G.count new.journal) × (journal_size (undated dated) ≡ G.size new.journal))
+      → ((dated : List Dated) → G.stands new.journal dated → (length dated ≡ G.count new.journal) × (journal_size (G.limits new.journal).form (undated dated) ≡ G.size new.journal)) → limits_of new ≡ limits_of old
       → ∥ StandsFor new (with_entries h (next_fitting old sender ps)) ∥₁
       → IsCutAt (account old h refused).limits (with_entries h (next_fitting old sender ps)) sender ps (length (next_fitting old sender ps)) (front_of new) (size_of new)
-  is_cut old new h refused sender ps not_all did unmarked counted stands =
+  is_cut old new h refused sender ps not_all did unmarked counted same stands =
       let fit = next_fitting old sender ps in
       let at = cut_at (limits_of old) (front_of old) (size_of old) sender (mine_of old sender) ps not_all in
       let now = with_entries h fit in
@@ -169,9 +171,12 @@ module _ {J : Type 0} {G : Ghosts J} where
         payload = at.payload;
         next = at.next;
         full = record {
+          form = (limits_of old).form;
+          is = (limits_of old).formed;
+          header = refl;
           entries_are = front_is new now stands;
-          bytes_are = size_is new now counted stands;
-          past = ⊎_elim (λ many. inl (omega (arith, many, did.front))) (λ large. inr (omega (arith, large, did.size, entry_size sender own at.payload))) at.past;
+          bytes_are = size_is new now counted stands ∙ ap (λ (l : Limits). journal_size l.form (records_of_history now)) same;
+          past = ⊎_elim (λ many. inl (omega (arith, many, did.front))) (λ large. inr (omega (arith, large, did.size, entry_size (limits_of old).form sender own at.payload))) at.past;
         };
         unmarked = unmarked;
       }
@@ -217,7 +222,7 @@ unbegun_at submit.Fault other short x = absurd (other refl)
 -- what the outbox says of itself before a call on it and behind it
 module _ {J : Type 0} {G : Ghosts J} (old box new : Outbox J G) (h k : History) (was now : List OutboxRecord) (is : box ≡ old) (same : limits_of new ≡ limits_of box) where
   limits_same : (account new k now).limits ≡ (account old h was).limits
-  limits_same = λ i. record { entries = ((same ∙ ap limits_of is) i).entries; bytes = ((same ∙ ap limits_of is) i).bytes }
+  limits_same = λ i. bounds ((same ∙ ap limits_of is) i)
 
   failures_at : (b : Bool) → is_broken box ≡ b → failures old ≡ faults_of box + (if b then 1 else 0)
   failures_at b e = ap failures (sym is) ∙ ap (λ (x : Bool). faults_of box + (if x then 1 else 0)) e

@@ -14,10 +14,12 @@ use Rattle.jr_boxes.specs.declared.faults.CloseFault.{CloseFault}
 use Rattle.jr_boxes.specs.declared.faults.CloseFault.TheVariants as closing
 use Rattle.jr_record.specs.Records.{IsSender}
 use Rattle.jr_dated.specs.Dated.{Dated, undated}
+use Rattle.jr_record.specs.declared.record.Record.{Record}
+use Rattle.jr_dated.specs.declared.limits.Limits.{Limits}
 use Rattle.jr_dated.specs.Images.{journal_size}
 use Rattle.jr_boxes.specs.Outboxes.{records_of_history}
-use Rattle.gate_senders.specs.Kept.{account}
-use Rattle.jr_kept.specs.Outbox.{StandsFor, HoldsBox, SameContent, SameButMoment, Unchanged, is_broken, is_closed, front_of, mine_of, size_of}
+use Rattle.gate_senders.specs.Kept.{account, bounds}
+use Rattle.jr_kept.specs.Outbox.{StandsFor, HoldsBox, SameContent, SameButMoment, Unchanged, is_broken, is_closed, front_of, limits_of, mine_of, size_of}
 
 none_of : (es : List Entry) (n : ℕ) → 16 < n → AllByRecursion (λ (e : Entry). IsSender e.sender) es → entries_of es n ≡ []
 none_of [] n far all = refl
@@ -84,7 +86,7 @@ module _ {J : Type 0} {G : Ghosts J} where
   account_raised old new h refused same = λ i. record {
     history = h;
     faults = same.faults i + (if same.broken i then 1 else 0);
-    limits = record { entries = (same.limits i).entries; bytes = (same.limits i).bytes };
+    limits = bounds (same.limits i);
     broken = same.broken i;
     refused = refused;
   }
@@ -99,9 +101,10 @@ module _ {J : Type 0} {G : Ghosts J} where
   pub mine_is : (box : Outbox J G) (h : History) (sender : ℕ) → IsSender sender → ∥ StandsFor box h ∥₁ → mine_of box sender ≡ length (entries_of h.made sender)
   mine_is box h sender is stands = ∥∥₁_elim stands (ℕ_set _ _) (λ s. s.tallied.each sender is)
 
-  pub size_is : (box : Outbox J G) (h : History) → ((dated : List Dated) → G.stands box.journal dated → (length dated ≡ G.count box.journal) × (journal_size (undated dated) ≡ G.size box.journal))
-      → ∥ StandsFor box h ∥₁ → size_of box ≡ journal_size (records_of_history h)
-  size_is box h counted stands = ∥∥₁_elim stands (ℕ_set _ _) (λ s. sym (counted s.dated s.journal).1 ∙ ap journal_size s.bare)
+  pub size_is : (box : Outbox J G) (h : History) → ((dated : List Dated) → G.stands box.journal dated → (length dated ≡ G.count box.journal) × (journal_size (G.limits box.journal).form (undated dated) ≡ G.size box.journal))
+      → ∥ StandsFor box h ∥₁ → size_of box ≡ journal_size (limits_of box).form (records_of_history h)
+  size_is box h counted stands = ∥∥₁_elim stands (ℕ_set _ _) (λ s.
+      sym (counted s.dated s.journal).1 ∙ ap (λ (l : Limits). journal_size l.form (undated s.dated)) box.limited ∙ ap (λ (rs : List Record). journal_size (limits_of box).form rs) s.bare)
 
   -- a number above those of senders has no entries
   pub none_past : (box : Outbox J G) (h : History) (n : ℕ) → 16 < n → ∥ StandsFor box h ∥₁ → 0 ≡ length (entries_of h.made n)

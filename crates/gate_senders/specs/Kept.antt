@@ -4,13 +4,19 @@ use Rattle.session_model.specs.Journal.{Entry, History, OutboxRecord, entries_of
 use Rattle.session_model.specs.Inbox.{Numbered}
 use Rattle.jr_dated.specs.declared.journal.Journal.{Ghosts}
 use Rattle.jr_record.specs.declared.record.Record.TheVariants as kinds
-use Rattle.jr_dated.specs.Images.{record_size, journal_size}
+use Rattle.jr_dated.specs.declared.form.Form.{Form}
+use Rattle.jr_dated.specs.declared.limits.Limits as journals
+use Rattle.jr_dated.specs.Images.{IsForm, header_of, record_size, journal_size}
 use Rattle.jr_kept.specs.declared.outbox.Outbox.{Outbox}
 use Rattle.jr_boxes.specs.Outboxes.{records_of_history}
 use Rattle.jr_kept.specs.Entries.{entries_behind, entries_made}
 use Rattle.jr_kept.specs.Outbox.{limits_of, faults_of, is_broken}
 use Rattle.gate_turn.specs.Views.{Account, HasFailed, Limits}
 use Rattle.gate_turn.specs.Rule.{StaysBroken}
+
+-- what bounds an outbox whose journal has these limits
+abbrev pub bounds : journals.Limits → Limits
+bounds l = record { entries = l.entries; bytes = l.bytes; header = header_of l.form }
 
 module _ {J : Type 0} {G : Ghosts J} where
   -- how often it failed: the count of its disk, which stands still at its greatest number, and one more once it is broken
@@ -22,7 +28,7 @@ module _ {J : Type 0} {G : Ghosts J} where
   account box h refused = record {
     history = h;
     faults = failures box;
-    limits = record { entries = (limits_of box).entries; bytes = (limits_of box).bytes };
+    limits = bounds (limits_of box);
     broken = is_broken box;
     refused = refused;
   }
@@ -43,12 +49,15 @@ pub record StaysSound (before after : Account) : Type 0 where
   pub broken : after.broken ≡ true → before.broken ≢ true → HasFailed before.faults after.faults
   pub stays : StaysBroken before.broken before.refused after.broken after.refused
 
--- The entry is refused at this history: it has so many entries, the journal that holds them takes so many bytes, and the record
+-- The entry is refused at this history: it has so many entries, the journal of the limits' form that holds them takes so many bytes, and the record
 -- of the entry is past one of the two limits
 pub record IsFullAt (limits : Limits) (h : History) (e : Entry) (entries bytes : ℕ) : Type 0 where
+  pub form : Form
+  pub is : IsForm form
+  pub header : limits.header ≡ header_of form
   pub entries_are : entries ≡ length h.made
-  pub bytes_are : bytes ≡ journal_size (records_of_history h)
-  pub past : (limits.entries ≤ entries) ⊎ (limits.bytes < bytes + record_size (kinds.Entry e.sender e.own_number e.payload))
+  pub bytes_are : bytes ≡ journal_size form (records_of_history h)
+  pub past : (limits.entries ≤ entries) ⊎ (limits.bytes < bytes + record_size form (kinds.Entry e.sender e.own_number e.payload))
 
 -- of these payloads so many were added, and the entry of the next one is refused at this history, which the mark does not end
 pub record IsCutAt (limits : Limits) (h : History) (sender : ℕ) (payloads : List (List ℕ)) (count entries bytes : ℕ) : Type 0 where

@@ -121,8 +121,8 @@ impl<J: Journal> Gate<J> {
         answer
     }
 
-    /// Adds messages of the pass's sender, in order, in one turn and under one commit: all of them, or those before the first that would
-    /// pass one of the outbox's limits. Every later stop leaves those that were added, whatever refused the others.
+    /// Adds at most 512 messages of the pass's sender, in order, in one turn and under one commit: all of them, or those before the first
+    /// that would pass one of the outbox's limits. Every later stop leaves those that were added, whatever refused the others.
     ///
     /// What refused them: `Broken` and `Fault` where a call of the disk has failed, before or now: after `Fault` a stop leaves a beginning
     /// of those for which there was room. `Closed` where the mark stands. `Full` with the entries and bytes behind those that were
@@ -136,6 +136,7 @@ impl<J: Journal> Gate<J> {
         requires own { IsSenderAt self.now pass.old }
         requires free { IsFree pass.old }
         requires payloads { AllByRecursion IsApplication payloads.now }
+        requires few { length payloads.now ≤ 512 }
         ensures own { IsSenderAt self.now pass.new }
         ensures free { IsFree pass.new }
         ensures turn { TakesTurn (known pass.old) (known pass.new) }

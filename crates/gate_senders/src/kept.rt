@@ -297,10 +297,12 @@ impl<J: Journal> Kept<J> {
         }
     }
 
-    /// Adds entries of a sender from 1 to 16 under one commit, in order: all of them, or those before the first that is past a limit.
+    /// Adds at most 512 entries of a sender from 1 to 16 under one commit, in order: all of them, or those before the first that is past a
+    /// limit.
     pub(crate) fn add_all(&mut self, sender: u16, payloads: &[Bytes]) -> Submission
         requires sender { IsSender sender }
         requires payloads { AllByRecursion IsApplication payloads.now }
+        requires few { length payloads.now ≤ 512 }
         ensures within { result.count ≤ length payloads.now }
         ensures added { (told_by self.new).history ≡ with_entries (told_by self.old).history (next_entries (told_by self.old).history sender (take result.count payloads.now)) }
         ensures number { result.number ≡ length (told_by self.new).history.made }

@@ -2,10 +2,11 @@
 use Rattle.std.specs.Prelude.{ℕ, ◌+◌, ◌^◌, ◌<◌, ◌≤◌, min, Bool, false, not, ◌&&◌, ◌||◌, List, [], ◌∷◌, ◌++◌, length, drop, Option, Some, None}
 use Rattle.session_model.specs.Journal.{Entry, History, OutboxRecord, entries_of}
 
--- the two numbers that bound a locked value: entries, and bytes
+-- the two numbers that bound a locked value: entries, and bytes; and the bytes that it begins with, by which they are counted
 pub record Limits : Type 0 where
   pub entries : ℕ
   pub bytes : ℕ
+  pub header : List ℕ
 
 -- what a locked value says of itself: the history that it stands for, how often its device failed, its limits, whether it takes
 -- nothing any more, and the records whose adding failed, of which a stop may leave a beginning behind the history
@@ -51,7 +52,7 @@ View = List Part
 
 -- an empty history of a value with no limits
 abbrev pub nothing : Account
-nothing = record { history = record { made = []; finished = false }; faults = 0; limits = record { entries = 0; bytes = 0 }; broken = false; refused = [] }
+nothing = record { history = record { made = []; finished = false }; faults = 0; limits = record { entries = 0; bytes = 0; header = [] }; broken = false; refused = [] }
 
 -- what the pass of number n knows before it did anything, where the value was made with this; `made` is 0 but in the first pass
 abbrev pub new_part : ℕ → ℕ → Account → Part

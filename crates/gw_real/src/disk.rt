@@ -42,12 +42,14 @@ impl From<io::Error> for DiskReason<'_> {
 /// How the files of a kind begin, so that one of another kind is known before it is written over.
 #[derive(Clone, Copy)]
 pub struct Begun {
-    /// The bytes that each begins with, and those that one of an earlier form began with.
+    /// The bytes that each begins with, and those with which one of two other forms begins.
     pub mark: &'static [u8],
-    pub older: &'static [u8],
-    /// How many bytes are written when one is made: a mark, and zeros behind it. Where that was cut off, the file has no more
-    /// bytes than these, and each is zero or that of a mark.
+    pub others: [&'static [u8]; 2],
+    /// How many bytes are written when one is made: a mark, and what follows it. Where that was cut off, the file has no more
+    /// bytes than these, and each in the place of a mark is zero or that of one.
     pub length: usize,
+    /// Whether zeros follow it, and not any bytes.
+    pub is_plain: bool,
 }
 
 /// How a file is opened.
@@ -146,16 +148,19 @@ fn made<'a, R: Files<File = File>>(
 }
 
 /// The most bytes that are looked at to know what a file is: more than are written when one is made.
-const FRONT: usize = 64;
+const FRONT: usize = 80;
 
 impl Begun {
-    /// Whether a byte stands at a place of a mark.
+    /// Whether a byte stands at a place of a mark, or behind where any byte may.
     fn is_marked(self, at: usize, byte: u8) -> bool {
+        let [first, second] = self.others;
         matches!(self.mark.get(at), Some(marked) if *marked == byte)
-            || matches!(self.older.get(at), Some(marked) if *marked == byte)
+            || matches!(first.get(at), Some(marked) if *marked == byte)
+            || matches!(second.get(at), Some(marked) if *marked == byte)
+            || (!self.is_plain && at >= self.mark.len())
     }
 
-    /// Whether each of these bytes, which stand at the front of a file, is zero or that of a mark.
+    /// Whether each of these bytes, which stand at the front of a file, is zero or one that may stand there.
     fn is_part(self, front: &[u8]) -> bool {
         for (at, byte) in front.iter().enumerate() {
             if *byte != 0 && !self.is_marked(at, *byte) {
@@ -168,8 +173,10 @@ impl Begun {
     /// Whether a file whose first bytes are these, at most `FRONT`, is of the kind, or becomes it without a loss: it is empty, or was
     /// cut off while it was made.
     fn admits(self, front: &[u8]) -> bool {
+        let [first, second] = self.others;
         front.starts_with(self.mark)
-            || front.starts_with(self.older)
+            || front.starts_with(first)
+            || front.starts_with(second)
             || (front.len() <= self.length && self.is_part(front))
     }
 

@@ -13,7 +13,7 @@ use crate::journals::{Journals, Log, MOST};
 use fixp_msgs::Flow;
 use gw_fakes::{MemDisk, Pick};
 use jr_boxes::BoxFault;
-use jr_dated::Limits;
+use jr_dated::{Form, Limits};
 use jr_kept::{Inbox, Outbox};
 use jr_record::OpenFault;
 use jr_segments::{SegJournal, format};
@@ -26,6 +26,7 @@ const ROOM: usize = 1 << 26;
 const LIMITS: Limits = Limits {
     entries: MOST,
     bytes: 1 << 30,
+    form: Form::Two,
 };
 
 /// The disks of both journals of an end.
@@ -96,7 +97,7 @@ fn formatted(alloc: Global) -> Option<MemDisk>
     ensures { IfSome result (λ disk. LeavesImages disk [] []) }
 {
     let mut disk = MemDisk::without_faults(alloc, ROOM).ok()?;
-    match format(&mut disk) {
+    match format(&mut disk, Form::Two) {
         Ok(()) => Some(disk),
         Err(_) => None,
     }

@@ -3,6 +3,7 @@
 ghost use Rattle.jr_boxes.specs.declared.faults.BoxFault.TheVariants as box_fault;
 ghost use Rattle.jr_boxes.specs.declared.faults.SubmitFault.TheVariants as submit;
 
+use jr_title::Part;
 use std::alloc::AllocError;
 use thiserror::Error;
 
@@ -16,13 +17,16 @@ pub enum Which {
 /// Why a journal is not one that a box can be opened on, or a disk is none that a journal can be made on.
 #[derive(Clone, Copy, Debug, Error)]
 pub enum JournalCause {
-    /// The first 16 bytes are not the header.
+    /// The first bytes are no header.
     #[error("not formatted as a journal")]
     NotFormatted,
     /// They are the header of format 1, which `migrate` reads.
     #[error("a journal of format 1")]
     OldFormat,
-    /// No record and no end of the records stands at this byte.
+    /// They are the title of another journal: this is the first part of it that is not as CONFIG has it.
+    #[error("made for another {part}")]
+    Other { part: Part },
+    /// No record and no end of the records stands at this byte; or the end does, and more records behind it than are added at once.
     #[error("damaged at byte {at}")]
     Damaged { at: u64 },
     /// The record of this index, from 0 on, is the first that the box excludes.

@@ -1,4 +1,3 @@
-mod Fronts
+pub mod Forms
 pub mod Sizes
-pub mod Spelling
 pub mod Verdicts

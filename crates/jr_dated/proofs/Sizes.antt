@@ -1,20 +1,21 @@
--- How long what both formats write is.
-use Rattle.std.proofs.Common.{◌≡◌, ◌+◌, ◌≤◌, length, refl, arith}
-use Rattle.jr_dated.specs.declared.formats.Format.{Format}
-use Rattle.jr_dated.specs.declared.formats.Format.TheVariants.{One, Two}
-use Rattle.jr_dated.specs.Dated.{Dated}
-use Rattle.jr_dated.specs.Formats.{header_of, LegalIn, spelled_in, size_in}
-use Rattle.jr_dated.proofs.Spelling.{body_within, length-plain, length-spelled}
-
-pub length-header : (format : Format) → length (header_of format) ≡ 16
-length-header One = refl
-length-header Two = refl
+-- How long what the forms write is.
+use Rattle.std.proofs.Common.{◌≡◌, ◌+◌, ◌≤◌, length, arith}
+use Rattle.jr_moments.specs.Dated.{Dated, IsDated}
+use Rattle.jr_moments.proofs.Spelling.{body_within, length-spelled}
+use Rattle.jr_summed.proofs.Finding.{length-summed}
+use Rattle.jr_dated.specs.declared.form.Form.{Form}
+use Rattle.jr_dated.specs.declared.form.Form.TheVariants.{Two, Three}
+use Rattle.jr_dated.specs.Images.{spelled_in, record_size}
 
 -- the bytes of a record with its gate
-pub size_is : (format : Format) (d : Dated) → 1 + length (spelled_in format d) ≡ size_in format d.what
-size_is One d = refl
+pub size_is : (form : Form) (d : Dated) → 1 + length (spelled_in form d) ≡ record_size form d.what
 size_is Two d = omega (arith, length-spelled d)
+size_is (Three title) d = omega (arith, length-summed d)
 
-pub most_in : (format : Format) (d : Dated) → LegalIn format d → 1 + length (spelled_in format d) ≤ 16410
-most_in One d legal = omega (arith, length-plain d.what, body_within d.what legal.0)
+pub most_in : (form : Form) (d : Dated) → IsDated d → 1 + length (spelled_in form d) ≤ 16414
 most_in Two d legal = omega (arith, length-spelled d, body_within d.what legal.0)
+most_in (Three title) d legal = omega (arith, length-summed d, body_within d.what legal.0)
+
+pub least_in : (form : Form) (d : Dated) → 14 ≤ 1 + length (spelled_in form d)
+least_in Two d = omega (arith, length-spelled d)
+least_in (Three title) d = omega (arith, length-summed d)

@@ -8,7 +8,8 @@ use Rattle.jr_record.specs.Records.{is_control}
 use Rattle.jr_dated.specs.declared.limits.Limits.{Limits}
 use Rattle.jr_dated.specs.declared.faults.FetchFault.{FetchFault}
 use Rattle.jr_dated.specs.declared.faults.FetchFault.TheVariants as fetch
-use Rattle.jr_dated.specs.Dated.{Dated}
+use Rattle.jr_moments.specs.Dated.{Dated}
+use Rattle.jr_dated.specs.declared.form.Form.{Form}
 use Rattle.jr_dated.specs.Images.{record_size, sizes}
 
 -- The journal stands for the closing records, and every image of its disk holds these and a beginning of those refused
@@ -31,17 +32,18 @@ pub record Unchanged {J : Type 0} (stands : J → List Dated → Type 0) (leaves
 -- the record with its gate would pass the limit of bytes, and is not exempt from it
 pub record IsPastLimit (limits : Limits) (size : ℕ) (r : Record) : Type 0 where
   pub no_control : is_control r ≡ false
-  pub past : limits.bytes < size + record_size r
+  pub past : limits.bytes < size + record_size limits.form r
 
 -- of these records, those before the first that is past the limit behind the ones before it
 abbrev pub fitting : Limits → ℕ → List Record → List Record
 fitting limits size [] = []
-fitting limits size (r ∷ rs) = if not (is_control r) && nat_lt limits.bytes (size + record_size r) then [] else r ∷ fitting limits (size + record_size r) rs
+fitting limits size (r ∷ rs) =
+    if not (is_control r) && nat_lt limits.bytes (size + record_size limits.form r) then [] else r ∷ fitting limits (size + record_size limits.form r) rs
 
--- so many records and bytes more
-pub record Grows {J : Type 0} (count size : J → ℕ) (old new : J) (added : List Record) : Type 0 where
+-- so many records, and so many bytes of this form, more
+pub record Grows {J : Type 0} (form : Form) (count size : J → ℕ) (old new : J) (added : List Record) : Type 0 where
   pub records : count new ≡ count old + length added
-  pub bytes : size new ≡ size old + sizes added
+  pub bytes : size new ≡ size old + sizes form added
 
 -- P holds where an append was refused before it wrote to the disk
 abbrev pub OnUnbegun : {T : Type 0} → Result T AppendFault → Type 0 → Type 0

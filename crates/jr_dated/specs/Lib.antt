@@ -1,5 +1,5 @@
-pub mod Dated
-pub mod Formats
+pub use Rattle.jr_moments.specs.Dated
+pub mod Formed
 pub mod Images
 pub mod Journals
 pub mod Laws

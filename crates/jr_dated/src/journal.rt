@@ -7,8 +7,8 @@ ghost use Rattle.jr_record.specs.Records.{IsRecord};
 ghost use Rattle.jr_record.specs.Appending.{OnRefused, OnFault, is_broken_after};
 ghost use Rattle.jr_record.specs.declared.record.Record.{Record};
 ghost use Rattle.jr_record.specs.declared.faults.AppendFault.TheVariants as append;
-ghost use Rattle.jr_dated.specs.Dated.{Dated, IsDated, stamped, dated, undated};
-ghost use Rattle.jr_dated.specs.Images.{record_size, journal_size};
+ghost use Rattle.jr_moments.specs.Dated.{Dated, IsDated, stamped, dated, undated};
+ghost use Rattle.jr_dated.specs.Images.{MayAdd, record_size, journal_size};
 ghost use Rattle.jr_dated.specs.Journals.{Holds, HoldsEither, Unchanged, Grows, IsPastLimit, fitting, OnUnbegun, OnAdded, OnFull, is_broken_after_read};
 ghost use Rattle.jr_dated.specs.declared.limits.Limits.{Limits};
 ghost use Rattle.jr_dated.specs.declared.faults.FetchFault.TheVariants as fetch;
@@ -30,7 +30,7 @@ pub trait Journal {
     /// How many calls of its disk have failed; it never falls.
     ghost faults: { Self → ℕ };
 
-    /// How large it may grow.
+    /// How large it may grow, and its form.
     ghost limits: { Self → Limits };
 
     /// Whether a call of its disk has failed since its opening.
@@ -61,7 +61,7 @@ pub trait Journal {
     fn append(&mut self, r: &Record) -> Result<(), AppendFault>
         requires legal { IsRecord r.now }
         ensures ok { OnOk result ((h : List Dated) → Holds stands leaves self.old h [] → Holds stands leaves self.new (h ++ dated (moment self.old) (r.now ∷ [])) []) }
-        ensures grown { OnOk result ((count self.new ≡ count self.old + 1) × (size self.new ≡ size self.old + record_size r.now)) }
+        ensures grown { OnOk result ((count self.new ≡ count self.old + 1) × (size self.new ≡ size self.old + record_size (limits self.old).form r.now)) }
         ensures refused { OnErr result ((count self.new ≡ count self.old) × (size self.new ≡ size self.old)) }
 
         ensures broken { (result ≡ Err append.Broken) ↔ (is_broken self.old ≡ true) }
@@ -80,7 +80,8 @@ pub trait Journal {
 
     /// Adds records behind the others, with the journal's moment: all of them, or those before the first that would pass the
     /// limit of bytes behind the ones before it. At `Ok` and at `Full` what was added stands in every image, also after any
-    /// later stop. An empty batch makes no call of the disk.
+    /// later stop. An empty batch makes no call of the disk. In format 3 a batch has at most 512 records, by which a gate that was
+    /// lost is told from one that was not written yet.
     ///
     /// # Errors
     /// In this order: `Broken` exactly where the journal is broken; `Memory`; these change nothing. `Fault` where a call of
@@ -88,12 +89,13 @@ pub trait Journal {
     /// record does not fit; its bytes are those behind the records that do.
     fn append_batch(&mut self, batch: &Records) -> Result<(), AppendFault>
         requires legal { AllByRecursion IsRecord batch.now }
+        requires few { MayAdd (limits self.old).form (length batch.now) }
         ensures ok { OnOk result ((h : List Dated) → Holds stands leaves self.old h [] → Holds stands leaves self.new (h ++ dated (moment self.old) batch.now) []) }
         ensures whole { OnOk result (fitting (limits self.old) (size self.old) batch.now ≡ batch.now) }
         ensures full { OnFull result ((h : List Dated) → Holds stands leaves self.old h [] → Holds stands leaves self.new (h ++ dated (moment self.old) (fitting (limits self.old) (size self.old) batch.now)) []) }
         ensures cut { OnFull result (fitting (limits self.old) (size self.old) batch.now ≢ batch.now) }
         ensures full_size { (bytes : ℕ) → result ≡ Err (append.Full bytes) → bytes ≡ size self.new }
-        ensures grown { OnAdded result (Grows count size self.old self.new (fitting (limits self.old) (size self.old) batch.now)) }
+        ensures grown { OnAdded result (Grows (limits self.old).form count size self.old self.new (fitting (limits self.old) (size self.old) batch.now)) }
 
         ensures broken { (result ≡ Err append.Broken) ↔ (is_broken self.old ≡ true) }
         ensures unchanged { OnUnbegun result (Unchanged stands leaves self.old self.new × (faults self.new ≡ faults self.old)) }
@@ -123,7 +125,7 @@ pub trait Journal {
     /// # Errors
     /// `Broken` exactly where the journal is broken; `Memory`; `Fault` where a call of the disk failed, and the journal is
     /// broken from then on; `Changed` where the disk gave no record that may stand there, which a disk that tells its content
-    /// never does.
+    /// never does. In format 3 that is also a record whose sum is another.
     fn read(&mut self, i: u64) -> Result<(Record, u64), FetchFault>
         requires within { i < count self.old }
         ensures found { IfOk result (λ p. ∥ ((h : List Dated) × stands self.old h × (slice_get h i ≡ Some (stamped p.1 p.0))) ∥₁) }
@@ -155,7 +157,7 @@ pub trait Journal {
         ensures value { result ≡ is_broken self.now };
 
     /// What it stands for has its number of records, and its size.
-    ghost counted: { (j : Self) (h : List Dated) → stands j h → (length h ≡ count j) × (journal_size (undated h) ≡ size j) };
+    ghost counted: { (j : Self) (h : List Dated) → stands j h → (length h ≡ count j) × (journal_size (limits j).form (undated h) ≡ size j) };
 
     /// Each record that it stands for is one of the format.
     ghost legal: { (j : Self) (h : List Dated) → stands j h → AllByRecursion IsDated h };

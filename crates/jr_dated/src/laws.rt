@@ -1,23 +1,19 @@
-//! The laws of dated records and of the images that hold them, each on a function without a body.
+//! The laws of images that hold dated records, each on a function without a body.
 
-ghost use Rattle.jr_dated.specs.Laws.{AtMostOneDated, AtMostOneVerdict, AtMostOneFormat, SizesAreBounded};
+ghost use Rattle.jr_dated.specs.Laws.{AtMostOneForm, AtMostOneFormat, AtMostOneVerdict};
 
-/// At most one dated record is spelled at the front of given bytes.
-pub fn one_dated()
-    ensures { AtMostOneDated }
+/// Bytes begin with the header of one form at most.
+pub fn one_form()
+    ensures { AtMostOneForm }
 {}
 
-/// A dated record with its gate takes 14 bytes at least, and 16,410 at most, and no moment changes them.
-pub fn dated_bounds()
-    ensures { SizesAreBounded }
-{}
-
-/// An image holds at most one list of dated records, or is damaged at one place, or is not formatted.
+/// An image holds at most one list of dated records, or is damaged at one place, or is not formatted; and it is cut short at one place at
+/// most, where it is not damaged.
 pub fn one_dated_verdict()
     ensures { AtMostOneVerdict }
 {}
 
-/// No image is a journal of both formats.
+/// No image is a journal of format 1 and of another.
 pub fn one_format()
     ensures { AtMostOneFormat }
 {}

@@ -18,6 +18,12 @@ use Rattle.frame_text.specs.Held.{fault_words, order_words}
 use Rattle.jr_record.specs.declared.record.Record.{Record}
 use Rattle.jr_record.specs.declared.record.Record.TheVariants.{Entry, Apply, Skip, Negotiated, PeerFinished, Finish}
 use Rattle.jr_dated.specs.Dated.{Dated}
+use Rattle.jr_title.specs.declared.title.Binding.{Binding}
+use Rattle.jr_title.specs.declared.title.Orders.{Orders}
+use Rattle.jr_title.specs.declared.title.Title.{Title}
+use Rattle.jr_title.specs.declared.title.WhoSends.{WhoSends}
+use Rattle.jr_title.specs.declared.title.WhoSends.TheVariants.{Senders, Desks, Book}
+use Rattle.title_text.specs.Words.{flow_word, role_word, which_word}
 use Rattle.jr_stream.specs.declared.reader.End.{End}
 use Rattle.jr_stream.specs.declared.reader.End.TheVariants.{Closed, Damaged}
 
@@ -76,6 +82,29 @@ line_of tokens = print tokens ++ codes "\n"
 
 abbrev pub record_object : Plan → ℕ → Dated → List ℕ
 record_object plan n d = line_of (record_tokens plan n d)
+
+-- ---- the title
+
+-- by what desks read and answer
+abbrev pub orders_tokens : Orders → List Token
+orders_tokens orders = key (codes "order_version") ∷ number (decimal orders.version) ∷ has_number (codes "reference") orders.reference
+
+abbrev pub who_tokens : WhoSends → List Token
+who_tokens Senders = has_text (codes "sends") (codes "senders")
+who_tokens (Desks desks orders) = has_text (codes "sends") (codes "desks") ++ (key (codes "desks") ∷ number (decimal desks) ∷ orders_tokens orders)
+who_tokens (Book orders) = has_text (codes "sends") (codes "book") ++ orders_tokens orders
+
+-- whose a journal is; the session's UUID in 32 hexadecimal digits
+abbrev pub binding_tokens : Binding → List Token
+binding_tokens b =
+    has_text (codes "journal") (which_word b.which) ++ has_text (codes "session") (encode_lower b.session) ++ has_text (codes "role") (role_word b.role)
+    ++ has_text (codes "client_flow") (flow_word b.client_flow) ++ has_text (codes "server_flow") (flow_word b.server_flow) ++ who_tokens b.who_sends
+
+abbrev pub title_tokens : Title → List Token
+title_tokens t = begin_object ∷ (binding_tokens t.binding ++ has_number (codes "pair") t.pair ++ end_object ∷ [])
+
+abbrev pub title_object : Title → List ℕ
+title_object t = line_of (title_tokens t)
 
 -- ---- the end of the records
 

@@ -4,6 +4,8 @@
 
 mod payloads;
 mod records;
+mod titles;
 
 pub use payloads::order_in;
 pub use records::{push_end_object, push_object};
+pub use titles::push_title_object;

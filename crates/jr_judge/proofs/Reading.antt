@@ -1,5 +1,5 @@
 -- The records of a journal that were read and counted so far.
-use Rattle.std.proofs.Common.{◌≡◌, ℕ, zero, suc, ◌+◌, ◌<◌, ◌≤◌, List, [], ◌∷◌, ◌++◌, map, length, take, slice_get, Option, Some, None, sym, ap, subst, ◌∙◌, arith}
+use Rattle.std.proofs.Common.{◌≡◌, false, ℕ, zero, suc, ◌+◌, ◌<◌, ◌≤◌, List, [], ◌∷◌, ◌++◌, map, length, take, slice_get, Option, Some, None, sym, ap, subst, ◌∙◌, arith}
 use Rattle.std.proofs.lemmas.List.{map-append, take-map, take_all, length-map, length-take}
 use Rattle.std.specs.Option.{ForSome}
 use Rattle.gw_outside.specs.declared.disk.Disk.{Ghosts}
@@ -44,14 +44,15 @@ module _ {D : Type 0} {G : Ghosts D} where
           (more (undated (take at some.0)) long some.2),
     )
 
-    pub wrong_here : (left : (d : D) (content : List ℕ) → G.told d ≡ Some content → G.may_leave d content) → (told : Option (List ℕ)) → G.told new.disk ≡ told
+    pub wrong_here : (left : (d : D) (content : List ℕ) → G.told d ≡ Some content → G.may_leave d content) → new.broken ≡ false → (told : Option (List ℕ)) → G.told new.disk ≡ told
         → ((all : List Record) → slice_get all at ≡ Some r → IsCounted which (take at all) c → IsWrongIn which all at) → ForSome told (IsWrong which at)
-    wrong_here left told is excluded content has =
+    wrong_here left sound told is excluded content has =
         let k = instead at (stamped moment r) some.0 in
         let first : take at (undated k) ≡ undated (take at some.0) =
         take-map (λ (d : Dated). d.what) at k ∙ ap (λ (ds : List Dated). undated ds) (take_before at (stamped moment r) some.0 inside) in
         record {
           records = k;
+          uncut = new.uncut sound content (left new.disk content (is ∙ has));
           journal = image_is {D = D} {G = G} new k (rests some.0 some.1) content (left new.disk content (is ∙ has));
           wrong = excluded (undated k) (bare_at k at (stamped moment r) (get_instead at (stamped moment r) some.0 inside)) (subst (λ (rs : List Record). IsCounted which rs c) (sym first) some.2);
         }

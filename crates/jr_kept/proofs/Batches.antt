@@ -72,8 +72,8 @@ all_taken P (suc n) (x ∷ xs) all = (all.0, all_taken P n xs all.1)
 pub fitting_front : (limits : Limits) (size : ℕ) (rs : List Record) → (fitting limits size rs ≡ take (length (fitting limits size rs)) rs) × (length (fitting limits size rs) ≤ length rs)
 fitting_front limits size [] = (refl, omega arith)
 fitting_front limits size (r ∷ rs) =
-    let rest = fitting_front limits (size + record_size r) rs in
-    by_test (not (is_control r) && nat_lt limits.bytes (size + record_size r)) (fitting limits (size + record_size r) rs) rest.0 rest.1
+    let rest = fitting_front limits (size + record_size limits.form r) rs in
+    by_test (not (is_control r) && nat_lt limits.bytes (size + record_size limits.form r)) (fitting limits (size + record_size limits.form r) rs) rest.0 rest.1
   where
     by_test : (b : Bool) (behind : List Record) → behind ≡ take (length behind) rs → length behind ≤ length rs
         → ((if b then [] else r ∷ behind) ≡ take (length (if b then [] else r ∷ behind)) (r ∷ rs)) × (length (if b then [] else r ∷ behind) ≤ length (r ∷ rs))

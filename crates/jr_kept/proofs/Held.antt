@@ -18,7 +18,9 @@ use Rattle.jr_dated.specs.declared.journal.Journal.{Ghosts}
 use Rattle.jr_dated.specs.declared.faults.FetchFault.{FetchFault}
 use Rattle.jr_dated.specs.declared.faults.FetchFault.TheVariants as fetch
 use Rattle.jr_dated.specs.Dated.{Dated, dated, undated, stamped}
-use Rattle.jr_dated.specs.Images.{record_size}
+use Rattle.jr_dated.specs.declared.form.Form.{Form}
+use Rattle.jr_dated.specs.declared.limits.Limits.{Limits}
+use Rattle.jr_dated.specs.Images.{record_size, sum_size}
 use Rattle.jr_dated.specs.Journals.{Holds, HoldsEither, Unchanged as SameJournal, is_broken_after_read}
 use Rattle.jr_boxes.specs.declared.tally.Tally.{Tally}
 use Rattle.jr_boxes.specs.declared.faults.SubmitFault.TheVariants as submit
@@ -168,8 +170,12 @@ pub unmoved : {J : Type 0} (stands : J → List Dated → Type 0) (leaves : J �
 unmoved stands leaves j = record { records = λ h. (λ is. is, λ is. is); images = λ o. (λ is. is, λ is. is) }
 
 -- the bytes of an entry's record, with its gate
-pub entry_size : (sender k : ℕ) (payload : List ℕ) → record_size (kinds.Entry sender k payload) ≡ 24 + length payload
-entry_size sender k payload = omega (arith, length-append (to_le_bytes w16 sender) (to_le_bytes w64 k ++ payload), length-append (to_le_bytes w64 k) payload)
+pub entry_size : (form : Form) (sender k : ℕ) (payload : List ℕ) → record_size form (kinds.Entry sender k payload) ≡ 24 + sum_size form + length payload
+entry_size form sender k payload = omega (arith, length-append (to_le_bytes w16 sender) (to_le_bytes w64 k ++ payload), length-append (to_le_bytes w64 k) payload)
+
+-- a size that was counted in the form of a journal is counted in that of its limits
+pub of_limits : {l m : Limits} (same : l ≡ m) (size : ℕ) {new : ℕ} (r : Record) → new ≡ size + record_size l.form r → new ≡ size + record_size m.form r
+of_limits same size r is = is ∙ ap (λ (x : Limits). size + record_size x.form r) same
 
 module _ {J : Type 0} {G : Ghosts J} where
   pub same_content : (old new : Outbox J G) → SameJournal G.stands G.leaves old.journal new.journal → new.tally ≡ old.tally → G.size new.journal ≡ G.size old.journal → SameContent old new

@@ -19,7 +19,8 @@ use Rattle.jr_record.specs.Appending.{OnRefused, OnFault, is_broken_after}
 use Rattle.jr_dated.specs.declared.journal.Journal.{Ghosts}
 use Rattle.jr_dated.specs.declared.limits.Limits.{Limits}
 use Rattle.jr_dated.specs.Dated.{Dated, dated, undated}
-use Rattle.jr_dated.specs.Images.{record_size}
+use Rattle.jr_dated.specs.declared.form.Form.{Form}
+use Rattle.jr_dated.specs.Images.{record_size, sum_size}
 use Rattle.jr_dated.specs.Journals.{Holds, HoldsEither, Unchanged as SameJournal, OnUnbegun, fitting}
 use Rattle.jr_boxes.specs.declared.notes.Notes.{Notes}
 use Rattle.jr_boxes.specs.Inboxes.{record_of, records_of_inbox, has_negotiated, peer_last_in, IsInbox}
@@ -138,8 +139,8 @@ pub some_same : {J : Type 0} (stands : J → List Dated → Type 0) (leaves : J 
 some_same stands leaves j flow n m same held = some_on stands leaves j j flow n m (λ i. i) (λ i. kept_same stands leaves j j (unmoved stands leaves j) flow n m same i []) held
 
 -- the bytes of an applied message's record, with its gate
-pub apply_size : (number : ℕ) (payload : List ℕ) → record_size (kinds.Apply number payload) ≡ 22 + length payload
-apply_size number payload = omega (arith, length-append (to_le_bytes w64 number) payload)
+pub apply_size : (form : Form) (number : ℕ) (payload : List ℕ) → record_size form (kinds.Apply number payload) ≡ 22 + sum_size form + length payload
+apply_size form number payload = omega (arith, length-append (to_le_bytes w64 number) payload)
 
 -- messages applied behind a list
 pub length-applies : (n : ℕ) (ps : List (List ℕ)) → length (applies n ps) ≡ length ps

@@ -108,7 +108,7 @@ module _ {J : Type 0} {G : Ghosts J} where
     pub negotiated_is : is_negotiated new ≡ negotiated
     pub peer_last_is : peer_last_of new ≡ peer_last
     pub count_is : count_of new ≡ count
-    pub size : size_of new ≡ size_of old + record_size r
+    pub size : size_of new ≡ size_of old + record_size (limits_of old).form r
 
   -- these messages applied more
   pub record TellsAll (old new : Inbox J G) (more : List InboxRecord) : Type 0 where
@@ -116,12 +116,12 @@ module _ {J : Type 0} {G : Ghosts J} where
     pub negotiated : is_negotiated new ≡ is_negotiated old
     pub peer_last : peer_last_of new ≡ peer_last_of old
     pub count : count_of new ≡ count_of old + length more
-    pub size : size_of new ≡ size_of old + sizes (records_of_inbox more)
+    pub size : size_of new ≡ size_of old + sizes (limits_of old).form (records_of_inbox more)
 
   -- a call of its disk has not failed, and the record is past the limit of bytes
   pub record IsPastLimit (box : Inbox J G) (r : Record) : Type 0 where
     pub sound : is_broken box ≡ false
-    pub past : (limits_of box).bytes < size_of box + record_size r
+    pub past : (limits_of box).bytes < size_of box + record_size (limits_of box).form r
 
   -- of messages with these payloads, the first under this number, those for which the limit of bytes leaves room
   abbrev pub fitting_applies : Inbox J G → ℕ → List (List ℕ) → List InboxRecord

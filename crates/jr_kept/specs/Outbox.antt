@@ -96,7 +96,7 @@ module _ {J : Type 0} {G : Ghosts J} where
     pub mine : mine_of new sender ≡ mine_of old sender + 1
     pub others : (s : ℕ) → IsSender s → (s ≡ sender → ⊥) → mine_of new s ≡ mine_of old s
     pub closed : is_closed new ≡ is_closed old
-    pub size : size_of new ≡ size_of old + record_size r
+    pub size : size_of new ≡ size_of old + record_size (limits_of old).form r
 
   -- these entries of a sender more
   pub record HasEnteredAll (old new : Outbox J G) (sender : ℕ) (es : List Entry) : Type 0 where
@@ -104,14 +104,14 @@ module _ {J : Type 0} {G : Ghosts J} where
     pub mine : mine_of new sender ≡ mine_of old sender + length es
     pub others : (s : ℕ) → IsSender s → (s ≡ sender → ⊥) → mine_of new s ≡ mine_of old s
     pub closed : is_closed new ≡ is_closed old
-    pub size : size_of new ≡ size_of old + sizes (records_of es)
+    pub size : size_of new ≡ size_of old + sizes (limits_of old).form (records_of es)
 
   -- the Finish, and nothing else
   pub record HasClosed (old new : Outbox J G) (r : Record) : Type 0 where
     pub front : front_of new ≡ front_of old
     pub mine : (s : ℕ) → mine_of new s ≡ mine_of old s
     pub closed : is_closed new ≡ true
-    pub size : size_of new ≡ size_of old + record_size r
+    pub size : size_of new ≡ size_of old + record_size (limits_of old).form r
 
   -- a call of its disk has not failed, and nothing closes it
   pub record IsOpen (box : Outbox J G) : Type 0 where
@@ -120,7 +120,7 @@ module _ {J : Type 0} {G : Ghosts J} where
 
   -- an entry with this record is past a limit
   abbrev pub IsPastLimit : Outbox J G → Record → Type 0
-  IsPastLimit box r = ((limits_of box).entries ≤ front_of box) ⊎ ((limits_of box).bytes < size_of box + record_size r)
+  IsPastLimit box r = ((limits_of box).entries ≤ front_of box) ⊎ ((limits_of box).bytes < size_of box + record_size (limits_of box).form r)
 
   -- the next entries of a sender with these payloads, and those of them for which the limits leave room
   abbrev pub next_entries : Outbox J G → ℕ → List (List ℕ) → List Entry

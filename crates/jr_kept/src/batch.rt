@@ -6,6 +6,7 @@ ghost use Rattle.gw_outside.specs.Faults.{HasRisen};
 ghost use Rattle.fixp_msgs.specs.Payload.{IsApplication};
 ghost use Rattle.jr_record.specs.Records.{IsRecord, IsSender};
 ghost use Rattle.jr_dated.specs.Dated.{Dated, dated};
+ghost use Rattle.jr_dated.specs.Images.{MayAdd};
 ghost use Rattle.jr_dated.specs.Journals.{Holds, HoldsEither, Grows, Unchanged as SameJournal, fitting};
 ghost use Rattle.jr_boxes.specs.Tallies.{IsWithin};
 ghost use Rattle.jr_kept.specs.Entries.{CountsEntries, entries_behind, records_of};
@@ -22,10 +23,11 @@ use std::alloc::{AllocError, Global};
 pub fn append_fitting<J: Journal>(journal: &mut J, batch: &Records) -> Result<u64, AddFault>
     requires sound { J.is_broken journal.old ≡ false }
     requires legal { AllByRecursion IsRecord batch.now }
+    requires few { MayAdd (J.limits journal.old).form (length batch.now) }
     ensures added { IfOk result (λ n. n ≡ length (fitting (J.limits journal.old) (J.size journal.old) batch.now)) }
     ensures ok { OnOk result ((h : List Dated) → Holds J.stands J.leaves journal.old h []
         → Holds J.stands J.leaves journal.new (h ++ dated (J.moment journal.old) (fitting (J.limits journal.old) (J.size journal.old) batch.now)) []) }
-    ensures grown { OnOk result (Grows J.count J.size journal.old journal.new (fitting (J.limits journal.old) (J.size journal.old) batch.now)) }
+    ensures grown { OnOk result (Grows (J.limits journal.old).form J.count J.size journal.old journal.new (fitting (J.limits journal.old) (J.size journal.old) batch.now)) }
     ensures sound { OnOk result (J.is_broken journal.new ≡ false) }
     ensures quiet { OnOk result (J.faults journal.new ≡ J.faults journal.old) }
 

@@ -11,7 +11,7 @@ ghost use Rattle.jr_record.specs.declared.record.Record.{Record};
 ghost use Rattle.jr_record.specs.declared.record.Record.TheVariants as kinds;
 ghost use Rattle.jr_record.specs.declared.faults.AppendFault.TheVariants as append;
 ghost use Rattle.jr_dated.specs.Dated.{Dated};
-ghost use Rattle.jr_dated.specs.Images.{journal_size};
+ghost use Rattle.jr_dated.specs.Images.{MayAdd, journal_size};
 ghost use Rattle.jr_dated.specs.Journals.{Unchanged as SameJournal, OnAdded, OnFull, OnUnbegun, is_broken_after_read};
 ghost use Rattle.jr_dated.specs.declared.faults.FetchFault.TheVariants as fetch;
 ghost use Rattle.jr_boxes.specs.Inboxes.{IsWrongAt, has_negotiated, peer_last_in, records_of_inbox};
@@ -128,7 +128,8 @@ impl<J: Journal> Inbox<J> {
             return Err(AppendFault::Broken);
         }
         let bytes = self.journal.bytes();
-        if APPLY_FRONT + payload.len() as u64 > self.limits.bytes.saturating_sub(bytes) {
+        let size = APPLY_FRONT + self.limits.form.sum_size() + payload.len() as u64;
+        if size > self.limits.bytes.saturating_sub(bytes) {
             return Err(AppendFault::Full { bytes });
         }
         self.notes.reserve()?;
@@ -144,7 +145,7 @@ impl<J: Journal> Inbox<J> {
 
     /// Records that the peer's messages with these payloads were applied, in order and under one commit, the first under its
     /// next number: all of them, or those before the first that would pass the limit of bytes. At `Ok` and at `Full` every later
-    /// stop leaves what was added. No message makes no call of the disk.
+    /// stop leaves what was added. No message makes no call of the disk. In format 3 they are at most 512.
     ///
     /// # Errors
     /// In this order: `Broken` exactly where the journal is broken; `Memory`; these change nothing. `Fault` where a call of the
@@ -154,6 +155,7 @@ impl<J: Journal> Inbox<J> {
         requires next { first ≡ next_of self.old }
         requires most { first + length payloads.now ≤ (limits_of self.old).entries + 1 }
         requires payloads { AllByRecursion IsApplication payloads.now }
+        requires few { MayAdd (limits_of self.old).form (length payloads.now) }
         ensures ok { OnOk result ((i : List InboxRecord) → HoldsBox self.old i [] → HoldsBox self.new (i ++ applied_from first payloads.now) []) }
         ensures whole { OnOk result (fitting_applies self.old first payloads.now ≡ applied_from first payloads.now) }
         ensures full { OnFull result ((i : List InboxRecord) → HoldsBox self.old i [] → HoldsBox self.new (i ++ fitting_applies self.old first payloads.now) []) }
@@ -378,7 +380,7 @@ impl<J: Journal> Inbox<J> {
     /// How many bytes its journal takes.
     pub fn bytes(&self) -> u64
         ensures value { result ≡ size_of self.now }
-        ensures counts { (i : List InboxRecord) → StandsFor self.now i → result ≡ journal_size (records_of_inbox i) }
+        ensures counts { (i : List InboxRecord) → StandsFor self.now i → result ≡ journal_size (limits_of self.now).form (records_of_inbox i) }
     {
         self.journal.bytes()
     }

@@ -9,7 +9,7 @@ ghost use Rattle.jr_record.specs.Records.{IsPayload, IsSender};
 ghost use Rattle.jr_record.specs.declared.record.Record.{Record};
 ghost use Rattle.jr_record.specs.declared.record.Record.TheVariants as kinds;
 ghost use Rattle.jr_dated.specs.Dated.{Dated, undated};
-ghost use Rattle.jr_dated.specs.Images.{journal_size};
+ghost use Rattle.jr_dated.specs.Images.{MayAdd, journal_size};
 ghost use Rattle.jr_dated.specs.Journals.{Unchanged as SameJournal, is_broken_after_read};
 ghost use Rattle.jr_dated.specs.declared.faults.FetchFault.TheVariants as fetch;
 ghost use Rattle.jr_boxes.specs.Outboxes.{IsWrongAt, records_of_history, with_entry, with_mark};
@@ -33,7 +33,7 @@ use jr_dated::{FetchFault, Journal, Limits};
 use jr_record::Record;
 use std::alloc::Global;
 
-/// The bytes of an entry's record with its gate, but for the payload.
+/// The bytes of an entry's record with its gate, but for the payload and the sum.
 const ENTRY_FRONT: u64 = 24;
 
 /// The application messages that an end was given to send, in the order of their numbers, over a journal with moments.
@@ -129,7 +129,8 @@ impl<J: Journal> Outbox<J> {
         let entries = self.tally.entries;
         let bytes = self.journal.bytes();
         let room = self.limits.bytes.saturating_sub(bytes);
-        if entries >= self.limits.entries || ENTRY_FRONT + payload.len() as u64 > room {
+        let front = ENTRY_FRONT + self.limits.form.sum_size();
+        if entries >= self.limits.entries || front + payload.len() as u64 > room {
             return Err(SubmitFault::Full { entries, bytes });
         }
         let record = Record::Entry {
@@ -148,7 +149,7 @@ impl<J: Journal> Outbox<J> {
 
     /// Adds messages of a sender from 1 to 16 behind the others, in order and under one commit: all of them, or those before
     /// the first for which the limits leave no room. Answers how many entries there are then. At `Ok` and at `Full` every
-    /// later stop leaves what was added. No message makes no call of the disk.
+    /// later stop leaves what was added. No message makes no call of the disk. In format 3 they are at most 512.
     ///
     /// # Errors
     /// In this order: `Broken` exactly where the journal is broken; `Closed` exactly where the Finish stands; `Memory`; these
@@ -158,6 +159,7 @@ impl<J: Journal> Outbox<J> {
     pub fn accept_all(&mut self, sender: u16, payloads: &[Bytes]) -> Result<u64, SubmitFault>
         requires sender { IsSender sender }
         requires payloads { AllByRecursion IsApplication payloads.now }
+        requires few { MayAdd (limits_of self.old).form (length payloads.now) }
         ensures number { IfOk result (λ n. n ≡ front_of self.old + length payloads.now) }
         ensures ok { OnOk result ((h : History) → HoldsBox self.old h [] → HoldsBox self.new (with_entries h (next_entries self.old sender payloads.now)) []) }
         ensures whole { OnOk result (next_fitting self.old sender payloads.now ≡ next_entries self.old sender payloads.now) }
@@ -357,7 +359,7 @@ impl<J: Journal> Outbox<J> {
     /// How many bytes its journal takes.
     pub fn bytes(&self) -> u64
         ensures value { result ≡ size_of self.now }
-        ensures counts { (h : History) → StandsFor self.now h → result ≡ journal_size (records_of_history h) }
+        ensures counts { (h : History) → StandsFor self.now h → result ≡ journal_size (limits_of self.now).form (records_of_history h) }
     {
         self.journal.bytes()
     }

@@ -3,18 +3,19 @@ use Rattle.std.proofs.Common.{◌≡◌, ◌≢◌, ◌⊎◌, inl, inr, ℕ, �
 use Rattle.std.proofs.lemmas.List.{take-take, length-take}
 use Rattle.std.specs.Option.{ForSome, option_map}
 use Rattle.gw_outside.specs.Disk.{written, Torn, Follows, IsAllLeft, ReadsAt}
-use Rattle.jr_dated.specs.Images.{header, IsNotFormatted}
+use Rattle.jr_dated.specs.Images.{header_of, IsNotFormatted}
+use Rattle.jr_dated.proofs.Forms.{has_first, length-header}
 use Rattle.jr_log.specs.declared.clearing.Seen.{Seen}
 use Rattle.jr_log.specs.declared.clearing.Seen.TheVariants.{Used, Cleared, Short}
 use Rattle.jr_log.specs.Fresh.{IsFresh, IsSeen, IsUsed, AllCleared}
 
 -- a short image is no journal, and neither is one whose first byte is 0
 pub short_is_none : (image : List ℕ) → length image < 16 → IsNotFormatted image
-short_is_none image short is = omega (arith, ap length is, length-take 16 image, short)
+short_is_none image short form has = omega (arith, ap length has.begins, length-take (length (header_of form)) image, (length-header form has.is).0, short)
 
 pub cleared_is_none : (image : List ℕ) → take 1 image ≡ 0 ∷ [] → IsNotFormatted image
-cleared_is_none image cleared is =
-    let first : 0 ∷ [] ≡ 0x46 ∷ [] = sym cleared ∙ sym (take-take 1 16 image (omega arith)) ∙ ap (take 1) is in
+cleared_is_none image cleared form has =
+    let first : 0 ∷ [] ≡ 0x46 ∷ [] = sym cleared ∙ has_first form image has in
     let same : 0 ≡ 0x46 = ap (λ (xs : List ℕ). get_or xs 0 0) first in
     omega (arith, same)
 

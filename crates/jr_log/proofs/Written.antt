@@ -9,19 +9,21 @@ use Rattle.jr_record.specs.declared.record.Record.{Record}
 use Rattle.jr_record.specs.Records.{IsRecord, spelled as plain}
 use Rattle.jr_record.specs.Images.{gated, journal_size as plain_size}
 use Rattle.jr_dated.specs.Dated.{Dated, IsDated, dated, spelled, stamped}
+use Rattle.jr_dated.specs.declared.form.Form.TheVariants.{Two}
 use Rattle.jr_dated.specs.Images.{header, sizes, journal_size, IsJournal, IsNotFormatted}
-use Rattle.jr_dated.proofs.Spelling.{length-plain, length-spelled}
+use Rattle.jr_dated.proofs.Forms.{has_first}
+use Rattle.jr_moments.proofs.Spelling.{length-plain, length-spelled}
 use Rattle.jr_log.specs.Fresh.{AllCleared, IsFresh}
 use Rattle.jr_log.specs.Migrates.{IsCut, IsLeft, is_whole, is_unfinished}
 use Rattle.jr_log.specs.Laid.{HasLaid, LaysAll, Spills, header_rest, rest_of}
 use Rattle.jr_log.proofs.Cleared.{mapped, cleared_is_none, short_is_none}
 
 -- how many bytes there are
-pub length-gated : (rs : List Record) → length (gated spelled (dated 0 rs)) ≡ sizes rs
+pub length-gated : (rs : List Record) → length (gated spelled (dated 0 rs)) ≡ sizes Two rs
 length-gated [] = refl
 length-gated (r ∷ rs) = omega (arith, length-gated rs, length-spelled (stamped 0 r), length-append (spelled (stamped 0 r)) (gated spelled (dated 0 rs)))
 
-pub length-rest : (rs : List Record) → 1 + length (rest_of rs) ≡ journal_size rs
+pub length-rest : (rs : List Record) → 1 + length (rest_of rs) ≡ journal_size Two rs
 length-rest rs = omega (arith, length-append header_rest (gated spelled (dated 0 rs) ++ 0 ∷ []), length-append (gated spelled (dated 0 rs)) (0 ∷ []), length-gated rs)
 
 pub dated_legal : (rs : List Record) → AllByRecursion IsRecord rs → AllByRecursion IsDated (dated 0 rs)
@@ -82,7 +84,7 @@ module _ (told : Option (List ℕ)) (at : ℕ) (held : List ℕ) (rest all : Lis
   pub within : ForSome told (λ content. at ≤ length content)
   within content has = omega (arith, reaches l.done content (l.laid content has), l.place)
 
-  pub few : journal_size all ≤ 2 ^ 33 → at + length held < 2 ^ 63
+  pub few : journal_size Two all ≤ 2 ^ 33 → at + length held < 2 ^ 63
   few small =
       omega (arith, l.place, ap length l.whole, length-append l.done (held ++ (gated spelled (dated 0 rest) ++ 0 ∷ [])), length-append held (gated spelled (dated 0 rest) ++ 0 ∷ []), length-rest all, small)
 
@@ -110,18 +112,22 @@ content_is rs content laid =
 
 whole_journal : (rs : List Record) (image tail : List ℕ) → AllByRecursion IsRecord rs → image ≡ 0x46 ∷ (rest_of rs ++ tail) → IsJournal image (dated 0 rs)
 whole_journal rs image tail legal is = record {
-  legal = dated_legal rs legal;
-  closed = 0;
-  is_closed = omega arith;
-  behind = tail;
-  whole = is ∙ ap (λ (xs : List ℕ). 0x46 ∷ xs) (append_assoc header_rest (gated spelled (dated 0 rs) ++ 0 ∷ []) tail)
-      ∙ ap (λ (xs : List ℕ). header ++ xs) (append_assoc (gated spelled (dated 0 rs)) (0 ∷ []) tail)
-      ∙ sym (append_assoc header (gated spelled (dated 0 rs)) (0 ∷ tail));
+  form = Two;
+  is = tt;
+  holds = record {
+    legal = dated_legal rs legal;
+    closed = 0;
+    is_closed = omega arith;
+    behind = tail;
+    whole = is ∙ ap (λ (xs : List ℕ). 0x46 ∷ xs) (append_assoc header_rest (gated spelled (dated 0 rs) ++ 0 ∷ []) tail)
+        ∙ ap (λ (xs : List ℕ). header ++ xs) (append_assoc (gated spelled (dated 0 rs)) (0 ∷ []) tail)
+        ∙ sym (append_assoc header (gated spelled (dated 0 rs)) (0 ∷ tail));
+  };
 }
 
 other_first : (b : ℕ) (tail : List ℕ) → (b ≡ 0x46 → ⊥) → IsNotFormatted (b ∷ tail)
-other_first b tail other is =
-    let first : b ∷ [] ≡ 0x46 ∷ [] = ap (take 1) is in
+other_first b tail other form has =
+    let first : b ∷ [] ≡ 0x46 ∷ [] = has_first form (b ∷ tail) has in
     other (ap (λ (xs : List ℕ). get_or xs 0 0) first)
 
 -- what is fresh is left so that the move goes on over it
@@ -174,9 +180,9 @@ pub tail_is : (rs : List Record) → take (length rs - 1) (drop 1 rs) ≡ drop 1
 tail_is rs = take_all (length rs - 1) (drop 1 rs) (omega (arith, length-drop 1 rs))
 
 -- eight bytes more for each record
-pub size_two : (rs : List Record) → journal_size rs ≡ plain_size rs + 8 * length rs
+pub size_two : (rs : List Record) → journal_size Two rs ≡ plain_size rs + 8 * length rs
 size_two rs = omega (arith, each rs)
   where
-    each : (rs : List Record) → sizes rs ≡ length (gated plain rs) + 8 * length rs
+    each : (rs : List Record) → sizes Two rs ≡ length (gated plain rs) + 8 * length rs
     each [] = refl
     each (r ∷ rs) = omega (arith, each rs, length-plain r, length-append (plain r) (gated plain rs))

@@ -3,6 +3,7 @@ use Rattle.std.specs.Prelude.{◌≡◌, ◌≢◌, ◌⊎◌, ℕ, ◌<◌, ◌
 use Rattle.jr_record.specs.declared.record.Record.{Record}
 use Rattle.jr_record.specs.Images.{IsJournal as IsPlainJournal, IsDamaged as IsPlainDamaged, IsNotFormatted as IsPlainNotFormatted}
 use Rattle.jr_dated.specs.Dated.{dated}
+use Rattle.jr_dated.specs.declared.form.Form.TheVariants.{Two}
 use Rattle.jr_dated.specs.Images.{IsJournal, IsNotFormatted, journal_size}
 use Rattle.jr_log.specs.Fresh.{IsFresh}
 use Rattle.jr_log.specs.Laid.{rest_of}
@@ -44,7 +45,7 @@ pub record IsPast (entries bytes : ℕ) (content : List ℕ) : Type 0 where
   pub records : List Record
   pub journal : IsPlainJournal content records
   pub entries_are : entries ≡ length records
-  pub bytes_are : bytes ≡ journal_size records
+  pub bytes_are : bytes ≡ journal_size Two records
   pub past : 2 ^ 33 < bytes
 
 -- All of the journal of these records stands there, each with the moment 0, but its first byte, which is neither 0 nor that of a journal: the

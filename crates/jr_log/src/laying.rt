@@ -7,6 +7,7 @@ ghost use Rattle.gw_outside.specs.Disk.{IsAllLeft};
 ghost use Rattle.gw_outside.specs.Faults.{HasCause, HasRisen};
 ghost use Rattle.jr_record.specs.Records.{IsRecord};
 ghost use Rattle.jr_dated.specs.Dated.{dated, spelled, stamped};
+ghost use Rattle.jr_dated.specs.declared.form.Form.TheVariants.{Two};
 ghost use Rattle.jr_dated.specs.Images.{journal_size, IsJournal};
 ghost use Rattle.jr_log.specs.Fresh.{AllCleared};
 ghost use Rattle.jr_log.specs.Laid.{HasLaid, Spills, LaysAll, header_rest};
@@ -15,7 +16,7 @@ ghost use Rattle.jr_log.specs.declared.faults.LayFault.TheVariants as lay_fault;
 
 use crate::faults::LayFault;
 use gw_outside::{Bytes, Disk, Failed};
-use jr_dated::write_record;
+use jr_moments::write_record;
 use jr_record::Record;
 use std::alloc::{AllocError, Global};
 
@@ -90,7 +91,7 @@ fn spill<D: Disk>(disk: &mut D, at: u64, piece: Bytes) -> Result<(u64, Bytes), F
 /// `Memory`, and `Disk` where a call of the disk failed; the first byte is 0 whatever comes.
 pub fn lay<D: Disk>(alloc: Global, disk: &mut D, records: &[Record]) -> Result<(), LayFault>
     requires legal { AllByRecursion IsRecord records.now }
-    requires small { journal_size records.now ≤ 2 ^ 33 }
+    requires small { journal_size Two records.now ≤ 2 ^ 33 }
     requires cleared { AllCleared (D.may_leave disk.old) }
     ensures laid { OnOk result (ForSome (D.told disk.new) (LaysAll records.now)) }
     ensures settled { OnOk result (IsAllLeft (D.told disk.new) (D.may_leave disk.new)) }

@@ -10,6 +10,7 @@ ghost use Rattle.jr_record.specs.Images.{journal_size as plain_size, IsJournal a
 ghost use Rattle.jr_record.specs.declared.faults.OpenFault.TheVariants as open_fault;
 ghost use Rattle.jr_log.specs.Opening.{Refuses};
 ghost use Rattle.jr_dated.specs.Dated.{dated};
+ghost use Rattle.jr_dated.specs.declared.form.Form.TheVariants.{Two};
 ghost use Rattle.jr_dated.specs.Images.{journal_size, IsJournal};
 ghost use Rattle.jr_log.specs.Fresh.{AllCleared, IsFresh, IsUsed};
 ghost use Rattle.jr_log.specs.Migrates.{IsBehindOld, IsLeft, IsOfNew, IsPast, LeavesWhole, OnUnwritten, RefusesOld};
@@ -87,7 +88,7 @@ fn prepare<D: Disk>(disk: &mut D, entries: u64, bytes: u64) -> Result<(), Migrat
 /// Writes a journal of these records to a disk whose first byte is 0 in every image, that byte last.
 fn write_whole<D: Disk>(alloc: Global, disk: &mut D, records: &[Record]) -> Result<(), MigrateFault>
     requires legal { AllByRecursion IsRecord records.now }
-    requires small { journal_size records.now ≤ 2 ^ 33 }
+    requires small { journal_size Two records.now ≤ 2 ^ 33 }
     requires cleared { AllCleared (D.may_leave disk.old) }
     ensures ok { OnOk result ((image : List ℕ) → D.may_leave disk.new image → IsJournal image (dated 0 records.now)) }
     ensures left { (image : List ℕ) → D.may_leave disk.new image → IsLeft records.now image }
@@ -124,7 +125,7 @@ pub fn migrate<A: Disk, B: Disk>(
     ensures unwritten { A.told old.new ≡ A.told old.old }
     ensures unwritten_images { (image : List ℕ) → A.may_leave old.new image → A.may_leave old.old image }
     ensures ok { OnOk result ((moved : List records.Record) × ForSome (A.told old.old) (λ content. IsPlainJournal content moved)
-        × (journal_size moved ≤ 2 ^ 33) × ((image : List ℕ) → B.may_leave new.new image → IsJournal image (dated 0 moved))) }
+        × (journal_size Two moved ≤ 2 ^ 33) × ((image : List ℕ) → B.may_leave new.new image → IsJournal image (dated 0 moved))) }
     ensures fresh { OnOk result (ForSome (B.told new.old) IsFresh) }
     ensures left { ForSome (B.told new.old) IsFresh → ForSome (A.told old.old) (LeavesWhole (B.may_leave new.old) (B.may_leave new.new)) }
     ensures refused { IfErr result (λ fault. ForSome (A.told old.old) (RefusesOld fault)) }
@@ -155,13 +156,13 @@ fn move_records<D: Disk>(alloc: Global, found: &Found, disk: &mut D) -> Result<(
     requires sized { found.now.size ≡ plain_size found.now.records.items }
     requires bound { found.now.size ≤ 2 ^ 41 }
     ensures ok { OnOk result ((image : List ℕ) → D.may_leave disk.new image → IsJournal image (dated 0 found.now.records.items)) }
-    ensures within { OnOk result (journal_size found.now.records.items ≤ 2 ^ 33) }
+    ensures within { OnOk result (journal_size Two found.now.records.items ≤ 2 ^ 33) }
     ensures fresh { OnOk result (ForSome (D.told disk.old) IsFresh) }
     ensures left { ForSome (D.told disk.old) IsFresh → (image : List ℕ) → D.may_leave disk.new image
         → IsLeft found.now.records.items image ⊎ D.may_leave disk.old image }
     ensures stale { IsErrOf result migrate_fault.NotFresh → ForSome (D.told disk.old) IsUsed }
     ensures full { (entries bytes : ℕ) → result ≡ Err (migrate_fault.Full entries bytes) → ForSome (D.told disk.old) IsFresh
-        × (entries ≡ length found.now.records.items) × (bytes ≡ journal_size found.now.records.items) × (2 ^ 33 < bytes) }
+        × (entries ≡ length found.now.records.items) × (bytes ≡ journal_size Two found.now.records.items) × (2 ^ 33 < bytes) }
     ensures own { IfErr result IsOfNew }
     ensures used { ForSome (D.told disk.old) (λ content. IsUsed content → D.told disk.new ≡ D.told disk.old) }
     ensures used_images { ForSome (D.told disk.old) (λ content. IsUsed content → (image : List ℕ) → D.may_leave disk.new image → D.may_leave disk.old image) }

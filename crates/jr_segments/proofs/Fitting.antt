@@ -26,25 +26,25 @@ pub begin : (limits : Limits) (size room : ℕ) (records : List Record) → room
 begin limits size room records is legal = record { taken = []; grown = size; split = refl; fits = refl; left = is; legal = legal }
 
 module _ (limits : Limits) (size room : ℕ) (records behind : List Record) (r : Record) (looked : Looked limits size room records (r ∷ behind)) where
-  test_is : (past : Bool) → past ≡ (not (is_control r) && nat_lt room (record_size r)) → (not (is_control r) && nat_lt limits.bytes (looked.grown + record_size r)) ≡ past
-  test_is past is = ap (λ (b : Bool). not (is_control r) && b) (sym (same_test limits.bytes looked.grown room (record_size r) (omega arith) looked.left)) ∙ sym is
+  test_is : (past : Bool) → past ≡ (not (is_control r) && nat_lt room (record_size limits.form r)) → (not (is_control r) && nat_lt limits.bytes (looked.grown + record_size limits.form r)) ≡ past
+  test_is past is = ap (λ (b : Bool). not (is_control r) && b) (sym (same_test limits.bytes looked.grown room (record_size limits.form r) (omega arith) looked.left)) ∙ sym is
 
   -- one more fits
-  pub one_more : (past : Bool) (next : ℕ) → past ≡ (not (is_control r) && nat_lt room (record_size r)) → past ≡ false → next ≡ room - record_size r → Looked limits size next records behind
+  pub one_more : (past : Bool) (next : ℕ) → past ≡ (not (is_control r) && nat_lt room (record_size limits.form r)) → past ≡ false → next ≡ room - record_size limits.form r → Looked limits size next records behind
   one_more past next is fits left = record {
     taken = looked.taken ++ r ∷ [];
-    grown = looked.grown + record_size r;
+    grown = looked.grown + record_size limits.form r;
     split = looked.split ∙ sym (append_assoc looked.taken (r ∷ []) behind);
     fits =
         looked.fits
-        ∙ ap (λ (b : Bool). looked.taken ++ (if b then [] else r ∷ fitting limits (looked.grown + record_size r) behind)) (test_is past is ∙ fits)
-        ∙ sym (append_assoc looked.taken (r ∷ []) (fitting limits (looked.grown + record_size r) behind));
+        ∙ ap (λ (b : Bool). looked.taken ++ (if b then [] else r ∷ fitting limits (looked.grown + record_size limits.form r) behind)) (test_is past is ∙ fits)
+        ∙ sym (append_assoc looked.taken (r ∷ []) (fitting limits (looked.grown + record_size limits.form r) behind));
     left = omega (arith, left, looked.left);
     legal = looked.legal.1;
   }
 
   -- this one does not
-  pub none_more : (past : Bool) (count : ℕ) → past ≡ (not (is_control r) && nat_lt room (record_size r)) → past ≡ true → count ≡ length records - length (r ∷ behind)
+  pub none_more : (past : Bool) (count : ℕ) → past ≡ (not (is_control r) && nat_lt room (record_size limits.form r)) → past ≡ true → count ≡ length records - length (r ∷ behind)
       → (count ≤ length records) × (take count records ≡ fitting limits size records)
   none_more past count is over counted =
       let sizes_are : length records ≡ length looked.taken + length (r ∷ behind) = ap length looked.split ∙ length-append looked.taken (r ∷ behind) in
@@ -52,7 +52,7 @@ module _ (limits : Limits) (size room : ℕ) (records behind : List Record) (r :
         omega (arith, sizes_are, counted),
         ap (λ (rs : List Record). take count rs) looked.split ∙ take_at looked.taken (r ∷ behind) count whole
             ∙ sym (looked.fits
-            ∙ ap (λ (b : Bool). looked.taken ++ (if b then [] else r ∷ fitting limits (looked.grown + record_size r) behind)) (test_is past is ∙ over)
+            ∙ ap (λ (b : Bool). looked.taken ++ (if b then [] else r ∷ fitting limits (looked.grown + record_size limits.form r) behind)) (test_is past is ∙ over)
             ∙ append-nil looked.taken),
       )
 

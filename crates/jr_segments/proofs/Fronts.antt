@@ -7,9 +7,11 @@ use Rattle.jr_record.specs.declared.record.Record.{Record}
 use Rattle.jr_record.specs.Records.{IsRecord}
 use Rattle.jr_record.specs.Images.{gated}
 use Rattle.jr_segments.specs.Behind.{IsClosedBehind, GoesOn}
-use Rattle.jr_dated.specs.Dated.{Dated, IsDated, spelled, dated, undated, latest_of}
-use Rattle.jr_dated.specs.Images.{header, IsJournal, record_size, sizes}
-use Rattle.jr_dated.proofs.Spelling.{length-spelled}
+use Rattle.jr_dated.specs.declared.form.Form.{Form}
+use Rattle.jr_dated.specs.declared.form.Form.TheVariants.{Two, Three}
+use Rattle.jr_dated.specs.Dated.{Dated, IsDated, dated, undated, latest_of}
+use Rattle.jr_dated.specs.Images.{HoldsIn, closing, header_of, spelled_in, record_size, sizes}
+use Rattle.jr_dated.proofs.Sizes.{size_is}
 use Rattle.jr_segments.specs.Opening.{places_by}
 use Rattle.jr_segments.specs.Resting.{front_of, places_from}
 use Rattle.jr_segments.specs.Crossing.{all-append}
@@ -43,35 +45,6 @@ pub latest_within : (h : List Dated) (m : ℕ) → latest_of h ≤ m → AllByRe
 latest_within [] m within = tt
 latest_within (d ∷ h) m within = (omega arith, latest_within h m (omega arith))
 
--- the bytes of records, with their gates
-pub length-gated : (h : List Dated) → length (gated spelled h) ≡ sizes (undated h)
-length-gated [] = refl
-length-gated (d ∷ h) = omega (arith, length-gated h, length-spelled d, length-append (spelled d) (gated spelled h))
-
--- the places of dated records are those of the records
-pub places_are : (at : ℕ) (h : List Dated) → places_by spelled at h ≡ places_from at (undated h)
-places_are at [] = refl
-places_are at (d ∷ h) =
-    let next : at + (1 + length (spelled d)) ≡ at + record_size d.what = omega (arith, length-spelled d) in
-    ap (λ (ns : List ℕ). at ∷ ns) (ap (λ (n : ℕ). places_by spelled n h) next ∙ places_are (at + record_size d.what) h)
-
-pub places_from-append : (at : ℕ) (rs ss : List Record) → places_from at (rs ++ ss) ≡ places_from at rs ++ places_from (at + sizes rs) ss
-places_from-append at [] ss = ap (λ (n : ℕ). places_from n ss) (omega arith)
-places_from-append at (r ∷ rs) ss =
-    let next : at + record_size r + sizes rs ≡ at + sizes (r ∷ rs) = omega arith in
-    ap (λ (ns : List ℕ). at ∷ ns) (places_from-append (at + record_size r) rs ss ∙ ap (λ (n : ℕ). places_from (at + record_size r) rs ++ places_from n ss) next)
-
-pub sizes-append : (rs ss : List Record) → sizes (rs ++ ss) ≡ sizes rs + sizes ss
-sizes-append [] ss = omega arith
-sizes-append (r ∷ rs) ss = omega (arith, sizes-append rs ss)
-
-pub undated-append : (h k : List Dated) → undated (h ++ k) ≡ undated h ++ undated k
-undated-append [] k = refl
-undated-append (d ∷ h) k = ap (λ (rs : List Record). d.what ∷ rs) (undated-append h k)
-
-pub length-front_of : (h : List Dated) → length (front_of h) ≡ 16 + length (gated spelled h)
-length-front_of h = omega (arith, length-append header (gated spelled h))
-
 -- records with one moment
 pub undated-dated : (m : ℕ) (rs : List Record) → undated (dated m rs) ≡ rs
 undated-dated m [] = refl
@@ -89,43 +62,89 @@ pub dated_within : (m : ℕ) (rs : List Record) → AllByRecursion (λ (d : Date
 dated_within m [] = tt
 dated_within m (r ∷ rs) = (omega arith, dated_within m rs)
 
-pub length-gated-dated : (m : ℕ) (rs : List Record) → length (gated spelled (dated m rs)) ≡ sizes rs
-length-gated-dated m rs = length-gated (dated m rs) ∙ ap sizes (undated-dated m rs)
+pub undated-append : (h k : List Dated) → undated (h ++ k) ≡ undated h ++ undated k
+undated-append [] k = refl
+undated-append (d ∷ h) k = ap (λ (rs : List Record). d.what ∷ rs) (undated-append h k)
 
--- each record takes fourteen bytes at least
-pub sizes_least : (rs : List Record) → 14 * length rs ≤ sizes rs
-sizes_least [] = omega arith
-sizes_least (r ∷ rs) = omega (arith, sizes_least rs)
+-- what is written behind the records begins with the closed byte, which stands alone or before another zero
+pub closed_first : (form : Form) → (behind : List ℕ) × (closing form ≡ 0 ∷ behind)
+closed_first Two = ([], refl)
+closed_first (Three title) = (0 ∷ [], refl)
 
-pub two_each : (h : List Dated) → 2 * length h ≤ sizes (undated h)
-two_each [] = omega arith
-two_each (d ∷ h) = omega (arith, two_each h)
+module _ (form : Form) where
+  abbrev spell : Dated → List ℕ
+  spell = spelled_in form
 
--- an image that holds records is closed behind them
-pub holds_closed : (h : List Dated) (image : List ℕ) → IsJournal image h → IsClosedBehind (front_of h) image
-holds_closed h image holds =
-    record {
-      begins = ap (λ (xs : List ℕ). take (length (front_of h)) xs) holds.whole ∙ take_at (front_of h) (holds.closed ∷ holds.behind) (length (front_of h)) refl;
-      longer = omega (arith, ap length holds.whole, length-append (front_of h) (holds.closed ∷ holds.behind));
-      closed = λ is_open. holds.is_closed (sym (get_or_at (front_of h) holds.closed holds.behind 0 (length (front_of h)) refl) ∙ ap (λ (xs : List ℕ). get_or xs (length (front_of h)) 0) (sym holds.whole) ∙ is_open);
-    }
+  -- the bytes of records, with their gates
+  pub length-gated : (h : List Dated) → length (gated spell h) ≡ sizes form (undated h)
+  length-gated [] = refl
+  length-gated (d ∷ h) = omega (arith, length-gated h, size_is form d, length-append (spell d) (gated spell h))
 
--- one that goes on with more records, and a closed byte, holds these too
-pub goes_on_holds : (h batch : List Dated) (bytes image : List ℕ) → AllByRecursion IsDated h → AllByRecursion IsDated batch
-    → bytes ≡ gated spelled batch ++ 0 ∷ [] → GoesOn (front_of h) bytes image → IsJournal image (h ++ batch)
-goes_on_holds h batch bytes image all_h all_batch is goes_on = record {
-  legal = all-append IsDated h batch all_h all_batch;
-  closed = 0;
-  is_closed = omega arith;
-  behind = goes_on.behind;
-  whole = goes_on.whole
-      ∙ ap (λ (xs : List ℕ). front_of h ++ (xs ++ goes_on.behind)) is
-      ∙ ap (λ (xs : List ℕ). front_of h ++ xs) (append_assoc (gated spelled batch) (0 ∷ []) goes_on.behind)
-      ∙ sym (append_assoc (front_of h) (gated spelled batch) (0 ∷ goes_on.behind))
-      ∙ ap (λ (xs : List ℕ). xs ++ (0 ∷ goes_on.behind)) (append_assoc header (gated spelled h) (gated spelled batch) ∙ ap (λ (xs : List ℕ). header ++ xs) (sym (gated-append spelled h batch)));
-}
+  -- the places of dated records are those of the records
+  pub places_are : (at : ℕ) (h : List Dated) → places_by spell at h ≡ places_from form at (undated h)
+  places_are at [] = refl
+  places_are at (d ∷ h) =
+      let next : at + (1 + length (spell d)) ≡ at + record_size form d.what = omega (arith, size_is form d) in
+      ap (λ (ns : List ℕ). at ∷ ns) (ap (λ (n : ℕ). places_by spell n h) next ∙ places_are (at + record_size form d.what) h)
 
--- the first of some records begins with its gate
-pub first_gate : (batch : List Dated) (bytes : List ℕ) → 0 < length batch → bytes ≡ gated spelled batch ++ 0 ∷ [] → take 1 bytes ≡ 1 ∷ []
-first_gate [] bytes some is = absurd (omega arith)
-first_gate (d ∷ batch) bytes some is = ap (λ (xs : List ℕ). take 1 xs) is
+  pub places_from-append : (at : ℕ) (rs ss : List Record) → places_from form at (rs ++ ss) ≡ places_from form at rs ++ places_from form (at + sizes form rs) ss
+  places_from-append at [] ss = ap (λ (n : ℕ). places_from form n ss) (omega arith)
+  places_from-append at (r ∷ rs) ss =
+      let next : at + record_size form r + sizes form rs ≡ at + sizes form (r ∷ rs) = omega arith in
+      ap (λ (ns : List ℕ). at ∷ ns) (places_from-append (at + record_size form r) rs ss ∙ ap (λ (n : ℕ). places_from form (at + record_size form r) rs ++ places_from form n ss) next)
+
+  pub sizes-append : (rs ss : List Record) → sizes form (rs ++ ss) ≡ sizes form rs + sizes form ss
+  sizes-append [] ss = omega arith
+  sizes-append (r ∷ rs) ss = omega (arith, sizes-append rs ss)
+
+  pub length-front_of : (h : List Dated) → length (front_of form h) ≡ length (header_of form) + length (gated spell h)
+  length-front_of h = length-append (header_of form) (gated spell h)
+
+  pub length-gated-dated : (m : ℕ) (rs : List Record) → length (gated spell (dated m rs)) ≡ sizes form rs
+  length-gated-dated m rs = length-gated (dated m rs) ∙ ap (λ (xs : List Record). sizes form xs) (undated-dated m rs)
+
+  -- each record takes fourteen bytes at least
+  pub sizes_least : (rs : List Record) → 14 * length rs ≤ sizes form rs
+  sizes_least [] = omega arith
+  sizes_least (r ∷ rs) = omega (arith, sizes_least rs)
+
+  pub two_each : (h : List Dated) → 2 * length h ≤ sizes form (undated h)
+  two_each [] = omega arith
+  two_each (d ∷ h) = omega (arith, two_each h)
+
+  -- an image that holds records is closed behind them
+  pub holds_closed : (h : List Dated) (image : List ℕ) → HoldsIn form image h → IsClosedBehind (front_of form h) image
+  holds_closed h image holds =
+      let front = front_of form h in
+      record {
+        begins = ap (λ (xs : List ℕ). take (length front) xs) holds.whole ∙ take_at front (holds.closed ∷ holds.behind) (length front) refl;
+        longer = omega (arith, ap length holds.whole, length-append front (holds.closed ∷ holds.behind));
+        closed = λ is_open. holds.is_closed (sym (get_or_at front holds.closed holds.behind 0 (length front) refl) ∙ ap (λ (xs : List ℕ). get_or xs (length front) 0) (sym holds.whole) ∙ is_open);
+      }
+
+  -- one that goes on with more records, and what closes them, holds these too, and begins so
+  pub goes_on_whole : (h batch : List Dated) (bytes image : List ℕ) → bytes ≡ gated spell batch ++ closing form → (goes_on : GoesOn (front_of form h) bytes image)
+      → image ≡ front_of form (h ++ batch) ++ (closing form ++ goes_on.behind)
+  goes_on_whole h batch bytes image is goes_on =
+      goes_on.whole
+      ∙ ap (λ (xs : List ℕ). front_of form h ++ (xs ++ goes_on.behind)) is
+      ∙ ap (λ (xs : List ℕ). front_of form h ++ xs) (append_assoc (gated spell batch) (closing form) goes_on.behind)
+      ∙ sym (append_assoc (front_of form h) (gated spell batch) (closing form ++ goes_on.behind))
+      ∙ ap (λ (xs : List ℕ). xs ++ (closing form ++ goes_on.behind))
+          (append_assoc (header_of form) (gated spell h) (gated spell batch) ∙ ap (λ (xs : List ℕ). header_of form ++ xs) (sym (gated-append spell h batch)))
+
+  pub goes_on_holds : (h batch : List Dated) (bytes image : List ℕ) → AllByRecursion IsDated h → AllByRecursion IsDated batch
+      → bytes ≡ gated spell batch ++ closing form → GoesOn (front_of form h) bytes image → HoldsIn form image (h ++ batch)
+  goes_on_holds h batch bytes image all_h all_batch is goes_on =
+      let first = closed_first form in record {
+        legal = all-append IsDated h batch all_h all_batch;
+        closed = 0;
+        is_closed = omega arith;
+        behind = first.0 ++ goes_on.behind;
+        whole = goes_on_whole h batch bytes image is goes_on ∙ ap (λ (xs : List ℕ). front_of form (h ++ batch) ++ (xs ++ goes_on.behind)) first.1;
+      }
+
+  -- the first of some records begins with its gate
+  pub first_gate : (batch : List Dated) (bytes : List ℕ) → 0 < length batch → bytes ≡ gated spell batch ++ closing form → take 1 bytes ≡ 1 ∷ []
+  first_gate [] bytes some is = absurd (omega arith)
+  first_gate (d ∷ batch) bytes some is = ap (λ (xs : List ℕ). take 1 xs) is

@@ -6,6 +6,7 @@ use Rattle.std.proofs.Props.{props}
 use Rattle.std.proofs.lemmas.List.{append-nil}
 use Rattle.session_model.specs.Lives.{IsImage}
 use Rattle.jr_segments.specs.Behind.{IsClosedBehind, AllClosed}
+use Rattle.jr_dated.specs.declared.form.Form.{Form}
 use Rattle.jr_dated.specs.Dated.{Dated}
 use Rattle.jr_dated.specs.Images.{IsJournal, Leaves}
 use Rattle.jr_dated.proofs.Verdicts.{at_most_one_verdict}
@@ -35,9 +36,9 @@ closed_prop : (front image : List ℕ) → IsProp (IsClosedBehind front image)
 closed_prop front image = hlevel props
 
 -- and where each image has some records alone, each content is closed behind them
-pub closed_by : (places : List ℕ) (size moment : ℕ) (may_leave : List ℕ → Type 0) (h : List Dated) → SomeRest places size moment may_leave
-    → ((o : Option (List Dated)) → Leaves may_leave o → IsSomeAnd o (IsImage h [])) → AllClosed (front_of h) may_leave
-closed_by places size moment may_leave h some images image left = ∥∥₁_elim some (closed_prop (front_of h) image) (λ found.
+pub closed_by : (form : Form) (places : List ℕ) (size moment : ℕ) (may_leave : List ℕ → Type 0) (h : List Dated) → SomeRest form places size moment may_leave
+    → ((o : Option (List Dated)) → Leaves may_leave o → IsSomeAnd o (IsImage h [])) → AllClosed (front_of form h) may_leave
+closed_by form places size moment may_leave h some images image left = ∥∥₁_elim some (closed_prop (front_of form h) image) (λ found.
     let closed = found.1.closed image left in
-    let is = images (Some found.0) (image, left, closed_holds found.0 image found.1.keeps.legal closed) in
-    subst (λ (ds : List Dated). IsClosedBehind (front_of ds) image) (same_image h found.0 is) closed)
+    let is = images (Some found.0) (image, left, closed_holds form found.1.keeps.formed found.0 image found.1.keeps.legal closed) in
+    subst (λ (ds : List Dated). IsClosedBehind (front_of form ds) image) (same_image h found.0 is) closed)

@@ -3,8 +3,8 @@ use Rattle.std.proofs.Common.{◌≡◌, inl, inr, ◌⊎◌, ℕ, ◌+◌, ◌<
 use Rattle.std.proofs.lemmas.Bool.{cases_eq}
 use Rattle.std.proofs.lemmas.List.{take_at, drop_at, drop_more, take_more, take-take, get_or-take}
 use Rattle.std.specs.Option.{option_map}
-use Rattle.gw_outside.specs.Disk.{written, Torn, Follows, IsAllLeft}
-use Rattle.jr_segments.specs.Behind.{IsClosedBehind, GoesOn, AllClosed}
+use Rattle.gw_outside.specs.Disk.{written, Torn, Follows, IsAllLeft, LeavesSame}
+use Rattle.jr_segments.specs.Behind.{IsClosedBehind, GoesOn, AllClosed, SameBelow}
 
 -- what was told is the step of what was told before
 pub mapped : {A B : Type 0} (f : A → B) (old : Option A) (new : B) → option_map f old ≡ Some new → (before : A) × (old ≡ Some before) × (f before ≡ new)
@@ -115,3 +115,26 @@ module _ (front gate behind bytes : List ℕ) (at : ℕ) (place : at ≡ length 
       let is : written at (1 ∷ []) before.0 ≡ image = ap (λ (xs : List ℕ). written at xs before.0) (sym gated.0) ∙ before.2 in
       subst (λ (xs : List ℕ). GoesOn front xs image) gated.1
       (subst (GoesOn front (1 ∷ behind)) is (gate_written front behind before.0 at place (staged before.0 before.1)))
+
+-- ---- below the place of a write nothing changes
+
+module _ (at : ℕ) where
+  pub below_torn : (m n : ℕ) (old new : List ℕ → Type 0) → at ≤ m → Follows (Torn m n) old new → SameBelow at old new
+  below_torn m n old new within torn image left =
+      let found = torn image left in (
+        found.0,
+        found.1,
+        sym (take-take at m image within) ∙ ap (λ (xs : List ℕ). take at xs) found.2.before ∙ take-take at m found.0 within,
+      )
+
+  pub below_settled : (told : Option (List ℕ)) (old new : List ℕ → Type 0) → ((content : List ℕ) → told ≡ Some content → old content) → IsAllLeft told new → SameBelow at old new
+  below_settled told old new left_is settled image left = (image, left_is image (settled image left), refl)
+
+  pub below_same : (old new : List ℕ → Type 0) → LeavesSame old new → SameBelow at old new
+  below_same old new same image left = (image, (same image).0 left, refl)
+
+  pub below_twice : (old mid new : List ℕ → Type 0) → SameBelow at old mid → SameBelow at mid new → SameBelow at old new
+  below_twice old mid new first second image left =
+      let later = second image left in
+      let sooner = first later.0 later.1 in
+      (sooner.0, sooner.1, later.2 ∙ sooner.2)

@@ -15,3 +15,7 @@ pub record GoesOn (front added image : List ℕ) : Type 0 where
 -- each content that a stop may leave is closed behind the front
 abbrev pub AllClosed : List ℕ → (List ℕ → Type 0) → Type 0
 AllClosed front may_leave = (image : List ℕ) → may_leave image → IsClosedBehind front image
+
+-- each content that a stop may leave has, below this place, what one has that it might have left before
+abbrev pub SameBelow : ℕ → (old new : List ℕ → Type 0) → Type 0
+SameBelow at old new = (image : List ℕ) → new image → (before : List ℕ) × old before × (take at image ≡ take at before)

@@ -1,11 +1,12 @@
 -- Of two lists of records that stand at the same places, the beginning of one and the rest of the other stand there too.
-use Rattle.std.proofs.Common.{◌≡◌, ℕ, zero, suc, ◌+◌, ◌≤◌, List, [], ◌∷◌, ◌++◌, take, drop, Option, Some, None, IsSomeAnd, refl, sym, ◌∙◌, ap, subst, arith, take-append-drop}
+use Rattle.std.proofs.Common.{◌≡◌, ℕ, zero, suc, ◌+◌, ◌≤◌, List, [], ◌∷◌, ◌++◌, take, drop, length, Option, Some, None, IsSomeAnd, refl, sym, ◌∙◌, ap, subst, arith, take-append-drop}
 use Rattle.std.specs.List.{AllByRecursion}
 use Rattle.std.specs.Option.{ForSome}
 use Rattle.session_model.specs.Lives.{IsImage}
 use Rattle.jr_record.specs.declared.record.Record.{Record}
+use Rattle.jr_dated.specs.declared.form.Form.{Form}
 use Rattle.jr_dated.specs.Dated.{Dated, IsDated, undated}
-use Rattle.jr_dated.specs.Images.{IsJournal, Leaves, record_size, sizes}
+use Rattle.jr_dated.specs.Images.{IsJournal, Leaves, header_of, record_size, sizes}
 use Rattle.jr_dated.proofs.Verdicts.{at_most_one_verdict}
 use Rattle.jr_segments.specs.Resting.{Keeps, places_from}
 
@@ -15,31 +16,31 @@ all-append P [] k all_h all_k = all_k
 all-append P (d ∷ h) k all_h all_k = (all_h.0, all-append P h k all_h.1 all_k)
 
 -- the first of records that stand at the same places, and take as many bytes in all, takes as many
-same_first : (at : ℕ) (r s : Record) (rs ss : List Record) → places_from at (r ∷ rs) ≡ places_from at (s ∷ ss)
-    → sizes (r ∷ rs) ≡ sizes (s ∷ ss) → record_size r ≡ record_size s
-same_first at r s [] [] places all = omega (arith, all)
-same_first at r s [] (u ∷ ss) places all = absurd (cc)
-same_first at r s (t ∷ rs) [] places all = absurd (cc)
-same_first at r s (t ∷ rs) (u ∷ ss) places all = let heads : at + record_size r ≡ at + record_size s = cc in omega (arith, heads)
+same_first : (form : Form) (at : ℕ) (r s : Record) (rs ss : List Record) → places_from form at (r ∷ rs) ≡ places_from form at (s ∷ ss)
+    → sizes form (r ∷ rs) ≡ sizes form (s ∷ ss) → record_size form r ≡ record_size form s
+same_first form at r s [] [] places all = omega (arith, all)
+same_first form at r s [] (u ∷ ss) places all = absurd (cc)
+same_first form at r s (t ∷ rs) [] places all = absurd (cc)
+same_first form at r s (t ∷ rs) (u ∷ ss) places all = let heads : at + record_size form r ≡ at + record_size form s = cc in omega (arith, heads)
 
 -- records at these places, and as many bytes
-record Alike (at : ℕ) (h k : List Dated) : Type 0 where
-  places : places_from at (undated h) ≡ places_from at (undated k)
-  bytes : sizes (undated h) ≡ sizes (undated k)
+record Alike (form : Form) (at : ℕ) (h k : List Dated) : Type 0 where
+  places : places_from form at (undated h) ≡ places_from form at (undated k)
+  bytes : sizes form (undated h) ≡ sizes form (undated k)
 
-alike_behind : (at : ℕ) (d e : Dated) (h k : List Dated) → Alike at (d ∷ h) (e ∷ k) → Alike (at + record_size d.what) h k
-alike_behind at d e h k alike =
-    let same = same_first at d.what e.what (undated h) (undated k) alike.places alike.bytes in
-    let tails : places_from (at + record_size d.what) (undated h) ≡ places_from (at + record_size e.what) (undated k) = let places = alike.places in cc in
-    record { places = tails ∙ ap (λ (n : ℕ). places_from (at + n) (undated k)) (sym same); bytes = omega (arith, alike.bytes, same) }
+alike_behind : (form : Form) (at : ℕ) (d e : Dated) (h k : List Dated) → Alike form at (d ∷ h) (e ∷ k) → Alike form (at + record_size form d.what) h k
+alike_behind form at d e h k alike =
+    let same = same_first form at d.what e.what (undated h) (undated k) alike.places alike.bytes in
+    let tails : places_from form (at + record_size form d.what) (undated h) ≡ places_from form (at + record_size form e.what) (undated k) = let places = alike.places in cc in
+    record { places = tails ∙ ap (λ (n : ℕ). places_from form (at + n) (undated k)) (sym same); bytes = omega (arith, alike.bytes, same) }
 
-crossed_alike : (n at : ℕ) (h k : List Dated) → Alike at h k → Alike at (take n h ++ drop n k) h
-crossed_alike zero at h k alike = record { places = sym alike.places; bytes = sym alike.bytes }
-crossed_alike (suc n) at [] [] alike = record { places = refl; bytes = refl }
-crossed_alike (suc n) at [] (e ∷ k) alike = absurd (let places = alike.places in cc)
-crossed_alike (suc n) at (d ∷ h) [] alike = absurd (let places = alike.places in cc)
-crossed_alike (suc n) at (d ∷ h) (e ∷ k) alike =
-    let rest = crossed_alike n (at + record_size d.what) h k (alike_behind at d e h k alike) in
+crossed_alike : (form : Form) (n at : ℕ) (h k : List Dated) → Alike form at h k → Alike form at (take n h ++ drop n k) h
+crossed_alike form zero at h k alike = record { places = sym alike.places; bytes = sym alike.bytes }
+crossed_alike form (suc n) at [] [] alike = record { places = refl; bytes = refl }
+crossed_alike form (suc n) at [] (e ∷ k) alike = absurd (let places = alike.places in cc)
+crossed_alike form (suc n) at (d ∷ h) [] alike = absurd (let places = alike.places in cc)
+crossed_alike form (suc n) at (d ∷ h) (e ∷ k) alike =
+    let rest = crossed_alike form n (at + record_size form d.what) h k (alike_behind form at d e h k alike) in
     record { places = ap (λ (ns : List ℕ). at ∷ ns) rest.places; bytes = omega (arith, rest.bytes) }
 
 all_taken : (P : Dated → Type 0) (n : ℕ) (h : List Dated) → AllByRecursion P h → AllByRecursion P (take n h)
@@ -56,11 +57,12 @@ all_crossed : (P : Dated → Type 0) (n : ℕ) (h k : List Dated) → AllByRecur
 all_crossed P n h k all_h all_k = all-append P (take n h) (drop n k) (all_taken P n h all_h) (all_left P n k all_k)
 
 -- what is kept of both is kept of the two together
-pub keeps_crossed : (places : List ℕ) (size moment n : ℕ) (h k : List Dated) → Keeps places size moment h → Keeps places size moment k
-    → Keeps places size moment (take n h ++ drop n k)
-keeps_crossed places size moment n h k of_h of_k =
-    let alike = crossed_alike n 16 h k (record { places = sym of_h.places_are ∙ of_k.places_are; bytes = omega (arith, of_h.sized, of_k.sized) }) in
+pub keeps_crossed : (form : Form) (places : List ℕ) (size moment n : ℕ) (h k : List Dated) → Keeps form places size moment h → Keeps form places size moment k
+    → Keeps form places size moment (take n h ++ drop n k)
+keeps_crossed form places size moment n h k of_h of_k =
+    let alike = crossed_alike form n (length (header_of form)) h k (record { places = sym of_h.places_are ∙ of_k.places_are; bytes = omega (arith, of_h.sized, of_k.sized) }) in
     record {
+      formed = of_h.formed;
       legal = all_crossed IsDated n h k of_h.legal of_k.legal;
       places_are = of_h.places_are ∙ sym alike.places;
       sized = omega (arith, of_h.sized, alike.bytes);

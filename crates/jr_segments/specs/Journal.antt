@@ -8,11 +8,12 @@ use Rattle.gw_outside.specs.Faults.{HasRisen}
 use Rattle.jr_record.specs.declared.record.Record.{Record}
 use Rattle.jr_segments.specs.Behind.{AllClosed}
 use Rattle.jr_dated.specs.declared.limits.Limits.{Limits}
+use Rattle.jr_dated.specs.declared.form.Form.{Form}
 use Rattle.jr_dated.specs.Dated.{Dated, IsDated, dated, undated, latest_of}
 use Rattle.jr_dated.specs.Images.{IsJournal, Leaves, sizes, journal_size}
 use Rattle.jr_dated.specs.Journals.{Holds}
 use Rattle.jr_places.specs.Numbers.{numbers_of}
-use Rattle.jr_segments.specs.Resting.{Keeps, Rests, front_of, places_from}
+use Rattle.jr_segments.specs.Resting.{AllUncut, Keeps, Rests, front_of, places_from}
 use Rattle.jr_segments.specs.declared.journal.SegJournal.{SegJournal}
 
 -- its disk, its limits, its moment, and whether a call of its disk has failed
@@ -21,6 +22,10 @@ disk_of j = j.disk
 
 abbrev pub limits_of : {D : Type 0} {G : Ghosts D} → SegJournal D G → Limits
 limits_of j = j.limits
+
+-- its form: what it begins with, and how its records are written
+abbrev pub form_of : {D : Type 0} {G : Ghosts D} → SegJournal D G → Form
+form_of j = j.limits.form
 
 abbrev pub moment_of : {D : Type 0} {G : Ghosts D} → SegJournal D G → ℕ
 moment_of j = j.moment
@@ -34,7 +39,7 @@ count_of j = length (numbers_of j.places)
 
 -- it rests on these records: they stand at its places, and each content that a stop may leave is closed behind them
 abbrev pub RestsOn : {D : Type 0} {G : Ghosts D} → SegJournal D G → List Dated → Type 0
-RestsOn {D} {G} j h = Rests (numbers_of j.places) j.size j.moment (G.may_leave j.disk) h
+RestsOn {D} {G} j h = Rests j.limits.form (numbers_of j.places) j.size j.moment (G.may_leave j.disk) h
 
 -- these records, with another in the place of the one at an index
 abbrev pub instead : ℕ → Dated → List Dated → List Dated
@@ -54,7 +59,7 @@ pub record OnlyRead {D : Type 0} {G : Ghosts D} (old new : SegJournal D G) : Typ
 -- It stands for each list of records whose gates stand at its places; while no write has failed, for that alone which the
 -- content is, where it is told
 pub record StandsFor {D : Type 0} {G : Ghosts D} (j : SegJournal D G) (h : List Dated) : Type 0 where
-  pub keeps : Keeps (numbers_of j.places) j.size j.moment h
+  pub keeps : Keeps j.limits.form (numbers_of j.places) j.size j.moment h
   pub told : j.torn ≡ false → ForSome (G.told j.disk) (λ content. IsJournal content h)
 
 -- and leaves what its disk may leave
@@ -80,14 +85,14 @@ pub record IsSame {D : Type 0} {G : Ghosts D} (old new : SegJournal D G) : Type 
 
 -- the records were added, and no call of the disk failed
 pub record HasAdded {D : Type 0} {G : Ghosts D} (old new : SegJournal D G) (rs : List Record) : Type 0 where
-  pub places : numbers_of new.places ≡ numbers_of old.places ++ places_from (old.size - 1) rs
-  pub size : new.size ≡ old.size + sizes rs
+  pub places : numbers_of new.places ≡ numbers_of old.places ++ places_from old.limits.form (old.size - 1) rs
+  pub size : new.size ≡ old.size + sizes old.limits.form rs
   pub moment : new.moment ≡ old.moment
   pub sound : new.broken ≡ false
   pub limits : new.limits ≡ old.limits
   pub quiet : G.faults new.disk ≡ G.faults old.disk
-  pub closed : (h : List Dated) → AllByRecursion IsDated h → journal_size (undated h) ≡ old.size → AllClosed (front_of h) (G.may_leave old.disk)
-      → AllClosed (front_of (h ++ dated old.moment rs)) (G.may_leave new.disk)
+  pub closed : (h : List Dated) → AllByRecursion IsDated h → journal_size old.limits.form (undated h) ≡ old.size → AllClosed (front_of old.limits.form h) (G.may_leave old.disk)
+      → AllClosed (front_of old.limits.form (h ++ dated old.moment rs)) (G.may_leave new.disk)
 
 -- a call of the disk failed while the records were added
 pub record HasFailed {D : Type 0} {G : Ghosts D} (old new : SegJournal D G) (rs : List Record) : Type 0 where
@@ -99,7 +104,7 @@ pub record HasFailed {D : Type 0} {G : Ghosts D} (old new : SegJournal D G) (rs 
   pub limits : new.limits ≡ old.limits
   pub risen : HasRisen (G.faults old.disk) (G.faults new.disk)
   pub never_falls : G.faults old.disk ≤ G.faults new.disk
-  pub images : (h : List Dated) → AllByRecursion IsDated h → journal_size (undated h) ≡ old.size → AllClosed (front_of h) (G.may_leave old.disk)
+  pub images : (h : List Dated) → AllByRecursion IsDated h → journal_size old.limits.form (undated h) ≡ old.size → AllClosed (front_of old.limits.form h) (G.may_leave old.disk)
       → (image : List ℕ) → G.may_leave new.disk image → IsJournal image h ⊎ IsJournal image (h ++ dated old.moment rs)
 
 -- each disk of the type tells its content

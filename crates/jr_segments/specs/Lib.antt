@@ -1,6 +1,8 @@
 pub mod Adding
 pub mod Behind
 pub mod Crossing
+pub mod Formatting
+pub mod Formed
 pub mod Growing
 pub mod Journal
 pub mod Lawful

@@ -1,11 +1,13 @@
-//! Why nothing was added to a journal.
+//! Why nothing was added to a journal, or read of it.
 
+ghost use Rattle.jr_segments.specs.Adding.{opened};
 ghost use Rattle.jr_segments.specs.declared.faults.AddFault.TheVariants as add;
 
 use gw_outside::Failed;
+use jr_record::OpenFault;
 use std::alloc::AllocError;
 
-/// Why records were not added.
+/// Why records were not added, or bytes not read.
 #[derive(Clone, Copy)]
 pub enum AddFault {
     Memory,
@@ -30,5 +32,18 @@ impl From<Failed> for AddFault {
 
     fn from(_: Failed) -> AddFault {
         AddFault::Fault
+    }
+}
+
+impl From<AddFault> for OpenFault {
+    ghost use Rattle.std.specs.Prelude.{◌≡◌};
+
+    ghost from_gives = { λ fault why. why ≡ opened fault };
+
+    fn from(fault: AddFault) -> OpenFault {
+        match fault {
+            AddFault::Memory => OpenFault::Memory,
+            AddFault::Fault => OpenFault::Fault,
+        }
     }
 }

@@ -1,17 +1,19 @@
 //! The journal and the places of its records in memory.
 
 ghost use Rattle.std.specs.Prelude.{◌≡◌, ◌≤◌, ◌<◌, ◌+◌, ◌*◌, ◌^◌, Bool, false, ℕ, List, length};
+ghost use Rattle.jr_dated.specs.Images.{header_of};
 ghost use Rattle.jr_places.specs.Numbers.{numbers_of};
-ghost use Rattle.jr_segments.specs.Resting.{SomeRest};
+ghost use Rattle.jr_segments.specs.Formed.{AllFormed-prop};
+ghost use Rattle.jr_segments.specs.Resting.{AllFormed, AllUncut, SomeRest};
 
 use crate::adding::{add_places, count_fitting, is_past};
-use crate::behind::{gated, write_behind};
+use crate::behind::{closing_size, gated, write_behind};
 use crate::faults::AddFault;
 use crate::index::Index;
 use crate::reading::read_back;
 use crate::scan::{Found, read_journal};
 use gw_outside::Disk;
-use jr_dated::{FetchFault, Format, Journal, Limits, Records};
+use jr_dated::{FetchFault, Form, Journal, Limits, Records};
 use jr_places::Segments;
 use jr_record::{AppendFault, OpenFault, Record};
 use std::alloc::Global;
@@ -33,10 +35,12 @@ pub struct SegJournal<D: Disk> {
     /// Memory for the bytes of an append, kept from the last one. What it has counts for nothing.
     spare: Vec<u8>,
     ghost small: { size ≤ 2 ^ 41 },
-    ghost counted: { 2 * length (numbers_of places) + 17 ≤ size },
+    ghost counted: { 2 * length (numbers_of places) + length (header_of limits.form) + 1 ≤ size },
     ghost in_time: { moment < 2 ^ 44 },
     ghost whole: { broken ≡ false → torn ≡ false },
-    ghost held: { broken ≡ false → SomeRest (numbers_of places) size moment (D.may_leave disk) },
+    ghost formed: { AllFormed limits.form (D.may_leave disk) } by { AllFormed-prop limits.form (D.may_leave disk) },
+    ghost held: { broken ≡ false → SomeRest limits.form (numbers_of places) size moment (D.may_leave disk) },
+    ghost uncut: { broken ≡ false → AllUncut (D.may_leave disk) },
 }
 
 impl<D: Disk> SegJournal<D> {
@@ -47,10 +51,10 @@ impl<D: Disk> SegJournal<D> {
     ghost use Rattle.jr_record.specs.Records.{IsRecord};
     ghost use Rattle.jr_record.specs.declared.faults.OpenFault.TheVariants.{Fault};
     ghost use Rattle.jr_dated.specs.Dated.{Dated};
-    ghost use Rattle.jr_dated.specs.declared.formats.Format.TheVariants.{Two};
+    ghost use Rattle.jr_dated.specs.Images.{HasForm, IsForm, IsUncut};
     ghost use Rattle.gw_outside.specs.Disk.{IsAllLeft};
     ghost use Rattle.jr_segments.specs.Opening.{Refuses, IsFound};
-    ghost use Rattle.jr_segments.specs.Journal.{OpensOn, disk_of, limits_of, broken_of, IsSame, HasAdded, HasFailed};
+    ghost use Rattle.jr_segments.specs.Journal.{OpensOn, disk_of, form_of, limits_of, broken_of, IsSame, HasAdded, HasFailed};
     ghost use Rattle.jr_segments.specs.Adding.{OnFailure, OnMemory};
     ghost use Rattle.jr_segments.specs.Resting.{Keeps};
     ghost use Rattle.jr_segments.specs.Reading.{Spans, IsNext};
@@ -60,12 +64,13 @@ impl<D: Disk> SegJournal<D> {
     ghost use Rattle.jr_dated.specs.declared.faults.FetchFault.TheVariants as fetch;
     ghost use Rattle.jr_segments.specs.Journal.{OnlyRead, RestsOn, count_of, instead};
 
-    /// Syncs the disk and opens the journal that it holds. Its moment is the greatest of its records, or 0.
+    /// Syncs the disk and opens the journal of the limits' form that it holds. Its moment is the greatest of its records, or 0.
     ///
     /// # Errors
-    /// The disk comes back with each. `Memory`; `Fault` where a call of the disk failed; `NotFormatted` where the first 16
-    /// bytes are not the header; `Damaged` at the first place where a gate or the closed byte is awaited and the disk
-    /// ends, or a gate stands with no record behind it. A content is one of these at most, or a journal's.
+    /// The disk comes back with each. `Memory`; `Fault` where a call of the disk failed; `NotFormatted` where the first bytes
+    /// are not the form's header; `Damaged` at the first place where a gate or the closed byte is awaited and the disk
+    /// ends, or a gate stands with no record behind it, in format 3 with its sum; and there also at a closed byte that hides more
+    /// records than are added at once. A content is one of these at most, or a journal's.
     pub fn open(alloc: Global, disk: D, limits: Limits) -> Result<SegJournal<D>, (D, OpenFault)>
         ensures opened { IfOk result (OpensOn (D.told disk)) }
         ensures limits { IfOk result (λ j. limits_of j ≡ limits) }
@@ -73,13 +78,15 @@ impl<D: Disk> SegJournal<D> {
         ensures content { IfOk result (λ j. D.told (disk_of j) ≡ D.told disk) }
         ensures images { IfOk result (λ j. (image : List ℕ) → D.may_leave (disk_of j) image → D.may_leave disk image) }
         ensures quiet { IfOk result (λ j. D.faults (disk_of j) ≡ D.faults disk) }
-        ensures refused { IfErr result (λ e. ForSome (D.told disk) (Refuses Two e.1)) }
+        ensures formed { IfOk result (λ _. ForSome (D.told disk) (HasForm limits.form)) }
+        ensures uncut { IfOk result (λ _. ForSome (D.told disk) IsUncut) }
+        ensures refused { IfErr result (λ e. ForSome (D.told disk) (Refuses limits.form e.1)) }
         ensures cause { IfErr result (λ e. e.1 ≡ Fault → HasRisen (D.faults disk) (D.faults e.0)) }
         ensures returned { IfErr result (λ e. (D.told e.0 ≡ D.told disk) × (D.faults disk ≤ D.faults e.0)) }
         ensures returned_images { IfErr result (λ e. (image : List ℕ) → D.may_leave e.0 image → D.may_leave disk image) }
     {
         let mut disk = disk;
-        match read_journal(alloc, Format::Two, &mut disk) {
+        match read_journal(alloc, limits.form, &mut disk) {
             Ok(found) => Ok(SegJournal::of(alloc, disk, limits, found)),
             Err(fault) => Err((disk, fault)),
         }
@@ -87,7 +94,7 @@ impl<D: Disk> SegJournal<D> {
 
     /// The journal whose records were found on a disk that was synced.
     fn of(alloc: Global, disk: D, limits: Limits, found: Found) -> SegJournal<D>
-        requires found { IsFound Two (D.told disk) found }
+        requires found { IsFound limits.form (D.told disk) found }
         requires settled { IsAllLeft (D.told disk) (D.may_leave disk) }
         ensures opened { OpensOn (D.told disk) result }
         ensures limits { limits_of result ≡ limits }
@@ -131,7 +138,8 @@ impl<D: Disk> SegJournal<D> {
             return Err(FetchFault::Broken);
         }
         let (at, size) = self.span(i);
-        match read_back(self.alloc, &mut self.disk, at, size, self.moment) {
+        let form = self.limits.form;
+        match read_back(self.alloc, &mut self.disk, form, at, size, self.moment) {
             Ok(found) => match found {
                 Some(found) => Ok(found),
                 None => Err(FetchFault::Changed { at: i }),
@@ -144,9 +152,26 @@ impl<D: Disk> SegJournal<D> {
         }
     }
 
-    /// Gives the disk back.
+    /// How large it may grow, and in what form.
+    pub fn limits(&self) -> Limits
+        ensures value { result ≡ limits_of self.now }
+    {
+        self.limits
+    }
+
+    /// Its form: what it begins with, and how its records are written.
+    pub fn form(&self) -> Form
+        ensures value { result ≡ form_of self.now }
+        ensures formed { IsForm result }
+    {
+        self.limits.form
+    }
+
+    /// Gives the disk back. Whatever stop comes, it leaves the journal's header; and where no call has failed, a content that opens.
     pub fn close(self) -> D
-        ensures { result ≡ disk_of self }
+        ensures disk { result ≡ disk_of self }
+        ensures formed { AllFormed (form_of self) (D.may_leave result) }
+        ensures uncut { broken_of self ≡ false → AllUncut (D.may_leave result) }
     {
         self.disk
     }
@@ -166,9 +191,10 @@ impl<D: Disk> SegJournal<D> {
             return Ok(());
         }
         let spare = mem::replace(&mut self.spare, Vec::new(self.alloc));
-        let bytes = gated(self.alloc, records, self.moment, spare)?;
+        let form = self.limits.form;
+        let bytes = gated(self.alloc, form, records, self.moment, spare)?;
         let count = self.places.len();
-        add_places(&mut self.places, self.size - 1, records)?;
+        add_places(&mut self.places, form, self.size - 1, records)?;
         // Broken until each call of the disk has done its part.
         self.broken = true;
         self.torn = true;
@@ -179,7 +205,7 @@ impl<D: Disk> SegJournal<D> {
                 return Err(AddFault::Fault);
             }
         }
-        self.size += bytes.len() as u64 - 1;
+        self.size += bytes.len() as u64 - closing_size(form);
         self.broken = false;
         self.torn = false;
         self.spare = Vec::from(bytes);
@@ -189,7 +215,7 @@ impl<D: Disk> SegJournal<D> {
     /// Where the record of an index stands, behind its gate, and how many bytes it takes.
     fn span(&self, i: u64) -> (u64, u64)
         requires within { i < length (numbers_of self.now.places) }
-        ensures span { (h : List Dated) → Keeps (numbers_of self.now.places) self.now.size self.now.moment h → Spans h i result.0 result.1 }
+        ensures span { (h : List Dated) → Keeps self.now.limits.form (numbers_of self.now.places) self.now.size self.now.moment h → Spans self.now.limits.form h i result.0 result.1 }
         ensures short { result.1 ≤ 2 ^ 41 }
     {
         let i = i as usize;
@@ -242,7 +268,8 @@ impl<D: Disk> Journal for SegJournal<D> {
         if self.broken {
             return Err(AppendFault::Broken);
         }
-        if is_past(r, self.limits.bytes.saturating_sub(self.size)) {
+        let room = self.limits.bytes.saturating_sub(self.size);
+        if is_past(self.limits.form, r, room) {
             return Err(AppendFault::Full { bytes: self.size });
         }
         match self.add(slice::from_ref(r)) {
@@ -290,7 +317,7 @@ impl<D: Disk> Journal for SegJournal<D> {
         self.broken
     }
 
-    ghost counted = { λ j h s. counted_by (numbers_of j.places) j.size j.moment h s.keeps };
+    ghost counted = { λ j h s. counted_by j.limits.form (numbers_of j.places) j.size j.moment h s.keeps };
 
     ghost legal = { λ j h s. s.keeps.legal };
 
@@ -298,7 +325,7 @@ impl<D: Disk> Journal for SegJournal<D> {
 
     ghost in_time = { λ j. j.in_time };
 
-    ghost few = { λ j. few_by (length (numbers_of j.places)) j.size j.counted j.small };
+    ghost few = { λ j. few_by (length (numbers_of j.places)) j.size (length (header_of j.limits.form)) j.counted j.small };
 
     ghost one = { λ j h k told sound s t. one_by (D.told j.disk) h k told (s.told (j.whole sound)) (t.told (j.whole sound)) };
 
@@ -306,7 +333,7 @@ impl<D: Disk> Journal for SegJournal<D> {
 
     ghost crossed = { λ j h k n sound held s. record {
       stands_for = record {
-        keeps = keeps_crossed (numbers_of j.places) j.size j.moment n h k held.stands_for.keeps s.keeps;
+        keeps = keeps_crossed j.limits.form (numbers_of j.places) j.size j.moment n h k held.stands_for.keeps s.keeps;
         told = λ whole. told_crossed (D.told j.disk) n h k (held.stands_for.told whole) (s.told whole);
       };
       images = images_crossed (D.told j.disk) (D.may_leave j.disk) n h k (D.untold j.disk) (held.stands_for.told (j.whole sound)) (s.told (j.whole sound)) held.images;
@@ -315,8 +342,8 @@ impl<D: Disk> Journal for SegJournal<D> {
     ghost held = { λ j sound. ∥∥₁_map (j.held sound) (λ found. (
       found.0,
       record {
-        stands_for = record { keeps = found.1.keeps; told = λ _ content is. closed_holds found.0 content found.1.keeps.legal (found.1.closed content (D.told_is_left j.disk content is)) };
-        images = settled (D.may_leave j.disk) found.0 found.1.keeps.legal found.1.closed;
+        stands_for = record { keeps = found.1.keeps; told = λ _ content is. closed_holds j.limits.form j.limits.formed found.0 content found.1.keeps.legal (found.1.closed content (D.told_is_left j.disk content is)) };
+        images = settled j.limits.form j.limits.formed (D.may_leave j.disk) found.0 found.1.keeps.legal found.1.closed;
       },
     )) };
 }

@@ -10,24 +10,25 @@ ghost use Rattle.jr_segments.specs.Reading.{Fetched, IsFitting};
 
 use crate::faults::AddFault;
 use gw_outside::Disk;
-use jr_dated::{read_record, record_size};
+use jr_dated::Form;
 use jr_record::Record;
 use std::alloc::{AllocError, Global};
 
 /// The record that takes exactly `size` bytes from the place `at` on, without its gate, and its moment; `None` where there
-/// is none, or its moment is behind the latest.
+/// is none, in format 3 also where its sum is another, or where its moment is behind the latest.
 ///
 /// # Errors
 /// `Memory`; `Fault` where the call of the disk failed.
 pub fn read_back<D: Disk>(
     alloc: Global,
     disk: &mut D,
+    form: Form,
     at: u64,
     size: u64,
     latest: u64,
 ) -> Result<Option<(Record, u64)>, AddFault>
     requires short { size ≤ 2 ^ 41 }
-    ensures found { IfOk result (λ found. Fetched (D.told disk.old) at size latest (dated_of found)) }
+    ensures found { IfOk result (λ found. Fetched form (D.told disk.old) at size latest (dated_of found)) }
     ensures content { D.told disk.new ≡ D.told disk.old }
     ensures images { LeavesSame (D.may_leave disk.old) (D.may_leave disk.new) }
     ensures cause { OnFailure result (HasRisen (D.faults disk.old) (D.faults disk.new)) }
@@ -35,19 +36,20 @@ pub fn read_back<D: Disk>(
     ensures never_falls { D.faults disk.old ≤ D.faults disk.new }
 {
     let mut piece = room(alloc, size as usize)?;
-    read_piece(alloc, disk, piece.as_mut_slice(), at, latest)
+    read_piece(alloc, disk, form, piece.as_mut_slice(), at, latest)
 }
 
 /// The record that takes exactly as many bytes as the piece.
 fn read_piece<D: Disk>(
     alloc: Global,
     disk: &mut D,
+    form: Form,
     piece: &mut [u8],
     at: u64,
     latest: u64,
 ) -> Result<Option<(Record, u64)>, AddFault>
     requires short { length piece.old ≤ 2 ^ 41 }
-    ensures found { IfOk result (λ found. Fetched (D.told disk.old) at (length piece.old) latest (dated_of found)) }
+    ensures found { IfOk result (λ found. Fetched form (D.told disk.old) at (length piece.old) latest (dated_of found)) }
     ensures content { D.told disk.new ≡ D.told disk.old }
     ensures images { LeavesSame (D.may_leave disk.old) (D.may_leave disk.new) }
     ensures cause { OnFailure result (HasRisen (D.faults disk.old) (D.faults disk.new)) }
@@ -58,8 +60,8 @@ fn read_piece<D: Disk>(
     if count < piece.len() {
         return Ok(None);
     }
-    let found = read_record(alloc, piece)?;
-    if fits(&found, piece.len() as u64, latest) {
+    let found = form.read_record(alloc, piece)?;
+    if fits(form, &found, piece.len() as u64, latest) {
         Ok(found)
     } else {
         Ok(None)
@@ -74,13 +76,13 @@ fn room(alloc: Global, size: usize) -> Result<Vec<u8>, AllocError>
 }
 
 /// Whether a record was found that takes exactly so many bytes, without its gate, and whose moment is not behind the latest.
-fn fits(found: &Option<(Record, u64)>, size: u64, latest: u64) -> bool
+fn fits(form: Form, found: &Option<(Record, u64)>, size: u64, latest: u64) -> bool
     requires legal { IfSome found.now (λ p. IsRecord p.0) }
     requires short { size ≤ 2 ^ 41 }
-    ensures value { IsTrue result ↔ IsFitting size latest (dated_of found.now) }
+    ensures value { IsTrue result ↔ IsFitting form size latest (dated_of found.now) }
 {
     match found {
-        Some((r, moment)) => *moment <= latest && record_size(r) == size + 1,
+        Some((r, moment)) => *moment <= latest && form.record_size(r) == size + 1,
         None => false,
     }
 }

@@ -1,11 +1,10 @@
 -- What is seen of a journal up to its end.
-use Rattle.std.proofs.Common.{◌≡◌, ℕ, ◌+◌, max, Option, List, [], ◌∷◌, ◌++◌, refl, ◌∙◌, ap, subst, arith, length-append}
+use Rattle.std.proofs.Common.{◌≡◌, ℕ, ◌+◌, max, Option, List, [], ◌∷◌, ◌++◌, refl, ◌∙◌, ap, arith, length-append}
 use Rattle.std.specs.Option.{ForSome}
 use Rattle.jr_record.specs.declared.record.Record.{Record}
 use Rattle.jr_record.specs.declared.faults.OpenFault.{OpenFault}
 use Rattle.jr_record.specs.declared.faults.OpenFault.TheVariants as faults
-use Rattle.jr_dated.specs.declared.formats.Format.{Format}
-use Rattle.jr_dated.specs.declared.formats.Format.TheVariants.{Two}
+use Rattle.jr_dated.specs.declared.form.Form.{Form}
 use Rattle.jr_dated.specs.Dated.{Dated, IsDated, stamped, latest_of}
 use Rattle.jr_stream.specs.Images.{counted, HasRecords}
 use Rattle.jr_stream.specs.Reading.{Reading, GoesOn, IsUnread, Refuses}
@@ -42,13 +41,12 @@ is_early (found.Record what moment) dated = (dated what moment refl).1
 is_early (found.End end) dated = tt
 
 -- at the end of the records
-pub saw : (before : Option (List ℕ)) (format : Format) (records : List Dated) (end : End) (seen : Seen) → format ≡ Two → ForSome before (λ image. HasRecords format image records end) → Counts records seen
+pub saw : (before : Option (List ℕ)) (form : Form) (records : List Dated) (end : End) (seen : Seen) → ForSome before (λ image. HasRecords form image records end) → Counts records seen
     → ForSome before (λ image. SawAll image seen)
-saw before format records end seen is has counts image e =
-    record { records = records; end = end; has = subst (λ (f : Format). HasRecords f image records end) is (has image e); counts = counts }
+saw before form records end seen has counts image e = record { form = form; records = records; end = end; has = has image e; counts = counts }
 
 -- a journal that was not read on
-pub unread_refuses : (before : Option (List ℕ)) (fault : OpenFault) → IsUnread fault → ForSome before (Refuses Two fault)
+pub unread_refuses : (before : Option (List ℕ)) (fault : OpenFault) → IsUnread fault → ForSome before (Refuses fault)
 unread_refuses before faults.Memory is image e = tt
 unread_refuses before faults.Fault is image e = tt
 unread_refuses before faults.NotFormatted is image e = absurd is
@@ -63,8 +61,8 @@ unread_whole (faults.Damaged n) at is e = is
 -- the start that counts from the end
 pub starts_back : (n : ℕ) (image : List ℕ) (seen : Seen) (start : Start) → SawAll image seen → start ≡ from_last seen.count n → IsStart (begins.Last n) image start
 starts_back n image seen start s is =
-    record { records = s.records; end = s.end; has = s.has; start_is = is ∙ ap (λ (count : ℕ). from_last count n) s.counts.count }
+    record { form = s.form; records = s.records; end = s.end; has = s.has; start_is = is ∙ ap (λ (count : ℕ). from_last count n) s.counts.count }
 
 pub starts_at_time : (time : ℕ) (image : List ℕ) (seen : Seen) (start : Start) → SawAll image seen → start ≡ at_time seen.latest time → IsStart (begins.TimeOfDay time) image start
 starts_at_time time image seen start s is =
-    record { records = s.records; end = s.end; has = s.has; start_is = is ∙ ap (λ (latest : ℕ). at_time latest time) s.counts.latest }
+    record { form = s.form; records = s.records; end = s.end; has = s.has; start_is = is ∙ ap (λ (latest : ℕ). at_time latest time) s.counts.latest }

@@ -2,7 +2,7 @@
 use Rattle.std.specs.Prelude.{◌≡◌, ◌<◌, ◌^◌, ℕ, false, if◌then◌else◌, IfSome, Option, Some, None, List, [], ◌∷◌, ◌++◌, length, take}
 use Rattle.std.specs.Option.{ForSome}
 use Rattle.sbe_layout.specs.declared.plan.Plan.{Plan}
-use Rattle.jr_dated.specs.declared.formats.Format.TheVariants.{Two}
+use Rattle.jr_dated.specs.declared.form.Form.{Form}
 use Rattle.jr_record.specs.declared.record.Record.{Record}
 use Rattle.jr_dated.specs.Dated.{Dated, stamped, latest_of}
 use Rattle.jr_stream.specs.Images.{counted, HasRecords}
@@ -14,7 +14,7 @@ use Rattle.jr_shown.specs.declared.seen.Seen.{Seen}
 use Rattle.jr_shown.specs.declared.choice.Style.{Style}
 use Rattle.jr_shown.specs.declared.choice.Start.{Start}
 use Rattle.jr_shown.specs.declared.shower.Shower.{Shower}
-use Rattle.jr_shown.specs.Shown.{chosen_lines, lines_from}
+use Rattle.jr_shown.specs.Shown.{chosen_lines, heading_in, lines_from}
 
 -- ---- records, one after another
 
@@ -27,14 +27,14 @@ pub record Takes (plan : Plan) (d : Dated) (old new : Shower) : Type 0 where
   pub style : new.style ≡ old.style
   pub same : (ds : List Dated) → old.lines.items ++ goes_on plan old (d ∷ ds) ≡ new.lines.items ++ goes_on plan new ds
 
--- nothing was taken yet
-pub record IsNew (style : Style) (start : Start) (most : ℕ) (s : Shower) : Type 0 where
+-- nothing was taken yet: the title waits
+pub record IsNew (style : Style) (form : Form) (start : Start) (most : ℕ) (s : Shower) : Type 0 where
   pub style_is : s.style ≡ style
   pub start_is : s.start ≡ start
   pub left : s.left ≡ most
   pub number : s.number ≡ 1
   pub waits : s.is_showing ≡ false
-  pub lines : s.lines.items ≡ []
+  pub lines : s.lines.items ≡ heading_in style form
 
 -- ---- the end, looked for ahead
 
@@ -45,15 +45,16 @@ pub record Counts (records : List Dated) (seen : Seen) : Type 0 where
 
 -- the records of a journal were counted up to its end
 pub record SawAll (image : List ℕ) (seen : Seen) : Type 0 where
+  pub form : Form
   pub records : List Dated
   pub end : End
-  pub has : HasRecords Two image records end
+  pub has : HasRecords form image records end
   pub counts : Counts records seen
 
 -- what stands behind some records that were taken: one more of this moment, or the end of them
 abbrev pub SeesOn : Option (List ℕ) → Option (List ℕ) → List Dated → Reading → Option ℕ → Type 0
 SeesOn before now records r (Some moment) = (what : Record) × HasTaken before now (records ++ stamped moment what ∷ []) r
-SeesOn before now records r None = (end : End) × ForSome before (λ image. HasRecords r.format image records end)
+SeesOn before now records r None = (end : End) × ForSome before (λ image. HasRecords r.form image records end)
 
 abbrev pub moment_of : Found → Option ℕ
 moment_of (found.Record what moment) = Some moment

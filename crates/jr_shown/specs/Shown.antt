@@ -7,12 +7,15 @@ use Rattle.sbe_layout.specs.declared.plan.Plan.{Plan}
 use Rattle.frame_text.specs.Held.{application_lines}
 use Rattle.jr_record.specs.declared.record.Record.{Record}
 use Rattle.jr_record.specs.declared.record.Record.TheVariants.{Entry, Apply, Skip, Negotiated, PeerFinished, Finish}
-use Rattle.jr_dated.specs.declared.formats.Format.TheVariants.{Two}
+use Rattle.jr_title.specs.declared.title.Title.{Title}
+use Rattle.title_text.specs.Words.{title_line}
+use Rattle.jr_dated.specs.declared.form.Form.{Form}
+use Rattle.jr_dated.specs.declared.form.Form.TheVariants.{Two, Three}
 use Rattle.jr_dated.specs.Dated.{Dated, latest_of}
 use Rattle.jr_stream.specs.Images.{counted, HasRecords}
 use Rattle.jr_stream.specs.declared.reader.End.{End}
 use Rattle.jr_stream.specs.declared.reader.End.TheVariants.{Closed, Damaged}
-use Rattle.jr_json.specs.Objects.{encoding_words, end_object_of, order_in, record_object}
+use Rattle.jr_json.specs.Objects.{encoding_words, end_object_of, order_in, record_object, title_object}
 use Rattle.jr_shown.specs.declared.choice.Style.{Style}
 use Rattle.jr_shown.specs.declared.choice.Style.TheVariants.{Text, Json}
 use Rattle.jr_shown.specs.declared.choice.Begin.{Begin}
@@ -50,6 +53,15 @@ end_line (Damaged at) = codes "damaged at " ++ decimal at ++ codes "\n"
 
 -- ---- in each style
 
+abbrev pub title_in : Style → Title → List ℕ
+title_in Text title = title_line title
+title_in Json title = title_object title
+
+-- what stands in front of the records: the title, where the journal has one
+abbrev pub heading_in : Style → Form → List ℕ
+heading_in style Two = []
+heading_in style (Three title) = title_in style title
+
 abbrev pub record_in : Style → Plan → ℕ → Dated → List ℕ
 record_in Text plan n d = record_lines plan n d
 record_in Json plan n d = record_object plan n d
@@ -81,9 +93,10 @@ start_among records (begins.TimeOfDay time) = at_time (latest_of records) time
 
 -- the start by what was read of the journal before, where that is needed
 pub record StartsBy (begin : Begin) (ahead : List ℕ) (start : Start) : Type 0 where
+  pub form : Form
   pub records : List Dated
   pub end : End
-  pub has : HasRecords Two ahead records end
+  pub has : HasRecords form ahead records end
   pub start_is : start ≡ start_among records begin
 
 abbrev pub IsStart : Begin → List ℕ → Start → Type 0
@@ -109,12 +122,13 @@ chosen_lines style plan start most n [] = []
 chosen_lines style plan start most n (d ∷ ds) =
     if is_reached start n d.moment then lines_from style plan n (take most (d ∷ ds)) else chosen_lines style plan start most (counted (n + 1)) ds
 
-abbrev pub records_shown : Style → Plan → Start → ℕ → List Dated → List ℕ
-records_shown style plan start most records = chosen_lines style plan start most 1 records
+-- the title of a journal of this form, and these of its records
+abbrev pub records_shown : Style → Plan → Form → Start → ℕ → List Dated → List ℕ
+records_shown style plan form start most records = heading_in style form ++ chosen_lines style plan start most 1 records
 
--- what is shown of a journal with these records and this end
-abbrev pub shown : Style → Plan → Start → ℕ → List Dated → End → List ℕ
-shown style plan start most records end = records_shown style plan start most records ++ end_in style end
+-- what is shown of a journal of this form with these records and this end
+abbrev pub shown : Style → Plan → Form → Start → ℕ → List Dated → End → List ℕ
+shown style plan form start most records end = records_shown style plan form start most records ++ end_in style end
 
 -- ---- the end of the journal, looked for ahead
 

@@ -1,9 +1,8 @@
 //! A journal, read for where it ends before it is shown, where that is needed to know which records are.
 
-ghost use Rattle.std.specs.Prelude.{◌≡◌, ◌≤◌, ◌<◌, ◌^◌, ℕ, List, Option, Err, IfOk, IfErr, OnOk, IsErrOf};
+ghost use Rattle.std.specs.Prelude.{◌≡◌, ◌≤◌, ◌<◌, ◌^◌, ℕ, List, Option, Err, IfOk, IfErr, IsErrOf};
 ghost use Rattle.std.specs.Option.{ForSome};
 ghost use Rattle.gw_outside.specs.Faults.{HasRisen};
-ghost use Rattle.jr_dated.specs.declared.formats.Format.TheVariants.{Two};
 ghost use Rattle.jr_stream.specs.Reading.{HasTaken, IsUnread, Refuses};
 ghost use Rattle.jr_dated.specs.Dated.{Dated};
 ghost use Rattle.jr_shown.specs.Shown.{IsStart, NeedsNoEnd, TellsAhead, at_time, from_last};
@@ -12,7 +11,6 @@ ghost use Rattle.jr_shown.specs.Progress.{IsEarly, SawAll, SeesOn, moment_of};
 use crate::choice::{Begin, Start};
 use crate::seen::Seen;
 use gw_outside::Source;
-use jr_dated::Format;
 use jr_record::OpenFault;
 use jr_stream::{Found, RecordReader};
 use std::alloc::Global;
@@ -38,7 +36,6 @@ fn see_next<S: Source>(
     journal: &mut S,
 ) -> Result<Option<u64>, OpenFault>
     ensures goes { IfOk result (λ moment. (before : Option (List ℕ)) (records : List Dated) → HasTaken before (S.left journal.old) records reader.old → SeesOn before (S.left journal.new) records reader.new moment) }
-    ensures format { OnOk result (reader.new.format ≡ reader.old.format) }
     ensures early { IfOk result IsEarly }
     ensures unread { IfErr result IsUnread }
     ensures counted { S.faults journal.old ≤ S.faults journal.new }
@@ -51,13 +48,13 @@ fn see_next<S: Source>(
 /// Reads a journal to its end.
 fn see<R: Wait, S: Source>(rt: &R, alloc: Global, journal: &mut S) -> Result<Seen, OpenFault>
     ensures saw { IfOk result (λ seen. ForSome (S.left journal.old) (λ image. SawAll image seen)) }
-    ensures refused { IfErr result (λ fault. ForSome (S.left journal.old) (Refuses Two fault)) }
+    ensures refused { IfErr result (λ fault. ForSome (S.left journal.old) (Refuses fault)) }
     ensures early { IfOk result (λ seen. seen.latest < 2 ^ 44) }
     ensures whole { (at : ℕ) → result ≡ Err (OpenFault.Damaged at) → ⊥ }
     ensures counted { S.faults journal.old ≤ S.faults journal.new }
     ensures cause { IsErrOf result OpenFault.Fault → HasRisen (S.faults journal.old) (S.faults journal.new) }
 {
-    let mut reader = RecordReader::behind_header(alloc, Format::Two, journal)?;
+    let mut reader = RecordReader::behind_header(alloc, journal)?;
     let mut seen = Seen {
         count: 0,
         latest: 0,
@@ -90,7 +87,7 @@ fn at_time(moment: u64, time: u32) -> Start
 /// The start of a showing; the journal is read to its end for that where it has to be known.
 ///
 /// # Errors
-/// `NotFormatted` where it is no journal of format 2, `Fault` where it could not be read, and `Memory`.
+/// `NotFormatted` where it is no journal of format 2 or 3, `Fault` where it could not be read, and `Memory`.
 pub fn start_of<R: Wait, S: Source>(
     rt: &R,
     alloc: Global,
@@ -98,7 +95,7 @@ pub fn start_of<R: Wait, S: Source>(
     ahead: &mut S,
 ) -> Result<Start, OpenFault>
     ensures start { IfOk result (λ start. (image : List ℕ) → TellsAhead begin (S.left ahead.old) image → IsStart begin image start) }
-    ensures refused { IfErr result (λ fault. (image : List ℕ) → TellsAhead begin (S.left ahead.old) image → Refuses Two fault image) }
+    ensures refused { IfErr result (λ fault. (image : List ℕ) → TellsAhead begin (S.left ahead.old) image → Refuses fault image) }
     ensures whole { (at : ℕ) → result ≡ Err (OpenFault.Damaged at) → ⊥ }
     ensures kept { NeedsNoEnd begin → ahead.new ≡ ahead.old }
     ensures counted { S.faults ahead.old ≤ S.faults ahead.new }

@@ -4,6 +4,7 @@
 
 mod ahead;
 mod choice;
+mod heading;
 mod lines;
 mod seen;
 mod shower;

@@ -1,13 +1,15 @@
 //! The records that are shown, and their lines.
 
-ghost use Rattle.std.specs.Prelude.{◌≡◌, ◌||◌, ◌+◌, ◌++◌, OnOk};
+ghost use Rattle.std.specs.Prelude.{◌≡◌, ◌||◌, ◌+◌, ◌++◌, IfOk, OnOk};
 ghost use Rattle.sbe_layout.specs.Legal.{LegalPlan};
 ghost use Rattle.jr_dated.specs.Dated.{IsDated, stamped};
 ghost use Rattle.jr_stream.specs.Images.{counted};
 ghost use Rattle.jr_shown.specs.Shown.{end_in, is_reached, record_in};
 
 use crate::choice::{Start, Style};
+use crate::heading::push_heading;
 use crate::lines::{push_end, push_record};
+use jr_dated::Form;
 use jr_json::{push_end_object, push_object};
 use jr_record::Record;
 use jr_stream::End;
@@ -45,19 +47,30 @@ fn is_reached(start: Start, number: u64, moment: u64) -> bool
 impl Shower {
     ghost use Rattle.jr_shown.specs.Progress.{IsNew, Takes};
 
-    /// A showing of which nothing was shown.
-    pub fn new(alloc: Global, style: Style, start: Start, most: u64) -> Shower
-        ensures { IsNew style start most result }
+    /// A showing of a journal of this form, of which no record was shown: its title waits.
+    ///
+    /// # Errors
+    /// Want of memory.
+    pub fn new(
+        alloc: Global,
+        style: Style,
+        form: Form,
+        start: Start,
+        most: u64,
+    ) -> Result<Shower, AllocError>
+        ensures { IfOk result (IsNew style form start most) }
     {
-        Shower {
+        let mut lines = Vec::new(alloc);
+        push_heading(alloc, style, form, &mut lines)?;
+        Ok(Shower {
             style,
             start,
             left: most,
             number: 1,
             is_showing: false,
             seconds: Seconds::new(alloc),
-            lines: Vec::new(alloc),
-        }
+            lines,
+        })
     }
 
     // Whether the start is reached at the next record, which has this moment.

@@ -1,17 +1,17 @@
 //! A reader of records: it reads its source in pieces, and keeps no more than a piece and a record.
 
-ghost use Rattle.std.specs.Prelude.{◌≡◌, ◌≢◌, ◌++◌, ◌≤◌, ◌<◌, true, false, ℕ, List, [], Option, length, take, drop, Err, IfOk, IfErr, OnOk, IsErrOf};
+ghost use Rattle.std.specs.Prelude.{◌≡◌, ◌++◌, ◌≤◌, ◌<◌, true, false, ℕ, List, [], Option, length, take, drop, Err, IfOk, IfErr, OnOk, IsErrOf};
 ghost use Rattle.std.specs.Option.{ForSome};
 ghost use Rattle.std.specs.Io.KnownBytes.{Consumes, IsAtEnd};
 ghost use Rattle.gw_outside.specs.Faults.{HasCause, HasRisen};
 ghost use Rattle.jr_record.specs.declared.record.Record as recorded;
 ghost use Rattle.jr_record.specs.Records.{IsRecord};
 ghost use Rattle.jr_dated.specs.Dated.{Dated, IsDated, stamped};
-ghost use Rattle.jr_dated.specs.Formats.{header_of, size_in};
+ghost use Rattle.jr_dated.specs.Images.{HasForm, header_of, record_size as size_in};
 ghost use Rattle.jr_stream.specs.Reading.{IsFront};
 
 use gw_outside::{Failed, Source};
-use jr_dated::Format;
+use jr_dated::Form;
 use jr_record::{OpenFault, Record};
 use std::alloc::{AllocError, Global};
 use std::marker::Model;
@@ -22,25 +22,25 @@ const GATE: u8 = 1;
 /// How many bytes a pull asks for.
 const PIECE: usize = 65_536;
 
-/// The bytes of a header.
-const HEADER: usize = 16;
+/// The bytes that a header has at most.
+const HEADER: usize = 64;
 
 /// The bytes that a record takes at most, with its gate.
-const LONGEST: usize = 16_410;
+const LONGEST: usize = 16_414;
 
 /// Where the records of a journal end, in bytes from 0.
 #[derive(Clone, Copy, Debug, PartialEq, Eq)]
 pub enum End {
     /// The closed byte stands there.
     Closed { at: u64 },
-    /// The bytes end there, or a gate stands there with no record behind it.
+    /// The bytes end there, or a gate stands there with no record behind it, in format 3 with its sum.
     Damaged { at: u64 },
 }
 
 /// What stands behind the records that were taken.
 #[derive(Drop)]
 pub enum Found {
-    /// A record, and its moment in milliseconds since 1970: 0 in format 1.
+    /// A record, and its moment in milliseconds since 1970.
     Record(Record, u64),
     /// The end of the records.
     End(End),
@@ -57,7 +57,7 @@ enum Front {
 /// A reader of the records of a journal.
 #[derive(Drop)]
 pub struct RecordReader {
-    format: Format,
+    form: Form,
     /// The bytes read, of which those before `at` are taken.
     held: Vec<u8>,
     at: usize,
@@ -75,26 +75,14 @@ impl Model for RecordReader {
 
     ghost Value = { Reading };
 
-    ghost view = { λ r. record { format = r.format; waiting = drop r.at r.held.items; place = r.place; is_over = r.is_over } };
+    ghost view = { λ r. record { form = r.form; waiting = drop r.at r.held.items; place = r.place; is_over = r.is_over } };
 
     ghost invariant = { λ r. (r.at ≤ vec_len r.held) × (vec_len r.piece ≡ 65536) };
 }
 
-/// Whether the header of a format stands at the front of `bytes`.
-fn has_header(format: Format, bytes: &[u8]) -> bool
-    ensures yes { result ≡ true → take 16 bytes.now ≡ header_of format }
-    ensures no { result ≡ false → take 16 bytes.now ≢ header_of format }
-{
-    let header = format.header();
-    match bytes.split_first_chunk::<16>() {
-        Some((front, _)) => *front == header,
-        None => false,
-    }
-}
-
 /// What stands at the front of `bytes`.
-fn read_front(alloc: Global, format: Format, bytes: &[u8]) -> Result<Front, AllocError>
-    ensures exact { IfOk result (IsFront format bytes.now) }
+fn read_front(alloc: Global, form: Form, bytes: &[u8]) -> Result<Front, AllocError>
+    ensures exact { IfOk result (IsFront form bytes.now) }
 {
     let Some((first, behind)) = bytes.split_first() else {
         return Ok(Front::Damaged);
@@ -102,7 +90,7 @@ fn read_front(alloc: Global, format: Format, bytes: &[u8]) -> Result<Front, Allo
     if *first != GATE {
         return Ok(Front::Closed);
     }
-    match format.read_record(alloc, behind)? {
+    match form.read_record(alloc, behind)? {
         Some((what, moment)) => Ok(Front::Found(what, moment)),
         None => Ok(Front::Damaged),
     }
@@ -132,14 +120,14 @@ fn pull_piece<S: Source>(source: &mut S, piece: &mut Vec<u8>) -> Result<usize, F
 }
 
 impl RecordReader {
-    ghost use Rattle.jr_stream.specs.Reading.{GoesAgain, GoesOn, HasTaken, IsNew, IsReady, IsUnread, Passes, ReadsOn, Refuses};
+    ghost use Rattle.jr_stream.specs.Reading.{Begins, GoesAgain, GoesOn, HasTaken, IsNew, IsReady, IsUnread, Passes, ReadsOn, Refuses};
 
     // A reader that has read nothing.
-    fn new(alloc: Global, format: Format) -> Result<RecordReader, AllocError>
-        ensures { IfOk result (IsNew format) }
+    fn new(alloc: Global) -> Result<RecordReader, AllocError>
+        ensures { IfOk result IsNew }
     {
         Ok(RecordReader {
-            format,
+            form: Form::Two,
             held: Vec::new(alloc),
             at: 0,
             place: 0,
@@ -165,9 +153,9 @@ impl RecordReader {
 
     // What stands at the front of the bytes that wait.
     fn front(&self, alloc: Global) -> Result<Front, AllocError>
-        ensures exact { IfOk result (IsFront self.now.format self.now.waiting) }
+        ensures exact { IfOk result (IsFront self.now.form self.now.waiting) }
     {
-        read_front(alloc, self.format, self.waiting())
+        read_front(alloc, self.form, self.waiting())
     }
 
     // Takes so many of the bytes that wait.
@@ -179,13 +167,22 @@ impl RecordReader {
         self.place = self.place.saturating_add(size as u64);
     }
 
+    // Takes the header of this form, which stands at the front of the bytes that wait.
+    fn begin(&mut self, form: Form)
+        requires { HasForm form self.old.waiting }
+        ensures { Begins form self.old self.new }
+    {
+        self.form = form;
+        self.pass(form.header_size() as usize);
+    }
+
     // Takes a record, with its gate.
     fn pass_record(&mut self, what: &Record)
         requires legal { IsRecord what.now }
-        requires waits { size_in self.old.format what.now ≤ length self.old.waiting }
-        ensures { Passes (size_in self.old.format what.now) self.old self.new }
+        requires waits { size_in self.old.form what.now ≤ length self.old.waiting }
+        ensures { Passes (size_in self.old.form what.now) self.old self.new }
     {
-        let size = self.format.record_size(what);
+        let size = self.form.record_size(what);
         self.pass(size as usize);
     }
 
@@ -225,29 +222,34 @@ impl RecordReader {
         Ok(())
     }
 
-    /// A reader behind the header of a journal of this format.
+    /// A reader behind the header of a journal of either form.
     ///
     /// # Errors
-    /// `NotFormatted` exactly where the source does not begin with the header, `Fault` where it failed, and `Memory`.
+    /// `NotFormatted` exactly where the source does not begin with the header of one, `Fault` where it failed, and `Memory`.
     pub fn behind_header<S: Source>(
         alloc: Global,
-        format: Format,
         source: &mut S,
     ) -> Result<RecordReader, OpenFault>
         ensures taken { IfOk result (HasTaken (S.left source.old) (S.left source.new) []) }
-        ensures format { IfOk result (λ reader. reader.format ≡ format) }
-        ensures refused { IfErr result (λ fault. ForSome (S.left source.old) (Refuses format fault)) }
+        ensures refused { IfErr result (λ fault. ForSome (S.left source.old) (Refuses fault)) }
         ensures whole { (at : ℕ) → result ≡ Err (OpenFault.Damaged at) → ⊥ }
         ensures counted { S.faults source.old ≤ S.faults source.new }
         ensures cause { IsErrOf result OpenFault.Fault → HasRisen (S.faults source.old) (S.faults source.new) }
     {
-        let mut reader = RecordReader::new(alloc, format)?;
+        let mut reader = RecordReader::new(alloc)?;
         reader.fill(alloc, source, HEADER)?;
-        if !has_header(format, reader.waiting()) {
+        let Some(form) = Form::of_front(reader.waiting()) else {
             return Err(OpenFault::NotFormatted);
-        }
-        reader.pass(HEADER);
+        };
+        reader.begin(form);
         Ok(reader)
+    }
+
+    /// Its form.
+    pub fn form(&self) -> Form
+        ensures { result ≡ self.now.form }
+    {
+        self.form
     }
 
     /// The next record, or the end of them.
@@ -256,7 +258,7 @@ impl RecordReader {
     /// `Fault` where the source failed, and `Memory`. What the reader holds then is left open.
     pub fn next<S: Source>(&mut self, alloc: Global, source: &mut S) -> Result<Found, OpenFault>
         ensures goes { IfOk result (λ found. (before : Option (List ℕ)) (records : List Dated) → HasTaken before (S.left source.old) records self.old → GoesOn before (S.left source.new) records self.new found) }
-        ensures format { OnOk result (self.new.format ≡ self.old.format) }
+        ensures form { OnOk result (self.new.form ≡ self.old.form) }
         ensures legal { IfOk result (λ found. (what : recorded.Record) (moment : ℕ) → found ≡ Found.Record what moment → IsDated (stamped moment what)) }
         ensures unread { IfErr result IsUnread }
         ensures counted { S.faults source.old ≤ S.faults source.new }
@@ -276,7 +278,7 @@ impl RecordReader {
     /// Goes on at a place of the journal, of a source that gives what stands from there on. What waits is read again.
     pub fn go_on_at(&mut self, at: u64)
         ensures again { GoesAgain at self.new }
-        ensures format { self.new.format ≡ self.old.format }
+        ensures form { self.new.form ≡ self.old.form }
     {
         self.held.clear();
         self.at = 0;

@@ -5,6 +5,7 @@ ghost use Rattle.jr_title.specs.Others.{IsFirstOther, HasFlows, HasPair};
 
 use crate::title::{Binding, Title};
 use crate::writing::role_code;
+use std::fmt;
 
 /// A part of a title, in the order in which a difference is told.
 #[derive(Clone, Copy, Debug, PartialEq, Eq)]
@@ -20,6 +21,19 @@ pub enum Part {
     Senders,
     /// The number that both journals of an end have.
     Pair,
+}
+
+impl fmt::Display for Part {
+    fn fmt<W: fmt::Write>(&self, f: &mut fmt::Formatter<W>) -> fmt::Result {
+        match self {
+            Part::Box => write!(f, "box"),
+            Part::Role => write!(f, "role"),
+            Part::Session => write!(f, "session"),
+            Part::Flows => write!(f, "pair of flows"),
+            Part::Senders => write!(f, "way of sending"),
+            Part::Pair => write!(f, "pair of journals"),
+        }
+    }
 }
 
 /// The first part in which a title differs from what is asked for; none exactly where it has all of it. The pair is asked for where

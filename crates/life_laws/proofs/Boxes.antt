@@ -15,7 +15,7 @@ use Rattle.jr_kept.specs.declared.outbox.Outbox.{Outbox}
 use Rattle.jr_kept.specs.Outbox.{front_of, limits_of, faults_of, is_broken}
 use Rattle.gate_turn.specs.Listed.{known_at}
 use Rattle.gate_turn.specs.declared.passes.Passes.{Passes}
-use Rattle.gate_senders.specs.Kept.{account}
+use Rattle.gate_senders.specs.Kept.{bounds, account}
 use Rattle.gate_senders.specs.Gate.{opening_of, OpensOn, ClosedWith}
 use Rattle.gate_senders.specs.declared.gate.Gate.{Gate}
 use Rattle.gate_senders.specs.declared.kept.Kept.{Kept}
@@ -104,7 +104,7 @@ module _ {J : Type 0} {G : Ghosts J} {O : Type 0} {H : Ghosts O} {L : Type 0} (o
     full = λ entries bytes e. ⊎_elim
         (λ b. inl b)
         (λ m. inr (λ i held looks. subst
-        (λ (ps : List (List (List ℕ))). WasFull (record { entries = (limits_of outbox).entries; bytes = (limits_of outbox).bytes }) ps (opening_of gate).history k.history entries bytes)
+        (λ (ps : List (List (List ℕ))). WasFull (bounds (limits_of outbox)) ps (opening_of gate).history k.history entries bytes)
         (sym (plans_submitted plans (planned i).answered)) (full_at gate passes outbox closed o sound k (length plans) many plans entries bytes m)))
         (s.full entries bytes e);
   }

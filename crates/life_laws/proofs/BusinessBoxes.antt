@@ -27,7 +27,7 @@ use Rattle.gate_turn.specs.Rule.{In}
 use Rattle.gate_turn.specs.Calls.{made_part}
 use Rattle.gate_turn.specs.Listed.{known_at}
 use Rattle.gate_turn.specs.declared.passes.Passes.{Passes}
-use Rattle.gate_senders.specs.Kept.{account, next_entry, IsFullAt}
+use Rattle.gate_senders.specs.Kept.{bounds, account, next_entry, IsFullAt}
 use Rattle.gate_senders.specs.Gate.{opening_of, OpensOn, ClosedWith}
 use Rattle.gate_senders.specs.declared.gate.Gate.{Gate}
 use Rattle.gate_senders.specs.declared.kept.Kept.{Kept}
@@ -358,7 +358,7 @@ module _ {J : Type 0} {G : Ghosts J} {O : Type 0} {H : Ghosts O} {L : Type 0} (o
     keeps_outbox life is = know_keeps opening now plan count known i adds life (record { answered = (told i holds t).answered; reached = (told i holds t).reached; passes = (told i holds t).by }) goes k.closed order is
 
     was_full : (entries bytes : ℕ) → result ≡ Err (faults.Full entries bytes) → new.business.refused ≡ Some (faults.Full entries bytes)
-        → WasFull (record { entries = (outboxes.limits_of outbox).entries; bytes = (outboxes.limits_of outbox).bytes }) (plans_at senders list) opening.history k.history entries bytes
+        → WasFull (bounds (outboxes.limits_of outbox)) (plans_at senders list) opening.history k.history entries bytes
     was_full entries bytes e r =
         let m : made.MetFull (λ n. plan n (messages_of list)) count new.business.part entries bytes = (told i holds t).full entries bytes e r in
         let n : ℕ = m.number in
@@ -367,7 +367,7 @@ module _ {J : Type 0} {G : Ghosts J} {O : Type 0} {H : Ghosts O} {L : Type 0} (o
         let at_first : Part = made_part (count + 1) opening n in
         let numbered : q.number ≡ n = stays.number ∙ ap (λ (p : Part). p.number) (was n m.inside) in
         let its : plan_in (plans_over plan count (messages_of list)) n [] ≡ plan n (messages_of list) = plan_at plan count (messages_of list) [] n m.inside in
-        subst (λ (ps : List (List (List ℕ))). WasFull (record { entries = (outboxes.limits_of outbox).entries; bytes = (outboxes.limits_of outbox).bytes }) ps opening.history k.history entries bytes) (sym (plans_answered plan count list))
+        subst (λ (ps : List (List (List ℕ))). WasFull (bounds (outboxes.limits_of outbox)) ps opening.history k.history entries bytes) (sym (plans_answered plan count list))
         (full_at gate passes outbox closed o sound k count many (plans_over plan count (messages_of list)) entries bytes
         (some_pass (MetFull (plans_over plan count (messages_of list)) entries bytes) n m.inside (record {
           payload = m.payload;

@@ -12,7 +12,7 @@ use Rattle.gate_turn.specs.Listed.{known_at}
 use Rattle.gate_turn.specs.Steps.{Found}
 use Rattle.gate_turn.specs.declared.passes.Passes.{Passes}
 use Rattle.gate_turn.proofs.Failing.{failed_after}
-use Rattle.gate_senders.specs.Kept.{account, next_entry, IsFullAt}
+use Rattle.gate_senders.specs.Kept.{bounds, account, next_entry, IsFullAt}
 use Rattle.gate_senders.specs.Gate.{opening_of, OpensOn, ClosedWith}
 use Rattle.gate_senders.specs.declared.gate.Gate.{Gate}
 use Rattle.gate_senders.specs.declared.kept.Kept.{Kept}
@@ -58,7 +58,7 @@ module _ {O : Type 0} {H : Ghosts O} (gate : Gate O H) (passes : Passes (Kept O 
   order_at = ∥∥₁_elim k.holds (order_prop k.history.made) (λ h. h.outbox.in_order)
 
   pub full_at : (plans : List (List (List ℕ))) (entries bytes : ℕ) → SomePass (count + 1) (MetFull plans entries bytes) (known_at passes)
-      → WasFull (record { entries = (limits_of outbox).entries; bytes = (limits_of outbox).bytes }) plans (opening_of gate).history k.history entries bytes
+      → WasFull (bounds (limits_of outbox)) plans (opening_of gate).history k.history entries bytes
   full_at plans entries bytes m =
       let p : Part = known_at passes m.number in
       let at_end : Found p (account closed k.history k.refused) = found_at m.number m.inside in

@@ -18,7 +18,7 @@ use Rattle.jr_kept.specs.Outbox as outboxes
 use Rattle.gate_turn.specs.Views.{Account, HasFailed, Limits, Part}
 use Rattle.gate_turn.specs.Rule.{In}
 use Rattle.gate_turn.specs.declared.passes.Passes.{Passes}
-use Rattle.gate_senders.specs.Kept.{next_entry, IsFullAt}
+use Rattle.gate_senders.specs.Kept.{bounds, next_entry, IsFullAt}
 use Rattle.gate_senders.specs.Gate.{OpensOn, ClosedWith}
 use Rattle.gate_senders.specs.declared.gate.Gate.{Gate}
 use Rattle.gate_senders.specs.declared.kept.Kept.{Kept}
@@ -109,7 +109,7 @@ module _ {J : Type 0} {G : Ghosts J} where
   pub record FillsInbox (box : Inbox J G) (wanted : List InboxRecord) (entries bytes : ℕ) : Type 0 where
     pub entries_are : entries ≡ inboxes.count_of box
     pub bytes_are : bytes ≡ inboxes.size_of box
-    pub past : IsPast (inboxes.limits_of box).bytes bytes wanted
+    pub past : IsPast (inboxes.limits_of box).form (inboxes.limits_of box).bytes bytes wanted
 
   -- The connections were served over these links and the plans submitted beside each other; the passes are back, with that of the connection
   -- behind the senders'; and it answers what comes first of both
@@ -178,7 +178,7 @@ module _ {J : Type 0} {G : Ghosts J} {O : Type 0} {H : Ghosts O} where
     pub full : (entries bytes : ℕ) → result ≡ Err (faults.Full entries bytes)
         → FillsInbox new.box (wanted_of_all (option_to_list served.life.given_up)) entries bytes
         ⊎ ((i : List InboxRecord) (held : inboxes.HoldsBox old.box i []) (looks : senders.waits ≡ true → G.tells)
-        → WasFull (record { entries = (outboxes.limits_of outbox).entries; bytes = (outboxes.limits_of outbox).bytes })
+        → WasFull (bounds (outboxes.limits_of outbox))
         (plans_at senders (planned i held looks).answered) opening closing entries bytes)
 
   -- once a gate is closed with these passes, whatever outbox it was opened on, if that was not broken, it was lived over the boxes

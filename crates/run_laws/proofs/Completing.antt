@@ -15,13 +15,14 @@ use Rattle.life_laws.proofs.Submitting.{never_waits}
 use Rattle.cmd_session.specs.Inputs.{configuration_at, flow_received, end_of}
 use Rattle.cmd_session.specs.Answers.{answerers}
 use Rattle.cmd_session.specs.Boxes.{IsBox}
+use Rattle.cmd_session.specs.Titles.{asked_of}
 use Rattle.cmd_session.specs.Lived.{status_of, IsPlannedLife, LeftAll, HasLivedOver, LivedAnswering, Lived}
 use Rattle.cmd_session.specs.Outsides.{Sees, live_of, counts_of}
 use Rattle.cmd_session.specs.Steps.{StopsAtConfig, StopsAtBoxes, StopsAtInput, EndsBehindConfig, WasConfigured, Steps}
 use Rattle.cmd_session.specs.declared.outside.SessionOutside.{SessionOutside}
 use Rattle.cmd_session.proofs.Reading.{many_plans}
-use Rattle.run_laws.specs.Completeness.{NoneRose, TellsPlans, IsSetUp, IsSetUpWithDesks, EndsAs, IsBehindFinish, IsOfConnections, WantsMemory, CompletedBy, Completed, CompletedWithDesks, RunCompletes, DesksComplete}
-use Rattle.run_laws.proofs.Refusing.{some_of, config_memory, box_memory, input_memory, plans_memory}
+use Rattle.run_laws.specs.Completeness.{NoneRose, AreTitled, TellsPlans, IsSetUp, IsSetUpWithDesks, EndsAs, IsBehindFinish, IsOfConnections, WantsMemory, CompletedBy, Completed, CompletedWithDesks, RunCompletes, DesksComplete}
+use Rattle.run_laws.proofs.Refusing.{some_of, config_memory, box_memory, titles_memory, input_memory, plans_memory}
 use Rattle.run_laws.proofs.Ending.{BlamesNone, of_business, ends_as, behind_finish, unrefused, full_is}
 
 -- a text has a plan for each of its senders
@@ -38,11 +39,14 @@ module _ {S K D N C J : Type 0} (G : Ghosts J) (sees : Sees S K D N C)
       let t = some_of (sees.left before.config) (λ text. configuration_at role text ≡ Ok c) config in
       wants_memory (config_memory c (configuration_at role t.0) status t.2 (s.verdict t.0 t.1) (λ e. none.config (s.cause e))) s.kept.behind.behind.live.dialer
 
-  at_boxes : IsSomeAnd (sees.told before.out_disk) (IsBox Outbox (flow_received role c.link)) → IsSomeAnd (sees.told before.in_disk) (IsBox Inbox (flow_received role c.link)) → StopsAtBoxes sees role c before after status
+  at_boxes : AreTitled sees role c before → IsSomeAnd (sees.told before.out_disk) (IsBox Outbox (flow_received role c.link)) → IsSomeAnd (sees.told before.in_disk) (IsBox Inbox (flow_received role c.link)) → StopsAtBoxes sees role c before after status
       → WantsMemory before after status
-  at_boxes outbox inbox s = ⊎_elim
+  at_boxes titled outbox inbox s = ⊎_elim
       (λ o. wants_memory (box_memory Outbox (flow_received role c.link) (sees.told before.out_disk) status outbox o.refused (λ e. none.out_disk (o.cause e))) s.kept.live.dialer)
+      (λ other. ⊎_elim
       (λ i. wants_memory (box_memory Inbox (flow_received role c.link) (sees.told before.in_disk) status inbox i.refused (λ e. none.in_disk (i.cause e))) s.kept.live.dialer)
+      (λ t. wants_memory (titles_memory (asked_of role c) (sees.told before.out_disk) (sees.told before.in_disk) status titled t.refused (λ e. ⊎_elim none.out_disk none.in_disk (t.cause e))) s.kept.live.dialer)
+      other)
       s.refused
 
   unbegun : LeftAll sees before after status → WantsMemory before after status
@@ -121,7 +125,7 @@ module _ {S K D N C J : Type 0} (G : Ghosts J) (sees : Sees S K D N C)
 
     behind_config : EndsBehindConfig G sees role c before after status → LeftEnds
     behind_config e = ⊎_elim
-        (λ s. inl (at_boxes set_up.outbox set_up.inbox s))
+        (λ s. inl (at_boxes set_up.titled set_up.outbox set_up.inbox s))
         (λ r. ⊎_elim (λ p. ⊎_elim (λ s. inl (at_input s)) at_life p.1.ended) (λ d. let some = d.0 in let none_at = set_up.no_desks in absurd (omega (arith, some, none_at))) r)
         e
 
@@ -146,7 +150,7 @@ module _ {S K D N C J : Type 0} (G : Ghosts J) (sees : Sees S K D N C)
 
     behind_desks : EndsBehindConfig G sees role c before after status → DesksEnd
     behind_desks e = ⊎_elim
-        (λ s. inl (at_boxes set_up.outbox set_up.inbox s))
+        (λ s. inl (at_boxes set_up.titled set_up.outbox set_up.inbox s))
         (λ r. ⊎_elim (λ p. let none_at = p.0 in let some = set_up.desks in absurd (omega (arith, some, none_at))) (λ d. at_answering d.1.lived) r)
         e
 

@@ -41,6 +41,8 @@ use Rattle.cmd_session.specs.Journals.{Leaves}
 use Rattle.cmd_session.specs.Inputs.{IsConfigured, RefusesInput, RefusesPlans, flow_received, end_of}
 use Rattle.cmd_session.specs.Lived.{status_of, LeftAll, LivedOver, HasLivedOver, Lived}
 use Rattle.cmd_session.specs.Outsides.{Sees, disks_of}
+use Rattle.cmd_session.specs.Titles.{asked_of, IsAnothers}
+use Rattle.cmd_session.specs.declared.titles.Asked.{Asked}
 use Rattle.cmd_session.specs.Steps.{RefusedBoxes, StopsAtInput, EndsBehindConfig, Steps}
 use Rattle.cmd_session.specs.declared.outside.SessionOutside.{SessionOutside}
 use Rattle.cmd_feed.specs.declared.outside.FeedOutside.{FeedOutside}
@@ -113,9 +115,10 @@ module _ {S K D N C J : Type 0} (G : Ghosts J) (sees : Sees S K D N C) (role : R
   abbrev pub served_by : LivedToFinish → List Served
   served_by l = served_of _ _ _ _ l.over.served.life ∷ []
 
-  no_box : (flow : _) (status : Status) → status ≡ Done → RefusedBoxes sees.told sees.may_leave sees.disk flow (disks_of before) (disks_of after) status → ⊥
-  no_box flow status done (inl o) = subst (IsNotOpened Outbox flow (sees.told before.out_disk)) done o.refused
-  no_box flow status done (inr i) = subst (IsNotOpened InboxOf flow (sees.told before.in_disk)) done i.refused
+  no_box : (asked : Asked) (flow : _) (status : Status) → status ≡ Done → RefusedBoxes sees.told sees.may_leave sees.disk asked flow (disks_of before) (disks_of after) status → ⊥
+  no_box asked flow status done (inl o) = subst (IsNotOpened Outbox flow (sees.told before.out_disk)) done o.refused
+  no_box asked flow status done (inr (inl i)) = subst (IsNotOpened InboxOf flow (sees.told before.in_disk)) done i.refused
+  no_box asked flow status done (inr (inr t)) = subst (IsAnothers asked (sees.told before.out_disk) (sees.told before.in_disk)) done t.refused
 
   -- one that was not fed
   module _ (status : Status) (done : status ≡ Done) (P : List Served → Type 0) (lived : (l : LivedToFinish) → P (served_by l)) where
@@ -145,7 +148,7 @@ module _ {S K D N C J : Type 0} (G : Ghosts J) (sees : Sees S K D N C) (role : R
     by_input c spelled (inr on) = by_life c spelled (submitting on.plans) on.lived
 
     by_config : (c : Configuration) → IsConfigured role (sees.left before.config) c → (l : EndsBehindConfig G sees role c before after status) → P (served_behind_config G sees role before after status c l)
-    by_config c spelled (inl boxes) = absurd (no_box (flow_received role c.link) status done boxes.refused)
+    by_config c spelled (inl boxes) = absurd (no_box (asked_of role c) (flow_received role c.link) status done boxes.refused)
     by_config c spelled (inr (inl on)) = by_input c spelled on.1.ended
     by_config c spelled (inr (inr on)) = by_life c spelled (answerers c.trade) on.1.lived.lived
 
@@ -173,22 +176,22 @@ module _ {S I K A D N C J : Type 0} (G : Ghosts J) (sees : FeedSees S I K A D N 
       })
 
   module _ (c : Configuration) (spelled : IsConfigured role (sees.session.left before.config) c) where
-    by_begun : (on : RunsOverBoxes G sees c.trade.senders (end_of role c.link) before after status) (begun : K)
+    by_begun : (on : RunsOverBoxes G sees c.trade.senders (asked_of role c) (end_of role c.link) before after status) (begun : K)
         (l : LivedNone sees (record before { in_disk = on.opened; out = begun }) after status
         ⊎ HasLivedFedOver G sees (end_of role c.link) c.trade.senders (record before { in_disk = on.opened; out = begun }) after status)
         → P (served_fed G sees role before after status (life_begun G sees role before after status c spelled on begun l))
     by_begun on begun (inl none) = absurd (no_memory status done none.memory)
     by_begun on begun (inr over) = by_feeding (record { configuration = c; spelled = spelled; on = on; begun = begun; lived = over })
 
-    by_boxes : (on : RunsOverBoxes G sees c.trade.senders (end_of role c.link) before after status)
+    by_boxes : (on : RunsOverBoxes G sees c.trade.senders (asked_of role c) (end_of role c.link) before after status)
         (l : EndsBehindBoxes G sees c.trade.senders (end_of role c.link) (record before { in_disk = on.opened }) after status)
         → P (served_fed G sees role before after status (life_behind_boxes G sees role before after status c spelled on l))
     by_boxes on (inl out) = absurd (subst (RefusesOut (sees.session.told on.opened)) done out.refused)
     by_boxes on (inr (inl accepted)) = absurd (no_output status done accepted.failed)
     by_boxes on (inr (inr lives)) = by_begun on lives.begun lives.lived
 
-    by_disks : (l : EndsOverDisks G sees c.trade.senders (end_of role c.link) before after status) → P (served_fed G sees role before after status (life_over_disks G sees role before after status c spelled l))
-    by_disks (inl boxes) = absurd (no_box G sees.session role (session_of before) (session_of after) (flow_received role c.link) status done boxes.refused)
+    by_disks : (l : EndsOverDisks G sees c.trade.senders (asked_of role c) (end_of role c.link) before after status) → P (served_fed G sees role before after status (life_over_disks G sees role before after status c spelled l))
+    by_disks (inl boxes) = absurd (no_box G sees.session role (session_of before) (session_of after) (asked_of role c) (flow_received role c.link) status done boxes.refused)
     by_disks (inr on) = by_boxes on on.ended
 
     desks_config : (l : EndsFed G sees role c before after status) → P (served_fed G sees role before after status (life_behind_config G sees role before after status c spelled l))

@@ -17,10 +17,14 @@ use Rattle.cmd_config.specs.declared.configuration.Configuration.{Configuration}
 use Rattle.cmd_session.specs.Answers.{answerers}
 use Rattle.cmd_session.specs.Boxes.{IsBox}
 use Rattle.cmd_session.specs.Inputs.{IsConfigured, end_of}
+use Rattle.jr_dated.specs.declared.form.Form.{Form}
+use Rattle.jr_dated.specs.Images.{HasForm}
 use Rattle.cmd_session.specs.Journals.{IsJournal}
 use Rattle.cmd_session.specs.Lived.{KeepsRecords, LeftBoth, LivedOver, HasLivedOver, status_of}
 use Rattle.cmd_session.specs.Outsides.{Sees, disks_of}
 use Rattle.cmd_session.specs.Steps.{RefusedBoxes}
+use Rattle.cmd_session.specs.Titles.{asked_of}
+use Rattle.cmd_session.specs.declared.titles.Asked.{Asked}
 use Rattle.cmd_session.specs.declared.outside.SessionOutside.{SessionOutside}
 use Rattle.cmd_session.proofs.Verdicts.{at_most_one_verdict}
 use Rattle.cmd_feed.specs.declared.outside.FeedOutside.{FeedOutside}
@@ -49,12 +53,13 @@ module _ {S I K A D N C : Type 0} (sees : FeedSees S I K A D N C) (before after 
     dialer_is = s.kept.behind.behind.live.dialer;
   }
 
-  pub boxes_kept : (end : EndConfig) → StopsAtBoxes sees end before after status → FedUnlived
-  boxes_kept end s = by_box s.refused
+  pub boxes_kept : (asked : Asked) (end : EndConfig) → StopsAtBoxes sees asked end before after status → FedUnlived
+  boxes_kept asked end s = by_box s.refused
     where
-      by_box : RefusedBoxes sees.session.told sees.session.may_leave sees.session.disk end.peer_flow (disks_of (session_of before)) (disks_of (session_of after)) status → FedUnlived
-      by_box (inl o) = record { outbox = o.outbox_kept; inbox = same_kept sees.session before.in_disk after.in_disk o.inbox_is; dialer_is = s.live.dialer }
-      by_box (inr i) = record { outbox = inr i.outbox_kept; inbox = i.inbox_kept; dialer_is = s.live.dialer }
+      by_box : RefusedBoxes sees.session.told sees.session.may_leave sees.session.disk asked end.peer_flow (disks_of (session_of before)) (disks_of (session_of after)) status → FedUnlived
+      by_box (inl o) = record { outbox = o.outbox_kept; inbox = inl o.inbox_kept; dialer_is = s.live.dialer }
+      by_box (inr (inl i)) = record { outbox = inr i.outbox_kept; inbox = i.inbox_kept; dialer_is = s.live.dialer }
+      by_box (inr (inr t)) = record { outbox = inl t.outbox_kept; inbox = inl t.inbox_kept; dialer_is = s.live.dialer }
 
 -- a text that is told
 pub told_text : (o : Option (List ℕ)) → IsTrue (is_some o) → (text : List ℕ) × (o ≡ Some text)
@@ -71,6 +76,10 @@ module _ {D : Type 0} (told : D → Option (List ℕ)) (may_leave : D → List �
       let now : IsJournal t.0 b.records = is.tells content e t.0 t.1 b.records b.journal in
       subst (λ (rs : List Record). IsJournal content rs) (at_most_one_verdict.one_list t.0 b.records records now (held t.0 t.1)) b.journal
 
+  -- and in the same form
+  pub formed_before : (form : Form) → ForSome (told opened) (HasForm form) → ForSome (told before) (HasForm form)
+  formed_before form formed content e = let t = told_text (told opened) (tells opened) in is.forms content e t.0 t.1 form (formed t.0 t.1)
+
   kept_before : (after : D) → KeepsRecords told may_leave opened after → KeepsRecords told may_leave before after
   kept_before after k = record { records = k.records; held = held_before k.records k.held; left = k.left }
 
@@ -79,7 +88,7 @@ module _ {D : Type 0} (told : D → Option (List ℕ)) (may_leave : D → List �
 
 module _ {S I K A D N C J : Type 0} (G : Ghosts J) (sees : FeedSees S I K A D N C) (role : Role) (before after : FeedOutside S I K A D N C) (status : Status)
     (tells : (d : D) → IsTrue (is_some (sees.session.told d))) where
-  module _ (senders : ℕ) (end : EndConfig) (on : RunsOverBoxes G sees senders end before after status) where
+  module _ (senders : ℕ) (asked : Asked) (end : EndConfig) (on : RunsOverBoxes G sees senders asked end before after status) where
     pub left_kept : LeftBoth sees.session.told sees.session.may_leave (disks_of (session_of (record before { in_disk = on.opened }))) (disks_of (session_of after))
         → after.dialer ≡ before.dialer → FedUnlived sees before after status
     left_kept left dialer = record {
@@ -102,6 +111,11 @@ module _ {S I K A D N C J : Type 0} (G : Ghosts J) (sees : FeedSees S I K A D N 
     out_opened = l.lived.over.out_opened;
     in_opened = held_before sees.session.told sees.session.may_leave sees.session.disk (end_of role l.configuration.link).peer_flow before.in_disk l.on.opened l.on.boxes.inbox l.on.is_opened tells
         (records_of_inbox l.lived.over.inbox) l.lived.over.in_opened;
+    out_form = l.lived.over.out_form;
+    in_form = l.lived.over.in_form;
+    out_formed = l.lived.over.out_formed;
+    in_formed = formed_before sees.session.told sees.session.may_leave sees.session.disk (end_of role l.configuration.link).peer_flow before.in_disk l.on.opened l.on.boxes.inbox l.on.is_opened tells
+        l.lived.over.in_form l.lived.over.in_formed;
     holds = l.lived.over.holds;
     served = l.lived.over.served;
     answer = l.lived.over.answer;
@@ -138,22 +152,22 @@ module _ {S I K A D N C J : Type 0} (G : Ghosts J) (sees : FeedSees S I K A D N 
   module _ (P : Option (FedLife G sees role before after status) → Type 0) (unlived : FedUnlived sees before after status → P None)
       (lived : (l : FedLife G sees role before after status) → P (Some l)) where
     module _ (c : Configuration) (spelled : IsConfigured role (sees.session.left before.config) c) where
-      by_begun : (on : RunsOverBoxes G sees c.trade.senders (end_of role c.link) before after status) (begun : K)
+      by_begun : (on : RunsOverBoxes G sees c.trade.senders (asked_of role c) (end_of role c.link) before after status) (begun : K)
           (l : LivedNone sees (record before { in_disk = on.opened; out = begun }) after status
           ⊎ HasLivedFedOver G sees (end_of role c.link) c.trade.senders (record before { in_disk = on.opened; out = begun }) after status)
           → P (life_begun G sees role before after status c spelled on begun l)
-      by_begun on begun (inl none) = unlived (left_kept c.trade.senders (end_of role c.link) on none.left none.dialer_is)
+      by_begun on begun (inl none) = unlived (left_kept c.trade.senders (asked_of role c) (end_of role c.link) on none.left none.dialer_is)
       by_begun on begun (inr over) = lived (record { configuration = c; spelled = spelled; on = on; begun = begun; lived = over })
 
-      by_boxes : (on : RunsOverBoxes G sees c.trade.senders (end_of role c.link) before after status)
+      by_boxes : (on : RunsOverBoxes G sees c.trade.senders (asked_of role c) (end_of role c.link) before after status)
           (l : EndsBehindBoxes G sees c.trade.senders (end_of role c.link) (record before { in_disk = on.opened }) after status)
           → P (life_behind_boxes G sees role before after status c spelled on l)
-      by_boxes on (inl out) = unlived (left_kept c.trade.senders (end_of role c.link) on out.left out.links.dialer)
-      by_boxes on (inr (inl accepted)) = unlived (left_kept c.trade.senders (end_of role c.link) on accepted.left accepted.links.dialer)
+      by_boxes on (inl out) = unlived (left_kept c.trade.senders (asked_of role c) (end_of role c.link) on out.left out.links.dialer)
+      by_boxes on (inr (inl accepted)) = unlived (left_kept c.trade.senders (asked_of role c) (end_of role c.link) on accepted.left accepted.links.dialer)
       by_boxes on (inr (inr lives)) = by_begun on lives.begun lives.lived
 
-      by_disks : (l : EndsOverDisks G sees c.trade.senders (end_of role c.link) before after status) → P (life_over_disks G sees role before after status c spelled l)
-      by_disks (inl boxes) = unlived (boxes_kept sees before after status (end_of role c.link) boxes)
+      by_disks : (l : EndsOverDisks G sees c.trade.senders (asked_of role c) (end_of role c.link) before after status) → P (life_over_disks G sees role before after status c spelled l)
+      by_disks (inl boxes) = unlived (boxes_kept sees before after status (asked_of role c) (end_of role c.link) boxes)
       by_disks (inr on) = by_boxes on on.ended
 
       by_config : (l : EndsFed G sees role c before after status) → P (life_behind_config G sees role before after status c spelled l)

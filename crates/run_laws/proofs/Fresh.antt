@@ -16,7 +16,7 @@ use Rattle.cmd_session.specs.Boxes.{IsBox}
 use Rattle.cmd_session.specs.Inputs.{flow_received}
 use Rattle.cmd_session.specs.Outsides.{Sees}
 use Rattle.cmd_session.specs.declared.outside.SessionOutside.{SessionOutside}
-use Rattle.run_laws.specs.Completeness.{GoOnFrom, TellsPlans, FreshIsSetUp, FreshIsSetUpWithDesks}
+use Rattle.run_laws.specs.Completeness.{GoOnFrom, IsFresh, TellsPlans, FreshIsSetUp, FreshIsSetUpWithDesks}
 
 -- what follows of the value that is told
 of_told : {A : Type 0} (o : Option A) (P Q : A → Type 0) → ((a : A) → P a → Q a) → IsSomeAnd o P → IsSomeAnd o Q
@@ -27,15 +27,17 @@ no_record : (before after : List InboxRecord) (r : InboxRecord) → [] ≡ befor
 no_record before after r e = omega (arith, ap length e, length-append before (r ∷ after))
 
 -- a journal without records is one of either box
-pub empty_box : (which : Which) (flow : Flow) (content : List ℕ) → IsJournal content [] → IsBox which flow content
+pub empty_box : (which : Which) (flow : Flow) (content : List ℕ) → IsFresh content → IsBox which flow content
 empty_box Outbox flow content j = record {
   records = [];
-  journal = j;
+  journal = j.0;
+  uncut = j.1;
   those = (record { made = []; finished = false }, record { spelled = refl; senders = tt; payloads = tt; in_order = λ s. refl });
 }
 empty_box Inbox flow content j = record {
   records = [];
-  journal = j;
+  journal = j.0;
+  uncut = j.1;
   those = ([], record { spelled = refl; fits = λ before after r e. absurd (no_record before after r e) });
 }
 
@@ -65,23 +67,25 @@ so_told None P h a e = absurd h
 so_told (Some b) P h a e = let same : b ≡ a = cc in subst P same h
 
 -- what is empty is a box of either kind
-box_told : (which : Which) (flow : Flow) (told : Option (List ℕ)) → IsSomeAnd told (λ content. IsJournal content []) → IsSomeAnd told (IsBox which flow)
-box_told which flow told empty = of_told told (λ content. IsJournal content []) (IsBox which flow) (empty_box which flow) empty
+box_told : (which : Which) (flow : Flow) (told : Option (List ℕ)) → IsSomeAnd told IsFresh → IsSomeAnd told (IsBox which flow)
+box_told which flow told empty = of_told told IsFresh (IsBox which flow) (empty_box which flow) empty
 
 pub fresh_is_set_up : {S K D N C : Type 0} (sees : Sees S K D N C) (before : SessionOutside S K D N C) → FreshIsSetUp sees before
-fresh_is_set_up sees before role c config none outbox inbox input = record {
+fresh_is_set_up sees before role c config none titled outbox inbox input = record {
   config = config;
   no_desks = none;
+  titled = titled;
   outbox = box_told Outbox (flow_received role c.link) (sees.told before.out_disk) outbox;
   inbox = box_told Inbox (flow_received role c.link) (sees.told before.in_disk) inbox;
   input = subst (λ (o : Option (List ℕ)). IsSomeAnd o (TellsPlans c.trade.senders)) (sym input) (no_lines c.trade.senders);
-  goes_on = λ content told text read. goes_on_fresh c.trade.senders content text (so_told (sees.told before.out_disk) (λ content. IsJournal content []) outbox content told);
+  goes_on = λ content told text read. goes_on_fresh c.trade.senders content text (so_told (sees.told before.out_disk) IsFresh outbox content told).0;
 }
 
 pub fresh_is_set_up_with_desks : {S K D N C : Type 0} (sees : Sees S K D N C) (before : SessionOutside S K D N C) → FreshIsSetUpWithDesks sees before
-fresh_is_set_up_with_desks sees before role c config some outbox inbox = record {
+fresh_is_set_up_with_desks sees before role c config some titled outbox inbox = record {
   config = config;
   desks = some;
+  titled = titled;
   outbox = box_told Outbox (flow_received role c.link) (sees.told before.out_disk) outbox;
   inbox = box_told Inbox (flow_received role c.link) (sees.told before.in_disk) inbox;
 }

@@ -52,6 +52,8 @@ use Rattle.cmd_session.specs.Inputs.{flow_received, end_of}
 use Rattle.cmd_session.specs.Journals.{IsJournal, Leaves}
 use Rattle.cmd_session.specs.Lived.{IsUnbegun, LeftAll, LivedOver, HasLivedOver}
 use Rattle.cmd_session.specs.Outsides.{Sees, disks_of}
+use Rattle.cmd_session.specs.Titles.{asked_of, IsAnothers}
+use Rattle.cmd_session.specs.declared.titles.Asked.{Asked}
 use Rattle.cmd_session.specs.Steps.{RefusedBoxes, EndsBehindConfig, Steps}
 use Rattle.cmd_session.specs.declared.outside.SessionOutside.{SessionOutside}
 use Rattle.cmd_feed.specs.declared.outside.FeedOutside.{FeedOutside}
@@ -272,6 +274,11 @@ not_opened which flow told JournalFault is of = of
 not_opened which flow told Memory is of = of
 not_opened which flow told _ is of = is
 
+not_bound : (asked : Asked) (told_out told_in : Option (List ℕ)) (status : Status) → IsAnothers asked told_out told_in status → IsOfConnections status → ⊥
+not_bound asked told_out told_in (JournalBad box cause) is of = of
+not_bound asked told_out told_in JournalFault is of = of
+not_bound asked told_out told_in _ is of = is
+
 not_with_desks : (fault : ConfigFault) (status : Status) → (status ≡ Config fault) ⊎ (status ≡ Memory) → IsOfConnections status → ⊥
 not_with_desks fault status (inl is) of = subst IsOfConnections is of
 not_with_desks fault status (inr is) of = subst IsOfConnections is of
@@ -300,9 +307,10 @@ module _ {S K D N C J : Type 0} (G : Ghosts J) (sees : Sees S K D N C) (role : R
     lived = subst (λ (senders : Senders). HasLivedOver G sees (end_of role c.link) senders before after status) (same_answerers trade c.trade same) lived;
   })
 
-  boxes_unended : (c : Configuration) → RefusedBoxes sees.told sees.may_leave sees.disk (flow_received role c.link) (disks_of before) (disks_of after) status → IsOfConnections status → ⊥
+  boxes_unended : (c : Configuration) → RefusedBoxes sees.told sees.may_leave sees.disk (asked_of role c) (flow_received role c.link) (disks_of before) (disks_of after) status → IsOfConnections status → ⊥
   boxes_unended c (inl x) of = not_opened Outbox (flow_received role c.link) (sees.told before.out_disk) status x.refused of
-  boxes_unended c (inr x) of = not_opened Inbox (flow_received role c.link) (sees.told before.in_disk) status x.refused of
+  boxes_unended c (inr (inl x)) of = not_opened Inbox (flow_received role c.link) (sees.told before.in_disk) status x.refused of
+  boxes_unended c (inr (inr x)) of = not_bound (asked_of role c) (sees.told before.out_disk) (sees.told before.in_disk) status x.refused of
 
   by_config : (c : Configuration) → HasSameDesks trade c.trade → EndsBehindConfig G sees role c before after status → NoneLived ⊎ LivedByThem
   by_config c same (inl refused) = inl (record { kept = boxes_kept sees before after status role c refused; unended = boxes_unended c refused.refused })

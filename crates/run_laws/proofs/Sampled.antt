@@ -82,6 +82,15 @@ use Rattle.run_laws.specs.Linked.{no_more, paired}
 use Rattle.run_laws.specs.Samples.{configured, config_text, both_recoverable, message, submitted, nothing, with_one, journal_of, MemoryDisk, IsOneOf, memory_links, memory, fed_memory, settled, torn, one_left, MemoryOutside, MemoryRun, stopped_run, cut_run, of_initiator, of_acceptor, runs_of_initiator, runs_of_acceptor, RunsSample}
 use Rattle.plan_outbox.specs.Behind.{GoesOnFrom}
 use Rattle.run_laws.proofs.Fresh.{empty_box, goes_on_nothing}
+use Rattle.run_laws.specs.Completeness.{IsFresh}
+use Rattle.cmd_session.specs.Titles.{asked_of}
+use Rattle.cmd_session.proofs.Titled.{plain_bound}
+use Rattle.jr_record.specs.Images.{gated}
+use Rattle.jr_dated.specs.declared.form.Form.TheVariants.{Two}
+use Rattle.jr_dated.specs.Images.{HasForm}
+use Rattle.jr_dated.specs.Dated.{spelled as record_bytes}
+use Rattle.jr_dated.proofs.Forms.{begins_form}
+use Rattle.jr_dated.proofs.Verdicts.{plain_uncut}
 use Rattle.cmd_session.specs.Answers.{answers_of, answerers}
 use Rattle.run_laws.specs.Desks.{HasSameDesks, RunsDesks}
 use Rattle.run_laws.specs.DeskSamples.{with_desks, desks_text, DesksSample}
@@ -101,20 +110,31 @@ in_order s = by_test (1 == s)
     by_test false = refl
 
 pub journal_nothing : IsJournal (journal_of nothing) (records_of_history nothing)
-journal_nothing = ([], record { legal = tt; closed = 0; is_closed = λ e. omega (arith, e); behind = []; whole = refl }, refl)
+journal_nothing = ([], record { form = Two; is = tt; holds = record { legal = tt; closed = 0; is_closed = λ e. omega (arith, e); behind = []; whole = refl } }, refl)
 
 pub journal_one : IsJournal (journal_of with_one) (records_of_history with_one)
 journal_one = (
   dated 0 (records_of_history with_one),
   record {
-    legal = ((((omega arith, omega arith), (omega arith, omega arith), (omega arith, omega arith)), omega arith), tt);
-    closed = 0;
-    is_closed = λ e. omega (arith, e);
-    behind = [];
-    whole = refl;
+    form = Two;
+    is = tt;
+    holds = record {
+      legal = ((((omega arith, omega arith), (omega arith, omega arith), (omega arith, omega arith)), omega arith), tt);
+      closed = 0;
+      is_closed = λ e. omega (arith, e);
+      behind = [];
+      whole = refl;
+    };
   },
   refl,
 )
+
+-- they are of format 2, and hide no records
+pub plain : (h : History) → HasForm Two (journal_of h)
+plain h = begins_form Two (journal_of h) (gated record_bytes (dated 0 (records_of_history h)) ++ 0 ∷ []) tt refl
+
+pub fresh_nothing : IsFresh (journal_of nothing)
+fresh_nothing = (journal_nothing, plain_uncut (journal_of nothing) (plain nothing))
 
 -- what a disk leaves that was settled, or torn, are journals of these
 pub settled_leaves : (h : History) → IsJournal (journal_of h) (records_of_history h) → LeavesImages (λ content. IsOneOf content (settled h).left) (records_of_history h) []
@@ -237,6 +257,10 @@ module _ {J : Type 0} {G : Ghosts J} (box : Inbox J G) (held : HoldsBox box [] [
     refused = refused;
     out_opened = subst (λ (d : MemoryDisk). ForSome (memory.told d) (λ content. IsJournal content (records_of_history h))) (sym out_is) (told_so (λ content. IsJournal content (records_of_history h)) (journal_of h) j);
     in_opened = subst (λ (d : MemoryDisk). ForSome (memory.told d) (λ content. IsJournal content [])) (sym in_was) (told_so (λ content. IsJournal content []) (journal_of nothing) journal_nothing);
+    out_form = Two;
+    in_form = Two;
+    out_formed = subst (λ (d : MemoryDisk). ForSome (memory.told d) (HasForm Two)) (sym out_is) (told_so (HasForm Two) (journal_of h) (plain h));
+    in_formed = subst (λ (d : MemoryDisk). ForSome (memory.told d) (HasForm Two)) (sym in_was) (told_so (HasForm Two) (journal_of nothing) (plain nothing));
     holds = held;
     served = served;
     answer = answer;
@@ -256,8 +280,8 @@ module _ {J : Type 0} {G : Ghosts J} (box : Inbox J G) (held : HoldsBox box [] [
     in_left = subst (λ (d : MemoryDisk). LeavesImages (memory.may_leave d) (records_of_inbox ([] ++ adds_of (all_of served.life.ended served.life.given_up))) (records_of_inbox (refused_of_all (option_to_list served.life.given_up)))) (sym in_is)
         (subst (λ (rs : List InboxRecord). LeavesImages (memory.may_leave (settled nothing)) (records_of_inbox rs) (records_of_inbox (refused_of_all (option_to_list served.life.given_up)))) (sym adds)
         (subst (λ (rs : List InboxRecord). LeavesImages (memory.may_leave (settled nothing)) [] (records_of_inbox rs)) (sym none) (settled_leaves nothing journal_nothing)));
-    room = subst (λ (rs : List InboxRecord). HaveRoom (2 ^ 33) (journal_size []) (rs ++ refused_of_all (option_to_list served.life.given_up))) (sym adds)
-        (subst (λ (rs : List InboxRecord). HaveRoom (2 ^ 33) (journal_size []) rs) (sym none) tt);
+    room = subst (λ (rs : List InboxRecord). HaveRoom Two (2 ^ 33) (journal_size Two []) (rs ++ refused_of_all (option_to_list served.life.given_up))) (sym adds)
+        (subst (λ (rs : List InboxRecord). HaveRoom Two (2 ^ 33) (journal_size Two []) rs) (sym none) tt);
     marked = λ u some waits. marked u some;
     sent = λ u waits t. absurd (true≢false (sym waits));
     all = λ unmet u some looks. inl (all unmet some);
@@ -661,10 +685,13 @@ module _ {J : Type 0} {G : Ghosts J} (box : Inbox J G) (held : HoldsBox box [] [
         refl,
         record {
           boxes = record {
+            bound = plain_bound (asked_of role configured) (memory.told r.before.out_disk) (memory.told r.before.in_disk)
+                (subst (λ (d : MemoryDisk). ForSome (memory.told d) (HasForm Two)) (sym out_is) (told_so (HasForm Two) (journal_of h) (plain h)))
+                (subst (λ (d : MemoryDisk). ForSome (memory.told d) (HasForm Two)) (sym in_is) (told_so (HasForm Two) (journal_of nothing) (plain nothing)));
             outbox = subst (λ (d : MemoryDisk). ForSome (memory.told d) (IsBox Outbox (flow_received role configured.link))) (sym out_is)
-                (told_so (IsBox Outbox (flow_received role configured.link)) (journal_of h) (record { records = records_of_history h; journal = j; those = (h, outbox) }));
+                (told_so (IsBox Outbox (flow_received role configured.link)) (journal_of h) (record { records = records_of_history h; journal = j; uncut = plain_uncut (journal_of h) (plain h); those = (h, outbox) }));
             inbox = subst (λ (d : MemoryDisk). ForSome (memory.told d) (IsBox InboxBox (flow_received role configured.link))) (sym in_is)
-                (told_so (IsBox InboxBox (flow_received role configured.link)) (journal_of nothing) (empty_box InboxBox (flow_received role configured.link) (journal_of nothing) journal_nothing));
+                (told_so (IsBox InboxBox (flow_received role configured.link)) (journal_of nothing) (empty_box InboxBox (flow_received role configured.link) (journal_of nothing) fresh_nothing));
           };
           ended = inr (record {
             plans = plans;
@@ -797,6 +824,10 @@ module _ {J : Type 0} {G : Ghosts J} (box : Inbox J G) (held : HoldsBox box [] [
     refused = None;
     out_opened = alike.out_opened;
     in_opened = alike.in_opened;
+    out_form = alike.out_form;
+    in_form = alike.in_form;
+    out_formed = alike.out_formed;
+    in_formed = alike.in_formed;
     holds = held;
     served = alike.served;
     answer = refl;
@@ -843,8 +874,10 @@ module _ {J : Type 0} {G : Ghosts J} (box : Inbox J G) (held : HoldsBox box [] [
         omega arith,
         record {
           boxes = record {
-            outbox = told_so (IsBox Outbox (flow_received Acceptor configured.link)) (journal_of nothing) (empty_box Outbox (flow_received Acceptor configured.link) (journal_of nothing) journal_nothing);
-            inbox = told_so (IsBox InboxBox (flow_received Acceptor configured.link)) (journal_of nothing) (empty_box InboxBox (flow_received Acceptor configured.link) (journal_of nothing) journal_nothing);
+            bound = plain_bound (asked_of Acceptor with_desks) (memory.told cut.before.out_disk) (memory.told cut.before.in_disk)
+                (told_so (HasForm Two) (journal_of nothing) (plain nothing)) (told_so (HasForm Two) (journal_of nothing) (plain nothing));
+            outbox = told_so (IsBox Outbox (flow_received Acceptor configured.link)) (journal_of nothing) (empty_box Outbox (flow_received Acceptor configured.link) (journal_of nothing) fresh_nothing);
+            inbox = told_so (IsBox InboxBox (flow_received Acceptor configured.link)) (journal_of nothing) (empty_box InboxBox (flow_received Acceptor configured.link) (journal_of nothing) fresh_nothing);
           };
           lived = record {
             of_life = tt;

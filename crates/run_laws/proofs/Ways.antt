@@ -14,6 +14,7 @@ use Rattle.cmd_session.specs.Answers.{answerers}
 use Rattle.cmd_session.specs.Inputs.{IsConfigured, ArePlanned, flow_received, end_of}
 use Rattle.cmd_session.specs.Lived.{IsKept, LeftAll, HasLivedOver, Lived}
 use Rattle.cmd_session.specs.Outsides.{Sees, disks_of}
+use Rattle.cmd_session.specs.Titles.{asked_of}
 use Rattle.cmd_session.specs.Steps.{RefusedBoxes, StopsAtConfig, StopsAtBoxes, StopsAtInput, EndsBehindConfig, Steps}
 use Rattle.cmd_session.specs.declared.outside.SessionOutside.{SessionOutside}
 
@@ -39,9 +40,10 @@ module _ {S K D N C : Type 0} (sees : Sees S K D N C) where
     pub boxes_kept : (role : Role) (c : Configuration) → StopsAtBoxes sees role c before after status → Unlived before after
     boxes_kept role c s = by_box s.refused
       where
-        by_box : RefusedBoxes sees.told sees.may_leave sees.disk (flow_received role c.link) (disks_of before) (disks_of after) status → Unlived before after
-        by_box (inl o) = record { outbox = o.outbox_kept; inbox = same_kept before.in_disk after.in_disk o.inbox_is; dialer_is = s.kept.live.dialer }
-        by_box (inr i) = record { outbox = inr i.outbox_kept; inbox = i.inbox_kept; dialer_is = s.kept.live.dialer }
+        by_box : RefusedBoxes sees.told sees.may_leave sees.disk (asked_of role c) (flow_received role c.link) (disks_of before) (disks_of after) status → Unlived before after
+        by_box (inl o) = record { outbox = o.outbox_kept; inbox = inl o.inbox_kept; dialer_is = s.kept.live.dialer }
+        by_box (inr (inl i)) = record { outbox = inr i.outbox_kept; inbox = i.inbox_kept; dialer_is = s.kept.live.dialer }
+        by_box (inr (inr t)) = record { outbox = inl t.outbox_kept; inbox = inl t.inbox_kept; dialer_is = s.kept.live.dialer }
 
     pub input_kept : (senders : ℕ) → StopsAtInput sees senders before after status → Unlived before after
     input_kept senders s = record { outbox = inr s.left.outbox; inbox = inr s.left.inbox; dialer_is = s.live.dialer }

@@ -14,6 +14,7 @@ use Rattle.plan_text.specs.Plans.{HasPlans}
 use Rattle.plan_outbox.specs.Behind.{GoesOnFrom}
 use Rattle.gw_links.specs.Dialers.{DialerTold}
 use Rattle.jr_dated.specs.declared.journal.Journal.{Ghosts}
+use Rattle.jr_dated.specs.Images.{IsUncut}
 use Rattle.cmd_session.specs.Journals.{IsJournal}
 use Rattle.jr_boxes.specs.Outboxes.{records_of_history}
 use Rattle.jr_boxes.specs.declared.faults.Which.TheVariants.{Outbox, Inbox}
@@ -31,6 +32,7 @@ use Rattle.life_laws.specs.Plans.{Senders, submitting, SentAll}
 use Rattle.cmd_session.specs.Answers.{answerers}
 use Rattle.cmd_session.specs.Inputs.{configuration_at, flow_received, end_of}
 use Rattle.cmd_session.specs.Boxes.{IsBox}
+use Rattle.cmd_session.specs.Titles.{asked_of, AreThose}
 use Rattle.cmd_session.specs.Lived.{HasLivedOver}
 use Rattle.cmd_session.specs.Outsides.{Sees, counts_of}
 use Rattle.cmd_session.specs.Steps.{Steps}
@@ -50,6 +52,10 @@ abbrev pub GoOnFrom : (senders : ℕ) (content text : List ℕ) → Type 0
 GoOnFrom senders content text = (h : History) (plans : List (List (List ℕ))) → IsJournal content (records_of_history h) → HasPlans senders text plans
     → GoesOnFrom plans h
 
+-- a content is a journal without records, which hides none
+abbrev pub IsFresh : List ℕ → Type 0
+IsFresh content = IsJournal content [] × IsUncut content
+
 -- a text is not too long, and has plans for so many senders
 pub record TellsPlans (senders : ℕ) (text : List ℕ) : Type 0 where
   pub short : length text ≤ input_limit
@@ -57,11 +63,16 @@ pub record TellsPlans (senders : ℕ) (text : List ℕ) : Type 0 where
   pub has : HasPlans senders text plans
 
 module _ {S K D N C : Type 0} where
+  -- both disks hold the journals of a session that this configuration asks for, by their titles where they have any
+  abbrev pub AreTitled : Sees S K D N C → Role → Configuration → SessionOutside S K D N C → Type 0
+  AreTitled sees role c before = IsSomeAnd (sees.told before.out_disk) (λ outbox. IsSomeAnd (sees.told before.in_disk) (AreThose (asked_of role c) outbox))
+
   -- What a session begins on is told, and in order: CONFIG spells this configuration for an end of this role, the disks hold an outbox and an
-  -- inbox of the flow that it receives, and INPUT has plans for its senders, which go on from the outbox
+  -- inbox of the flow that it receives, of its session, and INPUT has plans for its senders, which go on from the outbox
   pub record IsSetUp (sees : Sees S K D N C) (role : Role) (c : Configuration) (before : SessionOutside S K D N C) : Type 0 where
     pub config : IsSomeAnd (sees.left before.config) (λ text. configuration_at role text ≡ Ok c)
     pub no_desks : c.trade.desks ≡ 0
+    pub titled : AreTitled sees role c before
     pub outbox : IsSomeAnd (sees.told before.out_disk) (IsBox Outbox (flow_received role c.link))
     pub inbox : IsSomeAnd (sees.told before.in_disk) (IsBox Inbox (flow_received role c.link))
     pub input : IsSomeAnd (sees.left before.input) (TellsPlans c.trade.senders)
@@ -71,6 +82,7 @@ module _ {S K D N C : Type 0} where
   pub record IsSetUpWithDesks (sees : Sees S K D N C) (role : Role) (c : Configuration) (before : SessionOutside S K D N C) : Type 0 where
     pub config : IsSomeAnd (sees.left before.config) (λ text. configuration_at role text ≡ Ok c)
     pub desks : 0 < c.trade.desks
+    pub titled : AreTitled sees role c before
     pub outbox : IsSomeAnd (sees.told before.out_disk) (IsBox Outbox (flow_received role c.link))
     pub inbox : IsSomeAnd (sees.told before.in_disk) (IsBox Inbox (flow_received role c.link))
 
@@ -161,12 +173,13 @@ module _ {S K D N C J : Type 0} where
       → IsSetUpWithDesks sees role c before → NoneRose (counts_of sees before) (counts_of sees after) → Steps G sees role before after status
       → WantsMemory before after status ⊎ CompletedWithDesks G sees role c before after status
 
--- two journals without records, as `format` makes them, and an INPUT without bytes, are in order with any CONFIG that spells a configuration
+-- two journals without records, as `format` makes them, and an INPUT without bytes, are in order with any CONFIG that spells a configuration, which has what
+-- their titles say, where they have any
 abbrev pub FreshIsSetUp : {S K D N C : Type 0} → Sees S K D N C → (before : SessionOutside S K D N C) → Type 0
 FreshIsSetUp sees before =
     (role : Role) (c : Configuration)
     → IsSomeAnd (sees.left before.config) (λ text. configuration_at role text ≡ Ok c) → c.trade.desks ≡ 0
-    → IsSomeAnd (sees.told before.out_disk) (λ content. IsJournal content []) → IsSomeAnd (sees.told before.in_disk) (λ content. IsJournal content [])
+    → AreTitled sees role c before → IsSomeAnd (sees.told before.out_disk) IsFresh → IsSomeAnd (sees.told before.in_disk) IsFresh
     → sees.left before.input ≡ Some []
     → IsSetUp sees role c before
 
@@ -175,5 +188,5 @@ abbrev pub FreshIsSetUpWithDesks : {S K D N C : Type 0} → Sees S K D N C → (
 FreshIsSetUpWithDesks sees before =
     (role : Role) (c : Configuration)
     → IsSomeAnd (sees.left before.config) (λ text. configuration_at role text ≡ Ok c) → 0 < c.trade.desks
-    → IsSomeAnd (sees.told before.out_disk) (λ content. IsJournal content []) → IsSomeAnd (sees.told before.in_disk) (λ content. IsJournal content [])
+    → AreTitled sees role c before → IsSomeAnd (sees.told before.out_disk) IsFresh → IsSomeAnd (sees.told before.in_disk) IsFresh
     → IsSetUpWithDesks sees role c before

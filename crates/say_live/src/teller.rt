@@ -224,6 +224,16 @@ impl<'a, R: Clock + Eprint + Files<File = File>> Teller<'a, R> {
         Ok(line)
     }
 
+    /// That a journal has no title, and what that asks of whoever runs on it.
+    fn unbound(&self, journal: Named<'_>) -> Result<String, AllocError> {
+        let mut line = self.begun()?;
+        push_place(&mut line, journal)?;
+        line.push_str(
+            "it is bound to no session: CONFIG has to be the one that it was begun with",
+        )?;
+        Ok(line)
+    }
+
     /// That a journal's last record is of a later time than it is now.
     fn later(&self, journal: Named<'_>, last: Stamp, now: Stamp) -> Result<String, AllocError> {
         let mut line = self.begun()?;
@@ -270,6 +280,9 @@ impl<'a, R: Clock + Eprint + Files<File = File>> Teller<'a, R> {
         }
         self.heed.set(heed);
         if let Some(outbox) = &outbox {
+            if !outbox.has_title {
+                self.say(self.unbound(self.session.outbox));
+            }
             self.look_at_moment(self.session.outbox, outbox);
         }
         if let Some(warning) = self.readable() {

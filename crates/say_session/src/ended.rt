@@ -24,9 +24,9 @@ pub struct Said<'a, R, D, N> {
     pub dialer: N,
 }
 
-/// Whether the file of a journal has so many bytes.
+/// Whether the file of a journal of so many bytes is as long: in format 3 one zero more stands in it.
 fn has_length<D: Disk>(disk: &mut D, bytes: u64) -> bool {
-    matches!(disk.length(), Ok(length) if length == bytes)
+    matches!(disk.length(), Ok(length) if length == bytes || length == bytes.saturating_add(1))
 }
 
 /// Adds which journal is full: the one whose file is as long as the full journal.
@@ -73,7 +73,14 @@ fn push_line<R: Files<File = File>, D: Disk + SaysWhy, N: SaysWhy>(
         ),
         Status::OutputFault => { push_unwritten(line, outside.out.name(), outside.out.reason()) }
         Status::JournalFault => {
-            push_failed(rt, line, session, &outside.out_disk, &outside.in_disk)
+            push_failed(
+                rt,
+                alloc,
+                line,
+                session,
+                &outside.out_disk,
+                &outside.in_disk,
+            )
         }
         Status::JournalBad { which, cause } => push_bad(line, session, *which, *cause),
         Status::DialFault => push_undialed(line, session, &outside.dialer, outlook),

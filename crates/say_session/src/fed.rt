@@ -87,7 +87,14 @@ fn push_line<R: Files<File = File>, I: SaysWhy, A: SaysWhy, D: Disk + SaysWhy, N
         }
         Status::OutputFault => push_untaken(line, session, &outside.out, &outside.accepted),
         Status::JournalFault => {
-            push_failed(rt, line, session, &outside.out_disk, &outside.in_disk)
+            push_failed(
+                rt,
+                alloc,
+                line,
+                session,
+                &outside.out_disk,
+                &outside.in_disk,
+            )
         }
         Status::JournalBad { which, cause } => push_bad(line, session, *which, *cause),
         Status::DialFault => push_undialed(line, session, &outside.dialer, outlook),

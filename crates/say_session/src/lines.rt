@@ -84,7 +84,7 @@ pub fn push_journal(
         }
         JournalCause::NotFormatted => write!(
             line,
-            "{cause}: for a new session run fixpgw format OUTBOX INBOX"
+            "{cause}: for a new session run fixpgw format ROLE CONFIG OUTBOX INBOX"
         ),
         JournalCause::OldFormat => {
             let role = name.role;
@@ -93,6 +93,10 @@ pub fn push_journal(
                 "{cause}: fixpgw migrate {role} NEW makes one of format 2 of it"
             )
         }
+        JournalCause::Other { .. } => write!(
+            line,
+            "{cause}: nothing was sent; a new session wants new journals (fixpgw format)"
+        ),
         JournalCause::Changed { at } => write!(
             line,
             "record {at}, counted from 0, is read otherwise than it was written"

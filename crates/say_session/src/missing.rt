@@ -2,12 +2,16 @@
 
 use gw_real::Named;
 use say_words::{push_all, push_file};
-use std::alloc::AllocError;
+use session_files::is_titled;
+use std::alloc::{AllocError, Global};
+use std::fs::File;
 use std::io::ErrorKind;
 use std::rt::Files;
 
-/// The size of a journal without records, in bytes.
+/// The size of a journal without records, in bytes: of one without a title, and of one that has one.
 const EMPTY: u64 = 17;
+
+const EMPTY_TITLED: u64 = 66;
 
 /// Whether there is no file at a path.
 fn is_missing<R: Files>(rt: &R, path: &str) -> bool {
@@ -15,14 +19,20 @@ fn is_missing<R: Files>(rt: &R, path: &str) -> bool {
 }
 
 /// Whether there is a file at a path that is longer than a journal without records.
-fn has_records<R: Files>(rt: &R, path: &str) -> bool {
-    matches!(rt.metadata(path), Ok(metadata) if metadata.len() > EMPTY)
+fn has_records<R: Files<File = File>>(rt: &R, alloc: Global, path: &str) -> bool {
+    let empty = if is_titled(rt, alloc, path) {
+        EMPTY_TITLED
+    } else {
+        EMPTY
+    };
+    matches!(rt.metadata(path), Ok(metadata) if metadata.len() > empty)
 }
 
 /// Adds what to do where a journal is missing: both have to be made for a new session, and where the other one has records
 /// this is none.
-pub fn push_missing<R: Files>(
+pub fn push_missing<R: Files<File = File>>(
     rt: &R,
+    alloc: Global,
     line: &mut String,
     name: Named<'_>,
     other: Named<'_>,
@@ -30,8 +40,8 @@ pub fn push_missing<R: Files>(
     if name.is_standard() || !is_missing(rt, name.path) {
         return Ok(());
     }
-    if !has_records(rt, other.path) {
-        return line.push_str(": for a new session run fixpgw format OUTBOX INBOX");
+    if !has_records(rt, alloc, other.path) {
+        return line.push_str(": for a new session run fixpgw format ROLE CONFIG OUTBOX INBOX");
     }
     let role = name.role;
     write!(line, ": only {role} is missing: ")?;
@@ -41,8 +51,9 @@ pub fn push_missing<R: Files>(
 
 /// Adds behind a file that `format` refused, since it is a journal already, that only the other one is missing, or was and is made
 /// now.
-pub fn push_other<R: Files>(
+pub fn push_other<R: Files<File = File>>(
     rt: &R,
+    alloc: Global,
     line: &mut String,
     refused: Named<'_>,
     other: Named<'_>,
@@ -58,7 +69,7 @@ pub fn push_other<R: Files>(
     } else {
         " is missing; "
     };
-    let refused_has = if has_records(rt, refused.path) {
+    let refused_has = if has_records(rt, alloc, refused.path) {
         " has records, so this is no new session"
     } else {
         " has no records, and may be removed for a new session"

@@ -263,18 +263,19 @@ pub fn push_unwritten(
 }
 
 /// Adds which journal failed: the outbox, where it did.
-pub fn push_failed<R: Files, D: SaysWhy>(
+pub fn push_failed<R: Files<File = File>, D: SaysWhy>(
     rt: &R,
+    alloc: Global,
     line: &mut String,
     session: Session<'_>,
     out_disk: &D,
     in_disk: &D,
 ) -> Result<(), AllocError> {
     if out_disk.push_why(line, session.outbox)? {
-        return push_missing(rt, line, session.outbox, session.inbox);
+        return push_missing(rt, alloc, line, session.outbox, session.inbox);
     }
     if in_disk.push_why(line, session.inbox)? {
-        return push_missing(rt, line, session.inbox, session.outbox);
+        return push_missing(rt, alloc, line, session.inbox, session.outbox);
     }
     Ok(())
 }

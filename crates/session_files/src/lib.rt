@@ -15,4 +15,4 @@ pub use place::{push_name, push_place};
 pub use session::{Session, named, role_of};
 pub use standard::{TWO_INPUTS, are_both_standard, out_of};
 pub use text::{is_file, text_of_file};
-pub use walk::{AtPlace, Walked, entry_at, walk_journal};
+pub use walk::{AtPlace, Walked, entry_at, is_titled, walk_journal};

@@ -10,8 +10,16 @@ use std::rt::Files;
 /// How many bytes are read at once.
 const PIECE: usize = 32_768;
 
-/// The size of a journal's header in bytes.
-const HEADER: u64 = 16;
+/// The magic of a journal that has a title, `FIXPJRN3`, as a little-endian number.
+const TITLED: u64 = 0x334E_524A_5058_4946;
+
+/// How many bytes of the header stand behind the magic: of a title, and where there is none.
+const TITLE: u64 = 56;
+
+const PLAIN: u64 = 8;
+
+/// The size of a record's sum in bytes, where the journal has a title.
+const SUM: u64 = 4;
 
 /// The size of a record's moment in bytes.
 const MOMENT: usize = 8;
@@ -37,6 +45,8 @@ struct Records<'a, R> {
     piece: [u8; PIECE],
     at: usize,
     end: usize,
+    /// Whether the journal has a title, and each record a sum.
+    has_title: bool,
     /// The greatest moment of the records so far.
     moment: u64,
     /// The payload of the last record that was asked for it.
@@ -62,6 +72,8 @@ pub struct Walked {
     pub peer_last: Option<u64>,
     /// The moment of its last record, in milliseconds since 1970; 0 where it has none.
     pub moment: u64,
+    /// Whether it has a title, which says whose session it is.
+    pub has_title: bool,
 }
 
 impl Walked {
@@ -96,11 +108,20 @@ impl<'a, R: Files<File = File>> Records<'a, R> {
             piece: [0; PIECE],
             at: 0,
             end: 0,
+            has_title: false,
             moment: 0,
             payload: Vec::new(alloc),
         };
-        records.pass(HEADER, false)?;
+        records.pass_header()?;
         Some(records)
+    }
+
+    /// Passes over the header.
+    fn pass_header(&mut self) -> Option<()> {
+        let magic = self.number(8)?;
+        self.has_title = magic == TITLED;
+        let rest = if self.has_title { TITLE } else { PLAIN };
+        self.pass(rest, false)
     }
 
     /// Reads the next piece.
@@ -139,7 +160,6 @@ impl<'a, R: Files<File = File>> Records<'a, R> {
 
     /// Passes over so many bytes, and keeps them where they are wanted.
     fn pass(&mut self, count: u64, is_wanted: bool) -> Option<()> {
-        self.payload.clear();
         let mut left = count;
         for _ in 0..u64::MAX {
             if left == 0 {
@@ -172,6 +192,16 @@ impl<'a, R: Files<File = File>> Records<'a, R> {
         if self.byte()? != OPEN {
             return None;
         }
+        self.payload.clear();
+        let record = self.record(is_wanted)?;
+        if self.has_title {
+            self.pass(SUM, false)?;
+        }
+        Some(record)
+    }
+
+    /// The record behind a gate, but for its sum.
+    fn record(&mut self, is_wanted: bool) -> Option<Record> {
         let kind = self.byte()?;
         let moment = self.number(MOMENT)?;
         self.moment = self.moment.max(moment);
@@ -206,10 +236,19 @@ impl<'a, R: Files<File = File>> Records<'a, R> {
     }
 }
 
+/// Whether the file at a path begins as a journal that has a title.
+pub fn is_titled<R: Files<File = File>>(rt: &R, alloc: Global, path: &str) -> bool {
+    match Records::open(rt, alloc, path) {
+        Some(records) => records.has_title,
+        None => false,
+    }
+}
+
 /// What the journal at a path has; none where it cannot be read.
 pub fn walk_journal<R: Files<File = File>>(rt: &R, alloc: Global, path: &str) -> Option<Walked> {
     let mut records = Records::open(rt, alloc, path)?;
     let mut walked = Walked::default();
+    walked.has_title = records.has_title;
     for _ in 0..u64::MAX {
         match records.next(false) {
             Some(record) => walked.count(record),
@@ -255,6 +294,7 @@ pub fn entry_at<R: Files<File = File>>(
                     piece: _,
                     at: _,
                     end: _,
+                    has_title: _,
                     moment: _,
                     payload,
                 } = records;

@@ -56,7 +56,7 @@ module _ {J : Type 0} {G : Ghosts J} where
     pub is_tried : IsTried now (line_received old.line now received made.cut.got) frames refusal tried
     pub refuses : Refuses old.box new.box (adds_cut now (line_received old.line now received made.cut.got) frames refusal) (refused_by fault tried)
     pub past : (entries bytes : ℕ) → fault ≡ faults.Full entries bytes
-        → IsPast (limits_of new.box).bytes bytes (wanted_of now (lines_after now (line_received old.line now received made.cut.got) frames) refusal)
+        → IsPast (limits_of new.box).form (limits_of new.box).bytes bytes (wanted_of now (lines_after now (line_received old.line now received made.cut.got) frames) refusal)
     pub recorded : IfSome refusal
         (λ r. (fault ≡ faults.Memory → ⊥) → IsOfRecord now (lines_after now (line_received old.line now received made.cut.got) frames) r)
     pub of_inbox : IfSome refusal (λ r. OfInbox fault)

@@ -13,7 +13,7 @@ abbrev pub told_by : Book → Account
 told_by b = record {
   history = record { made = map entry_of b.writers.items; finished = false };
   faults = 0;
-  limits = record { entries = 2 ^ 40; bytes = 0 };
+  limits = record { entries = 2 ^ 40; bytes = 0; header = [] };
   broken = false;
   refused = [];
 }

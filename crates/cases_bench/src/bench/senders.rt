@@ -8,7 +8,7 @@ use cases_made::{Log, formatted, open_outbox};
 use gate_senders::Gate;
 use gate_staff::{OpenDoor, Plan, run_seated, seat, unseat};
 use gw_outside::{Bytes, Payloads};
-use jr_dated::Limits;
+use jr_dated::{Form, Limits};
 use jr_kept::Outbox;
 use std::alloc::Global;
 use std::sync::Wait;
@@ -61,6 +61,7 @@ pub fn limits_for(entries: u64) -> Limits
     Limits {
         entries,
         bytes: 64 + entries * ENTRY,
+        form: Form::Two,
     }
 }
 

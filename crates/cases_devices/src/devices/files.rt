@@ -79,8 +79,9 @@ fn add_kept<R: Files<File = File> + AllocGlobal>(
 ) -> Result<(), AllocError> {
     let begun = Begun {
         mark,
-        older: mark,
+        others: [mark, mark],
         length: mark.len(),
+        is_plain: true,
     };
     let mut disk = FileDisk::new(rt, outbox(file), &[], Opening::Make(begun));
     add_worked(rt.alloc(), &mut disk, line)?;

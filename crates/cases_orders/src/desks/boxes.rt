@@ -7,7 +7,7 @@ ghost use Rattle.jr_kept.specs.Outbox.{is_broken};
 use cases_words::digits;
 use fixp_msgs::{Flow, is_application};
 use gw_fakes::MemDisk;
-use jr_dated::Limits;
+use jr_dated::{Form, Limits};
 use jr_kept::{Inbox, Outbox};
 use jr_segments::{SegJournal, format};
 use sbe_value::{Bytes, Payloads};
@@ -20,6 +20,7 @@ pub type Log = SegJournal<MemDisk>;
 const WIDE: Limits = Limits {
     entries: 1000,
     bytes: 100_000,
+    form: Form::Two,
 };
 
 /// The room of each disk, in bytes.
@@ -28,7 +29,7 @@ const ROOM: usize = 65_536;
 /// A disk with a journal that has no records; None where it is refused.
 fn formatted(alloc: Global) -> Option<MemDisk> {
     let mut disk = MemDisk::without_faults(alloc, ROOM).ok()?;
-    format(&mut disk).ok()?;
+    format(&mut disk, Form::Two).ok()?;
     Some(disk)
 }
 

@@ -5,6 +5,7 @@ use cmd_base::Outside;
 use cmd_journal::journal;
 use gw_fakes::{MemDisk, MemSink, MemSource};
 use gw_outside::{Bytes, Disk, Sink};
+use jr_dated::Form;
 use jr_segments::format;
 use std::alloc::{AllocError, Global};
 
@@ -19,7 +20,7 @@ pub struct Disks {
 fn disk_of(alloc: Global, word: &str) -> Result<MemDisk, AllocError> {
     let mut disk = MemDisk::without_faults(alloc, 4096)?;
     if word == "fresh" {
-        let _ = format(&mut disk);
+        let _ = format(&mut disk, Form::Two);
     } else {
         let content = bytes(alloc, word)?;
         let _ = disk.write_at(0, content.as_slice());

@@ -7,7 +7,7 @@ use cases_words::{halves, number};
 use gate_staff::{Door, OpenDoor};
 use gw_fakes::Pick;
 use jr_boxes::{CloseFault, SubmitFault};
-use jr_dated::Limits;
+use jr_dated::{Form, Limits};
 use jr_kept::Outbox;
 use std::alloc::{AllocError, Global};
 use std::sync::Wait;
@@ -40,6 +40,7 @@ fn case_of<'a>(kind: &str, first: u64, second: u64, lengths: &'a str) -> Case<'a
     let limits = Limits {
         entries: first.min(1 << 24),
         bytes: second.min(1 << 30),
+        form: Form::Two,
     };
     Case {
         limits: if kind == "within" { limits } else { WIDE },

@@ -32,6 +32,6 @@ returns-clause-steps g c = inr (record {
   spelled = c.in-Ok.ensures.ok;
   ended = inr (
     c.in-Ok-without_desks.ensures.none,
-    ends_by _ (feed_sees (sees g.S.Source g.K.Sink g.D.Disk g.N.Dialer g.N.Link.Link g.C.Clock) g.K.Appended.keeps g.I.Source g.A.Sink) _ _ _ c.args.outside _ _ c.end_config-end.ensures (c.feed_over_disks.ensures.ended c.args.outside.config),
+    ends_by _ (feed_sees (sees g.S.Source g.K.Sink g.D.Disk g.N.Dialer g.N.Link.Link g.C.Clock) g.K.Appended.keeps g.I.Source g.A.Sink) _ _ _ _ _ c.args.outside _ _ c.asked_for-asked.ensures.value c.end_config-end.ensures (c.feed_over_disks.ensures.ended c.args.outside.config),
   );
 })

@@ -17,7 +17,7 @@ returns-in-Err-clause-projects g c = λ told o t.
 pub returns-in-Err-clause-kept : goal.returns-in-Err-clause-kept
 returns-in-Err-clause-kept g c = λ before o t.
     read_kept g.D.Disk.told g.D.Disk.may_leave (disk_of {G = g.D.Disk}) (λ j image h. h) before c.args.inbox c.into_journal-journal.result c.go_on.new.journal _ o
-    c.into_journal-journal.ensures.value c.in-Err.ensures.unchanged c.close.ensures
+    c.into_journal-journal.ensures.value c.in-Err.ensures.unchanged c.close.ensures.disk
 
 pub returns-in-Err-clause-refused : goal.returns-in-Err-clause-refused
 returns-in-Err-clause-refused g c = λ told o t. c.not_gone_on.ensures.refused told (λ at e content is.
@@ -43,13 +43,13 @@ returns-in-Err-begin-clause-projects g c = λ told o t.
 pub returns-in-Err-begin-clause-kept : goal.returns-in-Err-begin-clause-kept
 returns-in-Err-begin-clause-kept g c = λ before o t.
     read_kept g.D.Disk.told g.D.Disk.may_leave (disk_of {G = g.D.Disk}) (λ j image h. h) before c.args.inbox c.into_journal-journal.result c.go_on.new.journal _ o
-    c.into_journal-journal.ensures.value c.in-Ok.ensures.unchanged c.close-in-Err-begin.ensures
+    c.into_journal-journal.ensures.value c.in-Ok.ensures.unchanged c.close-in-Err-begin.ensures.disk
 
 pub returns-in-Ok-open_inbox-clause-opened : goal.returns-in-Ok-open_inbox-clause-opened
 returns-in-Ok-open_inbox-clause-opened g c = λ told o t.
-    opens_again g.D.Disk.told g.D.Disk.may_leave (disk_of {G = g.D.Disk}) (λ j image h. h) (λ (j : SegJournal _ g.D.Disk) is. is) (λ (j : SegJournal _ g.D.Disk) ds sound s. s.told (j.whole sound)) told c.args.inbox
-    c.into_journal-journal.result c.go_on.new.journal c.close-2.result o t c.into_journal-journal.ensures.value c.in-Ok.ensures.unchanged c.in-Ok.ensures.sound c.in-Ok.ensures.told c.close-2.ensures
-    c.in-Ok-open_inbox.inbox c.in-Ok-open_inbox.ensures.opened
+    opens_again g.D.Disk.told g.D.Disk.may_leave (disk_of {G = g.D.Disk}) (λ j image h. h) (λ (j : SegJournal _ g.D.Disk) is. is) (λ (j : SegJournal _ g.D.Disk) ds sound s. s.told (j.whole sound)) (λ (j : SegJournal _ g.D.Disk) content is. j.formed content (g.met.D.Disk.told_is_left (disk_of j) content is)) (λ (j : SegJournal _ g.D.Disk) sound content is. j.uncut sound content (g.met.D.Disk.told_is_left (disk_of j) content is)) told c.args.inbox
+    c.into_journal-journal.result c.go_on.new.journal c.close-2.result o t c.into_journal-journal.ensures.value c.in-Ok.ensures.unchanged c.in-Ok.ensures.sound c.in-Ok.ensures.told c.close-2.ensures.disk
+    c.in-Ok.ensures.same.1 c.in-Ok-open_inbox.inbox c.in-Ok-open_inbox.ensures.opened
 
 pub returns-in-Ok-open_inbox-clause-went : goal.returns-in-Ok-open_inbox-clause-went
 returns-in-Ok-open_inbox-clause-went g c = λ told o t.
@@ -64,12 +64,12 @@ returns-in-Err-open_inbox-clause-projects g c = λ told o t.
 
 pub returns-in-Err-open_inbox-clause-kept : goal.returns-in-Err-open_inbox-clause-kept
 returns-in-Err-open_inbox-clause-kept g c = λ before o t.
-    kept_again g.D.Disk.told g.D.Disk.may_leave (disk_of {G = g.D.Disk}) (λ j image h. h) (λ (j : SegJournal _ g.D.Disk) is. is) (λ (j : SegJournal _ g.D.Disk) ds sound s. s.told (j.whole sound)) before c.args.inbox
-    c.into_journal-journal.result c.go_on.new.journal c.close-2.result _ o t c.into_journal-journal.ensures.value c.in-Ok.ensures.unchanged c.in-Ok.ensures.sound c.in-Ok.ensures.told c.close-2.ensures
+    kept_again g.D.Disk.told g.D.Disk.may_leave (disk_of {G = g.D.Disk}) (λ j image h. h) (λ (j : SegJournal _ g.D.Disk) is. is) (λ (j : SegJournal _ g.D.Disk) ds sound s. s.told (j.whole sound)) (λ (j : SegJournal _ g.D.Disk) content is. j.formed content (g.met.D.Disk.told_is_left (disk_of j) content is)) (λ (j : SegJournal _ g.D.Disk) sound content is. j.uncut sound content (g.met.D.Disk.told_is_left (disk_of j) content is)) before c.args.inbox
+    c.into_journal-journal.result c.go_on.new.journal c.close-2.result _ o t c.into_journal-journal.ensures.value c.in-Ok.ensures.unchanged c.in-Ok.ensures.sound c.in-Ok.ensures.told c.close-2.ensures.disk
     c.in-Err-open_inbox.ensures.kept
 
 pub returns-in-Err-open_inbox-clause-refused : goal.returns-in-Err-open_inbox-clause-refused
 returns-in-Err-open_inbox-clause-refused g c = λ told o t.
-    refused_again g.D.Disk.told g.D.Disk.may_leave (disk_of {G = g.D.Disk}) (λ j image h. h) (λ (j : SegJournal _ g.D.Disk) is. is) (λ (j : SegJournal _ g.D.Disk) ds sound s. s.told (j.whole sound)) told c.args.inbox
-    c.into_journal-journal.result c.go_on.new.journal c.close-2.result o t c.into_journal-journal.ensures.value c.in-Ok.ensures.unchanged c.in-Ok.ensures.sound c.in-Ok.ensures.told c.close-2.ensures
+    refused_again g.D.Disk.told g.D.Disk.may_leave (disk_of {G = g.D.Disk}) (λ j image h. h) (λ (j : SegJournal _ g.D.Disk) is. is) (λ (j : SegJournal _ g.D.Disk) ds sound s. s.told (j.whole sound)) (λ (j : SegJournal _ g.D.Disk) content is. j.formed content (g.met.D.Disk.told_is_left (disk_of j) content is)) (λ (j : SegJournal _ g.D.Disk) sound content is. j.uncut sound content (g.met.D.Disk.told_is_left (disk_of j) content is)) told c.args.inbox
+    c.into_journal-journal.result c.go_on.new.journal c.close-2.result o t c.into_journal-journal.ensures.value c.in-Ok.ensures.unchanged c.in-Ok.ensures.sound c.in-Ok.ensures.told c.close-2.ensures.disk
     c.args.flow c.requires.flow _ c.in-Err-open_inbox.ensures.refused

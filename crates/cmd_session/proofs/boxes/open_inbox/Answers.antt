@@ -1,4 +1,7 @@
-use Rattle.std.proofs.Common.{false, [], inl, inr, refl, subst, ap, length, arith}
+use Rattle.std.proofs.Common.{◌≡◌, ◌^◌, false, [], inl, inr, refl, sym, ◌∙◌, subst, ap, length, arith}
+use Rattle.std.specs.Option.{ForSome}
+use Rattle.jr_dated.specs.declared.limits.Limits.{Limits}
+use Rattle.jr_dated.specs.Images.{HasForm}
 use Rattle.std.proofs.Math.Logic.{∥∥₁_map}
 use Rattle.std.proofs.lemmas.List.{length-map}
 use Rattle.jr_dated.specs.Dated.{Dated, undated}
@@ -23,6 +26,7 @@ returns-in-Ok-open-clause-told g c = λ content is.
     record {
       records = records_of_inbox found.list;
       journal = (holds.dated, stands_told (g.D.Disk.told c.args.disk) c.in-Ok.journal box.journal c.in-Ok.ensures.content c.in-Ok.ensures.sound c.in-Ok-open.ensures.unchanged holds.dated holds.journal.stands_for content is, holds.bare);
+      uncut = c.in-Ok.ensures.uncut content is;
       those = (found.list, subst (λ flow. IsInbox flow (records_of_inbox found.list) found.list) c.in-Ok-open.ensures.flow holds.inbox);
     }
 
@@ -37,7 +41,7 @@ returns-in-Ok-open-clause-numbered g c = λ recoverable.
       arith,
       j.counted,
       j.small,
-      (counted_by (numbers_of j.places) j.size j.moment holds.dated holds.journal.stands_for.keeps).0,
+      (counted_by j.limits.form (numbers_of j.places) j.size j.moment holds.dated holds.journal.stands_for.keeps).0,
       length-map holds.dated (λ (d : Dated). d.what),
       ap length holds.bare,
       length-map found.list record_of,
@@ -53,7 +57,12 @@ returns-in-Ok-open-clause-opened g c =
       inbox = c.of-found.result.list;
       told = λ content is. (holds.dated, stands_told told c.in-Ok.journal c.in-Ok-open.inbox.journal c.in-Ok.ensures.content c.in-Ok.ensures.sound c.in-Ok-open.ensures.unchanged holds.dated holds.journal.stands_for content is, holds.bare);
       holds = holds;
+      formed = subst (λ (l : Limits). ForSome told (HasForm l.form)) (sym (c.in-Ok-open.ensures.limits ∙ c.limits.ensures.value)) c.in-Ok.ensures.formed;
     }
+
+pub returns-in-Ok-open-clause-limit : goal.returns-in-Ok-open-clause-limit
+returns-in-Ok-open-clause-limit g c =
+    subst (λ (l : Limits). (l.entries ≡ 2 ^ 26) × (l.bytes ≡ 2 ^ 33)) (sym (c.in-Ok-open.ensures.limits ∙ c.limits.ensures.value)) c.in-Ok.ensures.limits
 
 pub returns-in-Err-open-clause-refused : goal.returns-in-Err-open-clause-refused
 returns-in-Err-open-clause-refused g c =
@@ -63,6 +72,7 @@ returns-in-Err-open-clause-refused g c =
     c.excluded.ensures.refused c.args.flow told (λ at is content there. record {
       records = undated opened.list;
       journal = list_told told j opened content there;
+      uncut = c.in-Ok.ensures.uncut content there;
       wrong = c.in-Err-open.ensures.wrong at is (tells_so told j c.in-Ok.ensures.content content there) (undated opened.list) (opened.list, opened.holds.stands_for, refl);
     })
 
@@ -77,4 +87,4 @@ returns-in-Err-open-clause-kept g c =
     let j = c.in-Ok.journal in
     let opened = c.in-Ok.ensures.opened in
     let held = holds_same StandsFor MayLeave j _ c.in-Err-open.ensures.returned opened.list [] opened.holds in
-    inr (records_kept g.D.Disk.told g.D.Disk.may_leave (disk_of {G = g.D.Disk}) StandsFor MayLeave c.args.disk _ _ opened.list (undated opened.list) refl (list_told (g.D.Disk.told c.args.disk) j opened) held (λ image h. h) c.close.ensures)
+    inr (records_kept g.D.Disk.told g.D.Disk.may_leave (disk_of {G = g.D.Disk}) StandsFor MayLeave c.args.disk _ _ opened.list (undated opened.list) refl (list_told (g.D.Disk.told c.args.disk) j opened) held (λ image h. h) c.close.ensures.disk)

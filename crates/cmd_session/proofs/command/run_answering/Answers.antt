@@ -22,7 +22,7 @@ returns-clause-ended g c = λ first.
     let senders = answering (plan_of c.args.answerer) (desks_of c.args.answerer) in
     let is_left = (g.met.D.Disk g.world.𝓛 g.world.𝓜 g.world.𝓡 ((λ s x. x), (λ x. x), (λ x. x), λ x. x)).told_is_left in
     elim c.match-open_boxes.branch [
-      | in-Ok w ↦ given_answering _ told c.args.end senders before c.args.outside.config _ _ _ _ refl w.status-is (inr (
+      | in-Ok w ↦ given_answering _ told c.args.asked c.args.end senders before c.args.outside.config _ _ _ _ refl w.status-is (inr (
         w.in-Ok.ensures.told,
         record {
           of_life = w.answer_over_boxes-status.ensures.of_life;
@@ -38,6 +38,6 @@ returns-clause-ended g c = λ first.
               (lived_since g.K.Sink.faults (hears g.K.Sink g.N.Dialer g.N.Link.Link g.C.Clock) _ _ (live_of c.args.outside) w.now-now.new.self _ _ _ _ (subst (λ (n : ℕ). g.C.Clock.last c.args.outside.clock ≤ n) (sym w.now-now.ensures.last) w.now-now.ensures.never_falls) w.answer_over_boxes-status.ensures.lived);
         },
       ))
-      | in-Err w ↦ given_answering _ told c.args.end senders before c.args.outside.config _ _ _ _ refl w.status-is
+      | in-Err w ↦ given_answering _ told c.args.asked c.args.end senders before c.args.outside.config _ _ _ _ refl w.status-is
           (inl (w.in-Err.ensures.refused, record { input = refl; live = record { out = refl; dialer = refl; clock = refl } }))
     ]

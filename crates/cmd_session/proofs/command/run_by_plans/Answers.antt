@@ -1,13 +1,11 @@
 use Rattle.std.proofs.Common.{inl, inr, ⊎_elim, ℕ, ◌≤◌, map, refl, sym, ap, ◌∙◌, subst}
-use Rattle.fixp_shake.specs.declared.config.EndConfig.{EndConfig}
 use Rattle.plan_values.specs.Plans.{payloads_of}
 use Rattle.jr_segments.specs.declared.journal.SegJournal.{SegJournal}
 use Rattle.jr_segments.specs.Journal.{disk_of}
 use Rattle.jr_dated.specs.declared.limits.Limits.{Limits}
 use Rattle.cmd_session.specs.Inputs.{end_of}
 use Rattle.cmd_session.specs.Outsides.{hears, sees, live_of, disks_of}
-use Rattle.cmd_session.specs.Steps.{HoldBoxes}
-use Rattle.cmd_session.proofs.Given.{given_by_plans, refused_by, lived_by}
+use Rattle.cmd_session.proofs.Given.{given_by_plans, held_by, refused_by, lived_by}
 use Rattle.cmd_session.proofs.Over.{lived_disks}
 use Rattle.cmd_session.proofs.Later.{left_as_told, later_holds, later_goes}
 use Rattle.cmd_session.proofs.Served.{lived_since}
@@ -19,10 +17,11 @@ returns-clause-ended g c = λ first.
     let told = sees g.S.Source g.K.Sink g.D.Disk g.N.Dialer g.N.Link.Link g.C.Clock in
     let before = record c.args.outside { config = first } in
     let end = c.end_config-end.ensures in
+    let asked = c.asked_for-asked.ensures.value in
     let is_left = (g.met.D.Disk g.world.𝓛 g.world.𝓜 g.world.𝓡 ((λ s x. x), (λ x. x), (λ x. x), λ x. x)).told_is_left in
     elim c.match-open_session.branch [
       | in-Ok w ↦ given_by_plans _ told c.args.role c.args.configuration before c.args.outside.config _ _ _ _ refl w.status-is (inr (record {
-        boxes = subst (λ (e : EndConfig). HoldBoxes g.D.Disk.told e.peer_flow (disks_of c.args.outside)) end w.in-Ok.ensures.told;
+        boxes = held_by g.D.Disk.told _ _ _ _ (disks_of c.args.outside) asked end w.in-Ok.ensures.told;
         ended = inr (lived_disks w.at.new.self told (disk_of {G = g.D.Disk}) (λ j image h. h) (λ (j : SegJournal _ g.D.Disk) ds s. s.keeps.sized)
             before _ w.run_over_boxes-status.result.1.outbox w.in-Ok.opened.1 w.run_over_boxes-status.result.1.inbox w.run_over_boxes-status.result.0
             (later_holds (left_as_told is_left) w.in-Ok.opened.0 w.at.new.self w.in-Ok.ensures.sound w.at.ensures.same (g.D.Disk.told c.args.outside.out_disk) w.in-Ok.ensures.opened.0) w.in-Ok.ensures.opened.1
@@ -44,11 +43,11 @@ returns-clause-ended g c = λ first.
       | in-Err w ↦ given_by_plans _ told c.args.role c.args.configuration before c.args.outside.config _ _ _ _ refl w.status-is
           (⊎_elim
           (λ r. inl (record {
-            refused = refused_by g.D.Disk.told g.D.Disk.may_leave g.D.Disk.faults c.end_config-end.result (end_of c.args.role c.args.configuration.link) _ _ _ end r.0;
+            refused = refused_by g.D.Disk.told g.D.Disk.may_leave g.D.Disk.faults _ _ c.end_config-end.result (end_of c.args.role c.args.configuration.link) _ _ _ asked end r.0;
             kept = record { input = r.1; live = record { out = refl; dialer = refl; clock = refl } };
           }))
           (λ r. inr (record {
-            boxes = subst (λ (e : EndConfig). HoldBoxes g.D.Disk.told e.peer_flow (disks_of c.args.outside)) end r.0;
+            boxes = held_by g.D.Disk.told _ _ _ _ (disks_of c.args.outside) asked end r.0;
             ended = inl (record { refused = r.1; live = record { out = refl; dialer = refl; clock = refl }; left = r.2 });
           }))
           w.in-Err.ensures.refused)

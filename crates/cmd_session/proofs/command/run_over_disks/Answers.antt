@@ -22,4 +22,4 @@ returns-in-Some-clause-ended g c = λ first.
     ⊎_elim
     (λ stopped. inl (record { refused = stopped.0; kept = stopped.1 }))
     (λ runs. inr (inr (of.0, record { boxes = runs.0; lived = runs.1 })))
-    (answered_by _ told _ _ _ _ before c.run_answering.result.1 c.run_answering.result.0 c.end_config-end.ensures same (c.run_answering.ensures.ended first))
+    (answered_by _ told _ _ _ _ _ _ before c.run_answering.result.1 c.run_answering.result.0 c.asked_for-asked.ensures.value c.end_config-end.ensures same (c.run_answering.ensures.ended first))

@@ -1,7 +1,5 @@
-use Rattle.std.proofs.Common.{◌≡◌, ◌∙◌, sym, ap, subst, arith, [], Some, drop}
+use Rattle.std.proofs.Common.{◌≡◌, ◌∙◌, sym, ap, arith, [], Some, drop}
 use Rattle.std.specs.Option.{option_map}
-use Rattle.jr_dated.specs.declared.formats.Format.{Format}
-use Rattle.jr_stream.specs.Images.{BeginsWith, place_behind}
 use Rattle.jr_stream.proofs.Taking.{begins}
 use Rattle.cmd_show.proofs.Following.{refused_following}
 use Rattle.cmd_show.proofs.follow.opened.Goals as goal
@@ -9,8 +7,8 @@ use Rattle.cmd_show.proofs.follow.opened.Goals as goal
 pub returns-in-Ok-clause-begins : goal.returns-in-Ok-clause-begins
 returns-in-Ok-clause-begins g c = λ image told.
     let left : g.G.Seen.Source.left c.in-Ok-Some.seen ≡ Some image = (rw c.in-Ok-Some.field-0-is at c.in-Ok-Some.ensures.seen) ∙ ap (option_map (drop 0)) (sym c.back.ensures.told ∙ told) in (
-      subst (λ (f : Format). BeginsWith f image []) c.in-Ok.ensures.format (begins _ _ [] c.in-Ok.reader c.in-Ok.ensures.taken image left),
-      c.in-Ok.ensures.taken.place ∙ ap (λ (f : Format). place_behind f []) c.in-Ok.ensures.format,
+      begins _ _ [] c.in-Ok.reader c.in-Ok.ensures.taken image left,
+      c.in-Ok.ensures.taken.place,
     )
 
 pub returns-in-Ok-clause-counted : goal.returns-in-Ok-clause-counted

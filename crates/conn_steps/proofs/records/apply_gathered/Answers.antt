@@ -84,3 +84,13 @@ returns-then-is_err-clause-refused g c =
     omega (arith, c.if-is_empty.ensures.some (cc), length-numbered (next_of c.args.inbox.now) (payloads_in c.args.gathered.now)) in
     stand_none c.args.inbox.now c.args.inbox.now (items_of c.args.news.now) (items_of c.reserve.new.self) _ append.Memory some c.reserve.ensures.same
     (λ i h. h) (λ _. refl) (λ b e. absurd (cc (e))) (λ e. absurd (cc (e))) (λ e. absurd (cc (e)))
+
+pub returns-then-is_past-clause-refused : goal.returns-then-is_past-clause-refused
+returns-then-is_past-clause-refused g c =
+    let some : 0 < length (numbered_from (next_of c.args.inbox.now) (payloads_in c.args.gathered.now)) =
+    omega (arith, c.if-is_empty.ensures.some (cc), length-numbered (next_of c.args.inbox.now) (payloads_in c.args.gathered.now)) in
+    stand_none c.args.inbox.now c.args.inbox.now (items_of c.args.news.now) (items_of c.args.news.now) _ append.Memory some refl
+    (λ i h. h) (λ _. refl) (λ b e. absurd (cc (e))) (λ e. absurd (cc (e))) (λ e. absurd (cc (e)))
+
+pub apply_all-requires-clause-few : goal.apply_all-requires-clause-few
+apply_all-requires-clause-few g c sums = omega (arith, ap length c.payloads-2.ensures, c.is_past.ensures c.if-is_past.false)

@@ -9,7 +9,7 @@ returns-else-next-clause-left c = λ closing refused leaves h s.
     inbox_left c.in_ok-journal.journal c.in-Ok.inbox closing refused c.in-Ok.ensures.unchanged (c.in_ok-journal.ensures.left closing refused leaves) h s
 
 pub returns-in-Err-default-Fault-clause-returned : goal.returns-in-Err-default-Fault-clause-returned
-returns-in-Err-default-Fault-clause-returned c = subst (λ d. LeavesNoMore c.args.disk d) (sym c.close.ensures)
+returns-in-Err-default-Fault-clause-returned c = subst (λ d. LeavesNoMore c.args.disk d) (sym c.close.ensures.disk)
     (λ closing refused leaves image l. c.in_ok-journal.ensures.kept closing refused leaves image ((c.in-Err-default-Fault.ensures.returned.images image).1 l))
 
 pub returns-else-next-clause-holds : goal.returns-else-next-clause-holds

@@ -37,7 +37,7 @@ returns-then-not-branch-clause-wrong g c at is h rests =
     let here : c.loop-at.at ≡ at = cc in
     subst (λ (n : ℕ). ForSome (g.D.Disk.told c.args.journal.now.disk) (IsWrong c.args.which n)) here
     (wrong_here {D = g.row.D.Denot} {G = g.D.Disk} c.loop-at.journal c.record.new.self c.args.which c.loop-at.at c.len-count.result c.loop-at-test.true (inv.count ∙ sym (ap length inv.read.places)) c.in-Ok.r c.in-Ok._moment c.in-Ok.ensures.rests c.loop-at.counted (inv.counted h rests)
-    g.met.D.Disk.told_is_left (g.D.Disk.told c.args.journal.now.disk) (c.record.ensures.same.told ∙ inv.read.told) (c.in_ok-take.ensures.excluded c.if-not-branch.true c.args.which))
+    g.met.D.Disk.told_is_left c.in-Ok.ensures.breaks (g.D.Disk.told c.args.journal.now.disk) (c.record.ensures.same.told ∙ inv.read.told) (c.in_ok-take.ensures.excluded c.if-not-branch.true c.args.which))
 
 pub returns-clause-those : goal.returns-clause-those
 returns-clause-those g c h rests =

@@ -1,6 +1,7 @@
 use Rattle.std.proofs.Common.{◌⊎◌, ◌≡◌, ◌≤◌, ◌^◌, inl, inr, ⊎_elim, List, length, sym, ap, ◌∙◌, subst, arith}
 use Rattle.std.proofs.lemmas.Result.{on_ok_weaker}
 use Rattle.jr_record.specs.declared.record.Record.{Record}
+use Rattle.jr_dated.specs.declared.form.Form.TheVariants.{Two}
 use Rattle.jr_dated.specs.Images.{journal_size}
 use Rattle.jr_log.specs.Migrates.{IsLeft}
 use Rattle.jr_log.proofs.Written.{fresh_left, size_two}
@@ -9,7 +10,7 @@ use Rattle.jr_log.proofs.migrating.move_records.Goals as goal
 pub write_whole-requires-clause-small : goal.write_whole-requires-clause-small
 write_whole-requires-clause-small g c =
     let value = c.as_slice-records.ensures.value in
-    subst (λ (rs : List Record). journal_size rs ≤ 2 ^ 33) (sym value) (omega (arith, size_two c.args.found.now.records.items, c.in-Ok.ensures.within, c.requires.sized, ap length value))
+    subst (λ (rs : List Record). journal_size Two rs ≤ 2 ^ 33) (sym value) (omega (arith, size_two c.args.found.now.records.items, c.in-Ok.ensures.within, c.requires.sized, ap length value))
 
 pub returns-in-Ok-clause-within : goal.returns-in-Ok-clause-within
 returns-in-Ok-clause-within g c =

@@ -4,7 +4,7 @@ use Rattle.jr_segments.proofs.Pushing.{Pushed}
 use Rattle.jr_segments.proofs.adding.push_places.Given as goal
 
 abbrev pub invariant-loop-r : goal.invariant-loop-r
-invariant-loop-r l = Pushed (numbers_of l.fn.places) (numbers_of l.places) l.at l.place l.records l.rest
+invariant-loop-r l = Pushed l.form (numbers_of l.fn.places) (numbers_of l.places) l.at l.place l.records l.rest
 
 abbrev pub decreases-loop-r : goal.decreases-loop-r
 decreases-loop-r l = length l.rest

@@ -1,5 +1,4 @@
-use Rattle.std.proofs.Common.{◌≡◌, ◌≤◌, ◌<◌, ◌^◌, List}
-use Rattle.jr_dated.specs.declared.formats.Format.TheVariants.{Two}
+use Rattle.std.proofs.Common.{◌≤◌, ◌<◌, ◌^◌, List}
 use Rattle.jr_dated.specs.Dated.{Dated}
 use Rattle.jr_stream.specs.Reading.{HasTaken}
 use Rattle.jr_shown.specs.Progress.{Counts}
@@ -11,7 +10,6 @@ invariant-loop g l =
     record {
       records : List Dated;
       taken : HasTaken (left l.fn.journal) (left l.journal) records l.reader;
-      format : l.reader.format ≡ Two;
       counts : Counts records l.seen;
       early : l.seen.latest < 2 ^ 44;
       counted : g.S.Source.faults l.fn.journal ≤ g.S.Source.faults l.journal;

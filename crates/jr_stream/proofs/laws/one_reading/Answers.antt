@@ -2,4 +2,4 @@ use Rattle.jr_stream.proofs.Unique.{has_one_reading}
 use Rattle.jr_stream.proofs.laws.one_reading.Goals as goal
 
 pub returns : goal.returns
-returns c = has_one_reading c.one_record.ensures
+returns c = has_one_reading

@@ -1,9 +1,9 @@
-use Rattle.std.proofs.Common.{rules, ◌≡◌, inl, inr, ◌+◌, [], ◌∷◌, length, Err, ⊎_elim, sym, ap, ◌∙◌, subst, length-append, arith}
+use Rattle.std.proofs.Common.{rules, ◌≡◌, inl, inr, ◌+◌, [], ◌∷◌, length, Err, ⊎_elim, refl, sym, ap, ◌∙◌, subst, length-append, arith}
 use Rattle.session_model.specs.Journal.{Entry, History, entry, entries_of}
 use Rattle.jr_record.specs.declared.record.Record.TheVariants as kinds
 use Rattle.jr_dated.specs.Images.{record_size}
 use Rattle.jr_boxes.specs.declared.faults.SubmitFault.TheVariants as submit
-use Rattle.jr_kept.specs.Outbox.{is_broken, mine_of, front_of, size_of}
+use Rattle.jr_kept.specs.Outbox.{is_broken, limits_of, mine_of, front_of, size_of}
 use Rattle.jr_boxes.specs.Outboxes.{with_entry}
 use Rattle.gate_senders.proofs.Keeping.{Keeps, keeps_stands, keeps_as, keeps_unchanged, keeps_failed, keeps_on, mark_is, front_is, mine_is, size_is, sound_if}
 use Rattle.gate_senders.specs.Kept.{account, next_entry, IsFullAt}
@@ -101,9 +101,12 @@ returns-in-Err-clause-full g c entries bytes e =
     let h = old.told.history in
     let numbers = c.in-Err.ensures.full_numbers entries bytes e in
     let numbered : c.in-Err.fault ≡ submit.Full (front_of box) (size_of box) = cc (e, numbers.0, numbers.1) in
-    let sizes : record_size (kinds.Entry c.args.sender (mine_of box c.args.sender + 1) c.args.payload.now) ≡ record_size (kinds.Entry c.args.sender (length (entries_of h.made c.args.sender) + 1) c.args.payload.now) =
-    ap (λ n. record_size (kinds.Entry c.args.sender (n + 1) c.args.payload.now)) (mine_is box h c.args.sender c.requires.sender stands) in
+    let sizes : record_size (limits_of box).form (kinds.Entry c.args.sender (mine_of box c.args.sender + 1) c.args.payload.now) ≡ record_size (limits_of box).form (kinds.Entry c.args.sender (length (entries_of h.made c.args.sender) + 1) c.args.payload.now) =
+    ap (λ n. record_size (limits_of box).form (kinds.Entry c.args.sender (n + 1) c.args.payload.now)) (mine_is box h c.args.sender c.requires.sender stands) in
     subst (λ (b : Outbox _ _). IsFullAt (account b h old.told.refused).limits h (next_entry h c.args.sender c.args.payload.now) entries bytes) c.deref_mut.ensures.value (record {
+      form = (limits_of box).form;
+      is = (limits_of box).formed;
+      header = refl;
       entries_are = numbers.0 ∙ front_is box h stands;
       bytes_are = numbers.1 ∙ size_is box h (g.met.J.Journal.counted box.journal) stands;
       past = ⊎_elim

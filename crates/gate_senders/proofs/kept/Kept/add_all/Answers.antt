@@ -141,7 +141,7 @@ returns-in-Err-Full g c =
     let holds : Keeps new (with_entries h fit) old.told.refused =
     keeps_on box new h (with_entries h fit) old.told.refused sound (λ held. full_at at.field-0 at.entries at.bytes at.field-0-is at.ensures.full h held) was in
     let cut : IsCutAt (account box h old.told.refused).limits (with_entries h fit) c.args.sender ps (length fit) (front_of new) (size_of new) =
-    is_cut box new h old.told.refused c.args.sender ps (full_at at.field-0 at.entries at.bytes at.field-0-is at.ensures.cut) more unmarked (g.met.J.Journal.counted new.journal)
+    is_cut box new h old.told.refused c.args.sender ps (full_at at.field-0 at.entries at.bytes at.field-0-is at.ensures.cut) more unmarked (g.met.J.Journal.counted new.journal) at.ensures.limits
     (keeps_stands new (with_entries h fit) old.told.refused holds.holds) in
     let cut_told : IsCutAt (told_by old).limits c.of-entered.result.history c.args.sender ps (at.entries - c.front-before.result) at.entries at.bytes =
     subst (λ (b : Outbox _ _). IsCutAt (account b h old.told.refused).limits c.of-entered.result.history c.args.sender ps (at.entries - c.front-before.result) at.entries at.bytes) is

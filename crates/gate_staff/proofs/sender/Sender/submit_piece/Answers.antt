@@ -1,8 +1,14 @@
-use Rattle.std.proofs.Common.{◌+◌, refl, sym, ◌∙◌, arith}
+use Rattle.std.proofs.Common.{◌+◌, length, drop, refl, ap, sym, ◌∙◌, arith}
+use Rattle.std.proofs.lemmas.List.{length-take}
 use Rattle.gate_turn.specs.Places.{known}
-use Rattle.gate_staff.specs.Runs.{Pieced}
+use Rattle.gate_staff.specs.Runs.{Pieced, plan_of}
 use Rattle.gate_staff.proofs.Piece.{Answered, pieced}
 use Rattle.gate_staff.proofs.sender.Sender.submit_piece.Goals as goal
+
+pub submit_all-submission-requires-clause-few : goal.submit_all-submission-requires-clause-few
+submit_all-submission-requires-clause-few g c =
+    let s = c.args.self.now in
+    omega (arith, c.requires.few, ap length c.piece-piece.ensures.value, length-take c.args.count (drop s.done (plan_of s)))
 
 pub returns-in-None : goal.returns-in-None
 returns-in-None g c =

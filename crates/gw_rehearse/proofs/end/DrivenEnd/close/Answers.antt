@@ -1,4 +1,5 @@
 use Rattle.std.proofs.Common.{◌≡◌, length, refl, sym, subst, arith}
+use Rattle.jr_dated.specs.Images.{header_of}
 use Rattle.jr_segments.specs.Lawful.{few_by}
 use Rattle.jr_places.specs.Numbers.{numbers_of}
 use Rattle.gate_senders.proofs.Keeping.{keeps_stands}
@@ -27,7 +28,7 @@ returns-clause-closed c =
       refused = closed.refused;
       holds = closed.holds;
       stands = keeps_stands c.close.result closed.history closed.refused closed.holds;
-      few = omega (arith, c.close.result.within.all, few_by (length (numbers_of j.places)) j.size j.counted j.small);
+      few = omega (arith, c.close.result.within.all, few_by (length (numbers_of j.places)) j.size (length (header_of j.limits.form)) j.counted j.small);
       opened = opened_found c.args.self.gate c.close-passes.result (count_of staff) c.close.result back.first closed;
       seen = last_found c.args.self.gate c.close-passes.result (count_of staff) c.args.self.pass c.close.result back.first back.last closed;
       inbox = refl;

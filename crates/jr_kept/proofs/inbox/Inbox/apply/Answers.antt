@@ -9,11 +9,11 @@ use Rattle.jr_kept.proofs.Keeping.{apply_size, kept_more, kept_refused, on_fault
 use Rattle.jr_boxes.proofs.Noting.{within_more}
 use Rattle.jr_kept.proofs.inbox.Inbox.apply.Goals as goal
 
-pub returns-then-len-saturating_sub-clause-full : goal.returns-then-len-saturating_sub-clause-full
-returns-then-len-saturating_sub-clause-full g c =
-    let size = apply_size c.args.number c.args.payload in
+pub returns-then-size-saturating_sub-clause-full : goal.returns-then-size-saturating_sub-clause-full
+returns-then-size-saturating_sub-clause-full g c =
+    let size = apply_size c.args.self.now.limits.form c.args.number c.args.payload in
     let full : ℕ → Result (List ℕ) AppendFault = λ n. Err (append.Full n) in (
-      λ _. record { sound = sym c.if-broken.ensures.value; past = omega (arith, size, c.if-len-saturating_sub.true, c.saturating_sub.ensures, c.bytes-bytes.ensures.value) },
+      λ _. record { sound = sym c.if-broken.ensures.value; past = omega (arith, size, c.if-size-saturating_sub.true, c.saturating_sub.ensures, c.bytes-bytes.ensures.value, c.sum_size.ensures.value) },
       λ _. ap full c.bytes-bytes.ensures.value,
     )
 
@@ -28,12 +28,12 @@ invariant_of-self g c =
 
 pub returns-in_err-reserve-clause-full : goal.returns-in_err-reserve-clause-full
 returns-in_err-reserve-clause-full g c =
-    let size = apply_size c.args.number c.args.payload in
+    let size = apply_size c.args.self.now.limits.form c.args.number c.args.payload in
     let p = err_from_is_err_and c.from_residual.result c.from_residual.ensures.1 in
     let is_err = p.1 in
     let memory = p.2 in (
       λ full. absurd (cc (full, is_err, memory)),
-      λ past. absurd (omega (arith, size, past.past, c.if-len-saturating_sub.false, c.saturating_sub.ensures, c.bytes-bytes.ensures.value)),
+      λ past. absurd (omega (arith, size, past.past, c.if-size-saturating_sub.false, c.saturating_sub.ensures, c.bytes-bytes.ensures.value, c.sum_size.ensures.value)),
     )
 
 pub invariant_of-self-in-Break-branch-2 : goal.invariant_of-self-in-Break-branch-2

@@ -5,7 +5,7 @@ use Rattle.jr_places.specs.Numbers.{numbers_of}
 use Rattle.jr_record.specs.declared.record.Record.{Record}
 use Rattle.jr_record.specs.declared.faults.AppendFault.TheVariants as append
 use Rattle.jr_dated.specs.declared.limits.Limits.{Limits}
-use Rattle.jr_dated.specs.Images.{sizes}
+use Rattle.jr_dated.specs.Images.{has_sums, sizes}
 use Rattle.jr_dated.specs.Journals.{fitting}
 use Rattle.jr_boxes.specs.Inboxes.{records_of_inbox}
 use Rattle.jr_boxes.proofs.Kept.{SameNotes, within_same}
@@ -15,6 +15,13 @@ use Rattle.jr_kept.specs.Inbox.{fitting_applies}
 use Rattle.jr_kept.proofs.Batches.{on_add_refused}
 use Rattle.jr_kept.proofs.Keeping.{applied_part, applying_failed, fitting_all, fitting_applied, fitting_few, kept_same, length-applies, length-counts_from, noted_none, noted_part, refused_part, same_content, some_on, some_same, unbegun_if, within_part}
 use Rattle.jr_kept.proofs.inbox.Inbox.apply_all.Goals as goal
+
+pub append_fitting-requires-clause-few : goal.append_fitting-requires-clause-few
+append_fitting-requires-clause-few g c sums =
+    let old = c.args.self.now in
+    let messages = applies c.args.first c.args.payloads.now in
+    let most = c.requires.few (sym (ap (λ (l : Limits). has_sums l.form) old.limited) ∙ sums) in
+    omega (arith, most, ap length c.in_ok-batch.ensures.records, length-records messages, length-applies c.args.first c.args.payloads.now)
 
 pub invariant_of-self-in-Ok : goal.invariant_of-self-in-Ok
 invariant_of-self-in-Ok g c =
@@ -94,7 +101,7 @@ returns-then-added-payloads-clause-tells g c =
       negotiated = noted.negotiated_is;
       peer_last = noted.peer_last_is;
       count = omega (arith, added, ap length noted.places_are, length-append (numbers_of old.notes.places) (counts_from c.len.result c.in-Ok.added), length-counts_from c.len.result c.in-Ok.added);
-      size = c.in-Ok.ensures.grown.bytes ∙ ap (λ (xs : List Record). size + sizes xs) are;
+      size = c.in-Ok.ensures.grown.bytes ∙ ap (λ (l : Limits). size + sizes l.form rs) old.limited ∙ ap (λ (xs : List Record). size + sizes old.limits.form xs) are;
     }
 
 pub returns-in-Ok-clause-ok : goal.returns-in-Ok-clause-ok
@@ -151,7 +158,7 @@ returns-in-Ok-clause-tells g c =
       negotiated = noted.negotiated_is;
       peer_last = noted.peer_last_is;
       count = omega (arith, added, ap length noted.places_are, length-append (numbers_of old.notes.places) (counts_from c.len.result c.in-Ok.added), length-counts_from c.len.result c.in-Ok.added);
-      size = c.in-Ok.ensures.grown.bytes ∙ ap (λ (xs : List Record). size + sizes xs) are;
+      size = c.in-Ok.ensures.grown.bytes ∙ ap (λ (l : Limits). size + sizes l.form rs) old.limited ∙ ap (λ (xs : List Record). size + sizes old.limits.form xs) are;
     }
 
 pub invariant_of-self-in-Err : goal.invariant_of-self-in-Err

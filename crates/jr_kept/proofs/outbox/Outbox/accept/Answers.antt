@@ -1,14 +1,16 @@
 use Rattle.std.proofs.Common.{◌≡◌, ◌+◌, List, [], ℕ, Result, Err, inl, inr, refl, sym, ap, ◌∙◌, arith}
 use Rattle.std.proofs.lemmas.Result.{err_from_is_err_and}
 use Rattle.session_model.specs.Journal.{Entry, entry}
+use Rattle.jr_record.specs.declared.record.Record.{Record}
 use Rattle.jr_record.specs.declared.record.Record.TheVariants as kinds
+use Rattle.jr_dated.specs.Images.{record_size}
 use Rattle.jr_boxes.specs.declared.faults.SubmitFault.{SubmitFault}
 use Rattle.jr_boxes.specs.declared.faults.SubmitFault.TheVariants as submit
 use Rattle.jr_boxes.specs.Outboxes.{with_entry}
 use Rattle.jr_boxes.specs.Tallies.{count_in}
 use Rattle.jr_kept.specs.Outbox.{mine_of, IsPastLimit}
 use Rattle.jr_boxes.proofs.Answering.{on_refused}
-use Rattle.jr_kept.proofs.Held.{held_entry, held_refused, held_same, some_on, submit_failed, entry_size}
+use Rattle.jr_kept.proofs.Held.{held_entry, held_refused, held_same, some_on, submit_failed, entry_size, of_limits}
 use Rattle.jr_kept.proofs.outbox.Outbox.accept.Goals as goal
 use Rattle.jr_kept.proofs.outbox.Outbox.accept.Goals.{then-entries-self-via-then-entries-self, then-entries-self-via-else-entries-self+then-payload-room}
 
@@ -16,11 +18,11 @@ pub returns-then-entries-self-clause-full : goal.returns-then-entries-self-claus
 returns-then-entries-self-clause-full g c =
     let old = c.args.self.now in
     let full : ℕ → Result ℕ SubmitFault = λ n. Err (submit.Full old.tally.entries n) in
-    let size = entry_size c.args.sender (mine_of old c.args.sender + 1) c.args.payload.now in
+    let size = entry_size old.limits.form c.args.sender (mine_of old c.args.sender + 1) c.args.payload.now in
     let past : IsPastLimit old (kinds.Entry c.args.sender (mine_of old c.args.sender + 1) c.args.payload.now) =
     elim c.then-entries-self.branch [
       | then-entries-self-via-then-entries-self w ↦ inl w.if-entries-self.true
-      | then-entries-self-via-else-entries-self+then-payload-room w ↦ inr (omega (arith, size, w.if-payload-room.true, c.saturating_sub-room.ensures, c.bytes-bytes.ensures.value))
+      | then-entries-self-via-else-entries-self+then-payload-room w ↦ inr (omega (arith, size, w.if-payload-room.true, c.saturating_sub-room.ensures, c.bytes-bytes.ensures.value, c.sum_size.ensures.value))
     ] in
     (λ _. (record { sound = sym c.if-broken.ensures.value; unmarked = c.if-self.false }, past), λ _. ap full c.bytes-bytes.ensures.value)
 
@@ -30,11 +32,11 @@ returns-in_err-from_slice-clause-full g c =
     let p = err_from_is_err_and c.from_residual.result c.from_residual.ensures.1 in
     let is_err = p.1 in
     let memory = p.2 in
-    let size = entry_size c.args.sender (mine_of old c.args.sender + 1) c.args.payload.now in (
+    let size = entry_size old.limits.form c.args.sender (mine_of old c.args.sender + 1) c.args.payload.now in (
       λ full. absurd (cc (full, is_err, memory)),
       λ both. elim both.1 [
         | inl entries ↦ absurd (omega (arith, entries, c.if-entries-self.false))
-        | inr bytes ↦ absurd (omega (arith, size, bytes, c.if-payload-room.false, c.saturating_sub-room.ensures, c.bytes-bytes.ensures.value))
+        | inr bytes ↦ absurd (omega (arith, size, bytes, c.if-payload-room.false, c.saturating_sub-room.ensures, c.bytes-bytes.ensures.value, c.sum_size.ensures.value))
       ],
     )
 
@@ -87,3 +89,17 @@ returns-clause-fault g c failed h held =
     let is : c.not_accepted.result ≡ submit.Fault = cc in
     held_refused g.J.Journal.stands g.J.Journal.leaves old.journal c.append.new.self old.tally (g.J.Journal.moment old.journal) (entry e) r same
     (submit_failed c.in-Err.fault old.tally.entries (sym c.not_accepted.ensures.value ∙ is) c.in-Err.ensures.fault) h held
+
+pub returns-in-Ok-clause-entered : goal.returns-in-Ok-clause-entered
+returns-in-Ok-clause-entered g c =
+    let old = c.args.self.now in
+    let r = kinds.Entry c.args.sender (c.of.result + 1) c.in_ok-from_slice.field-0 in
+    let is : r ≡ kinds.Entry c.args.sender (count_in old.tally c.args.sender + 1) c.args.payload.now =
+    ap (λ (k : ℕ). kinds.Entry c.args.sender (k + 1) c.in_ok-from_slice.field-0) c.of.ensures.value ∙ ap (λ (p : List ℕ). kinds.Entry c.args.sender (count_in old.tally c.args.sender + 1) p) c.in_ok-from_slice.ensures in
+    record {
+      front = c.count.ensures.counted.all;
+      mine = c.count.ensures.counted.its;
+      others = c.count.ensures.counted.others;
+      closed = c.count.ensures.counted.mark;
+      size = of_limits old.limited (g.J.Journal.size old.journal) r c.in-Ok.ensures.grown.1 ∙ ap (λ (x : Record). g.J.Journal.size old.journal + record_size old.limits.form x) is;
+    }

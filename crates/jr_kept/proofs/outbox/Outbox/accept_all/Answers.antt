@@ -1,16 +1,25 @@
 use Rattle.std.proofs.Common.{◌≡◌, ◌+◌, ◌≤◌, ℕ, List, [], length, Err, sym, ap, subst, ◌∙◌, arith}
+use Rattle.std.proofs.lemmas.List.{length-take}
 use Rattle.session_model.specs.Journal.{Entry}
 use Rattle.jr_record.specs.declared.record.Record.{Record}
 use Rattle.jr_dated.specs.declared.limits.Limits.{Limits}
-use Rattle.jr_dated.specs.Images.{sizes}
+use Rattle.jr_dated.specs.Images.{has_sums, sizes}
 use Rattle.jr_dated.specs.Journals.{fitting}
 use Rattle.jr_boxes.specs.declared.faults.SubmitFault.TheVariants as submit
-use Rattle.jr_kept.specs.Entries.{records_of, with_entries}
+use Rattle.jr_kept.specs.Entries.{entries_behind, records_of, with_entries}
 use Rattle.jr_kept.specs.Outbox.{mine_of, next_entries, next_fitting}
 use Rattle.jr_kept.specs.Tallies.{HoldsAs}
 use Rattle.jr_kept.proofs.Held.{held_same, some_on}
 use Rattle.jr_kept.proofs.Batches.{accepted, refused, fits_are, fitting_within, fitting_whole, length-entries, length-records_of, on_add_refused, entering_failed}
 use Rattle.jr_kept.proofs.outbox.Outbox.accept_all.Goals as goal
+
+pub append_fitting-requires-clause-few : goal.append_fitting-requires-clause-few
+append_fitting-requires-clause-few g c sums =
+    let old = c.args.self.now in
+    let first = c.up_to-first.result.now in
+    let most = c.requires.few (sym (ap (λ (l : Limits). has_sums l.form) old.limited) ∙ sums) in
+    omega (arith, most, ap length c.in_ok-batch.ensures.records, length-records_of (entries_behind c.args.sender c.of.result first), length-entries c.args.sender c.of.result first,
+    ap length c.up_to-first.ensures.front, length-take c.saturating_sub-room.result c.args.payloads.now)
 
 pub invariant_of-self : goal.invariant_of-self
 invariant_of-self g c =
@@ -82,7 +91,7 @@ returns-then-added-payloads-clause-entered g c =
       mine = c.count_entries.ensures.counted.its ∙ ap (λ (n : ℕ). mine + n) added;
       others = c.count_entries.ensures.counted.others;
       closed = c.count_entries.ensures.counted.mark;
-      size = c.in-Ok.ensures.grown.bytes ∙ ap (λ (xs : List Record). size + sizes xs) are;
+      size = c.in-Ok.ensures.grown.bytes ∙ ap (λ (l : Limits). size + sizes l.form rs) old.limited ∙ ap (λ (xs : List Record). size + sizes old.limits.form xs) are;
     }
 
 pub returns-in-Ok-clause-number : goal.returns-in-Ok-clause-number
@@ -150,7 +159,7 @@ returns-in-Ok-clause-entered g c =
       mine = c.count_entries.ensures.counted.its ∙ ap (λ (n : ℕ). mine + n) added;
       others = c.count_entries.ensures.counted.others;
       closed = c.count_entries.ensures.counted.mark;
-      size = c.in-Ok.ensures.grown.bytes ∙ ap (λ (xs : List Record). size + sizes xs) are;
+      size = c.in-Ok.ensures.grown.bytes ∙ ap (λ (l : Limits). size + sizes l.form rs) old.limited ∙ ap (λ (xs : List Record). size + sizes old.limits.form xs) are;
     }
 
 pub returns-clause-fault : goal.returns-clause-fault

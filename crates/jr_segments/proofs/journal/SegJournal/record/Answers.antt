@@ -26,7 +26,9 @@ invariant_of-self g c =
       counted = j.counted;
       in_time = j.in_time;
       whole = j.whole;
-      held = λ sound. some_same (numbers_of j.places) j.size j.moment (g.D.Disk.may_leave j.disk) (g.D.Disk.may_leave c.read_back.new.disk) c.read_back.ensures.images (j.held sound);
+      formed = λ image left. j.formed image ((c.read_back.ensures.images image).0 left);
+      uncut = λ sound image left. j.uncut sound image ((c.read_back.ensures.images image).0 left);
+      held = λ sound. some_same j.limits.form (numbers_of j.places) j.size j.moment (g.D.Disk.may_leave j.disk) (g.D.Disk.may_leave c.read_back.new.disk) c.read_back.ensures.images (j.held sound);
     }
 
 pub invariant_of-self-in-Err-Memory : goal.invariant_of-self-in-Err-Memory
@@ -37,5 +39,7 @@ invariant_of-self-in-Err-Memory g c =
       counted = j.counted;
       in_time = j.in_time;
       whole = j.whole;
-      held = λ sound. some_same (numbers_of j.places) j.size j.moment (g.D.Disk.may_leave j.disk) (g.D.Disk.may_leave c.read_back.new.disk) c.read_back.ensures.images (j.held sound);
+      formed = λ image left. j.formed image ((c.read_back.ensures.images image).0 left);
+      uncut = λ sound image left. j.uncut sound image ((c.read_back.ensures.images image).0 left);
+      held = λ sound. some_same j.limits.form (numbers_of j.places) j.size j.moment (g.D.Disk.may_leave j.disk) (g.D.Disk.may_leave c.read_back.new.disk) c.read_back.ensures.images (j.held sound);
     }

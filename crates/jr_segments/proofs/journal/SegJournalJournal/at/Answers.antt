@@ -11,11 +11,13 @@ invariant_of-self g c =
       counted = j.counted;
       in_time = omega (arith, j.in_time, c.requires.clock, c.max-self.ensures);
       whole = j.whole;
-      held = λ sound. some_raised (numbers_of j.places) j.size j.moment c.max-self.result (g.D.Disk.may_leave j.disk) (omega (arith, c.max-self.ensures)) (j.held sound);
+      formed = j.formed;
+      uncut = j.uncut;
+      held = λ sound. some_raised j.limits.form (numbers_of j.places) j.size j.moment c.max-self.result (g.D.Disk.may_leave j.disk) (omega (arith, c.max-self.ensures)) (j.held sound);
     }
 
 pub returns-clause-stands : goal.returns-clause-stands
-returns-clause-stands g c = raised_unchanged c.args.self.now _ refl refl (omega (arith, c.max-self.ensures)) refl refl
+returns-clause-stands g c = raised_unchanged c.args.self.now _ refl refl (omega (arith, c.max-self.ensures)) refl refl refl
 
 pub returns-clause-images : goal.returns-clause-images
 returns-clause-images g c o = (λ l. l, λ l. l)

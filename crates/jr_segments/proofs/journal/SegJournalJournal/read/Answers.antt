@@ -17,7 +17,7 @@ returns-clause-changed g c at is =
 pub returns-clause-unchanged : goal.returns-clause-unchanged
 returns-clause-unchanged g c =
     let same = c.record.ensures.same in
-    read_unchanged c.args.self.now c.record.new.self same.places same.size same.moment same.torn same.told same.images
+    read_unchanged c.args.self.now c.record.new.self same.places same.size same.moment same.torn same.limits same.told same.images
 
 pub returns-clause-told : goal.returns-clause-told
 returns-clause-told g c = λ told. subst (λ (t : Option (List ℕ)). is_some t ≡ true) (sym c.record.ensures.same.told) told

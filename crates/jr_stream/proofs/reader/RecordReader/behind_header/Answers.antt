@@ -1,13 +1,21 @@
-use Rattle.std.proofs.Common.{sym}
+use Rattle.std.proofs.Common.{List, ℕ, subst, None, Some, Option}
+use Rattle.jr_dated.specs.declared.form.Form.{Form}
+use Rattle.jr_dated.specs.Images.{HasForm, IsFormOf, IsNotFormatted}
 use Rattle.jr_stream.proofs.Taking.{taken_none, no_header}
 use Rattle.jr_stream.proofs.reader.RecordReader.behind_header.Goals as goal
 
+pub begin-requires : goal.begin-requires
+begin-requires g c =
+    subst (λ (bytes : List ℕ). HasForm c.in-Some.form bytes) c.waiting.ensures (subst (λ (o : Option Form). IsFormOf o c.waiting.result.now) c.in-Some.is c.of_front.ensures.form)
+
 pub returns-clause-taken : goal.returns-clause-taken
 returns-clause-taken g c =
-    taken_none c.args.format (g.S.Source.left c.args.source.now) (g.S.Source.left c.fill.new.source) c.in_ok-reader.reader c.fill.new.self c.pass.new.self c.in_ok-reader.ensures c.in_ok-fill.ensures.reads
-    (rw (sym c.waiting.ensures) (c.has_header.ensures.yes c.if-not-has_header.false)) c.pass.ensures
+    let has : HasForm c.in-Some.form c.fill.new.self.waiting =
+    subst (λ (bytes : List ℕ). HasForm c.in-Some.form bytes) c.waiting.ensures (subst (λ (o : Option Form). IsFormOf o c.waiting.result.now) c.in-Some.is c.of_front.ensures.form) in
+    taken_none c.in-Some.form (g.S.Source.left c.args.source.now) (g.S.Source.left c.fill.new.source) c.in_ok-reader.reader c.fill.new.self c.begin.new.self c.in_ok-reader.ensures c.in_ok-fill.ensures.reads has c.begin.ensures
 
-pub returns-then-not-has_header-clause-refused : goal.returns-then-not-has_header-clause-refused
-returns-then-not-has_header-clause-refused g c =
-    no_header c.args.format (g.S.Source.left c.args.source.now) (g.S.Source.left c.fill.new.source) c.in_ok-reader.reader c.fill.new.self c.in_ok-reader.ensures c.in_ok-fill.ensures.reads c.in_ok-fill.ensures.ready
-    (rw (sym c.waiting.ensures) (c.has_header.ensures.no c.if-not-has_header.true))
+pub returns-in_default-clause-refused : goal.returns-in_default-clause-refused
+returns-in_default-clause-refused g c =
+    let none : IsNotFormatted c.fill.new.self.waiting =
+    subst (λ (bytes : List ℕ). IsNotFormatted bytes) c.waiting.ensures (subst (λ (o : Option Form). IsFormOf o c.waiting.result.now) c.in_default.is c.of_front.ensures.form) in
+    no_header (g.S.Source.left c.args.source.now) (g.S.Source.left c.fill.new.source) c.in_ok-reader.reader c.fill.new.self c.in_ok-reader.ensures c.in_ok-fill.ensures.reads c.in_ok-fill.ensures.ready none
