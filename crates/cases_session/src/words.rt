@@ -35,6 +35,8 @@ fn feed_line(alloc: Global, kind: &str, words: &str) -> Result<String, AllocErro
         "has" => feed::has_line(alloc, words),
         "accepted" => feed::accepted_line(alloc, words),
         "refused" => feed::refused_line(alloc, words),
+        "finished" => feed::finished_line(alloc),
+        "standing" => feed::standing_line(alloc, words),
         "tail" => feed::tail_line(alloc, words),
         "cut" => feed::cut_line(alloc, words),
         _ => format!(in alloc; "{kind}: {words}"),

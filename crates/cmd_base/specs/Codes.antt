@@ -1,7 +1,7 @@
 -- The numbers and names of statuses (this project's profile).
 use Rattle.std.specs.Prelude.{ℕ, List, codes}
 use Rattle.cmd_base.specs.declared.status.Status.{Status}
-use Rattle.cmd_base.specs.declared.status.Status.TheVariants.{Done, Words, Config, InputFault, OutputFault, JournalFault, JournalBad, DialFault, Unfinished, Rejected, Full, Turns, Message, Memory}
+use Rattle.cmd_base.specs.declared.status.Status.TheVariants.{Done, Words, Config, InputFault, OutputFault, JournalFault, JournalBad, DialFault, Unfinished, Rejected, Full, Turns, Message, Memory, InputEnded}
 
 abbrev pub code_of : Status → ℕ
 code_of Done = 0
@@ -18,6 +18,7 @@ code_of (Full entries bytes) = 10
 code_of Turns = 11
 code_of (Message bad) = 12
 code_of Memory = 14
+code_of InputEnded = 15
 
 abbrev pub name_of : Status → List ℕ
 name_of Done = codes "done"
@@ -34,3 +35,4 @@ name_of (Full entries bytes) = codes "full"
 name_of Turns = codes "turns"
 name_of (Message bad) = codes "message"
 name_of Memory = codes "memory"
+name_of InputEnded = codes "input-ended"

@@ -5,9 +5,9 @@ use Rattle.std.specs.Io.KnownBytes.{Consumes}
 use Rattle.gw_outside.specs.Faults.{HasRisen}
 use Rattle.cmd_base.specs.declared.outside.Outside.{Outside}
 use Rattle.cmd_base.specs.declared.status.Status.{Status}
-use Rattle.cmd_base.specs.declared.status.Status.TheVariants.{Words, InputFault, JournalFault, JournalBad, DialFault, Unfinished, Rejected, Full, Turns}
+use Rattle.cmd_base.specs.declared.status.Status.TheVariants.{Words, InputFault, JournalFault, JournalBad, DialFault, Unfinished, Rejected, Full, Turns, InputEnded}
 
--- the statuses of a command that opens no journal and makes no connection, once its words are listed
+-- the statuses of a command that opens no journal, makes no connection and is not fed, once its words are listed
 abbrev pub IsOfStreams : Status → Type 0
 IsOfStreams Words = ⊥
 IsOfStreams JournalFault = ⊥
@@ -17,6 +17,7 @@ IsOfStreams (Unfinished phase) = ⊥
 IsOfStreams (Rejected template code) = ⊥
 IsOfStreams (Full entries bytes) = ⊥
 IsOfStreams Turns = ⊥
+IsOfStreams InputEnded = ⊥
 IsOfStreams _ = Unit {0}
 
 -- the disks are as they were

@@ -81,6 +81,9 @@ pub enum Status {
     /// Want of memory.
     #[error("out of memory")]
     Memory,
+    /// INPUT, which is read as it comes, ended without the line that says that nothing more comes.
+    #[error("INPUT ended, and no line `finish` stood before its end")]
+    InputEnded,
 }
 
 impl Status {
@@ -106,6 +109,7 @@ impl Status {
             Status::Turns => 11,
             Status::Message(_) => 12,
             Status::Memory => 14,
+            Status::InputEnded => 15,
         }
     }
 
@@ -128,6 +132,7 @@ impl Status {
             Status::Turns => "turns",
             Status::Message(_) => "message",
             Status::Memory => "memory",
+            Status::InputEnded => "input-ended",
         }
     }
 }

@@ -60,6 +60,7 @@ wrote-by plan text old mid new (status.Unfinished phase) short nothing w = absur
 wrote-by plan text old mid new (status.Rejected template code) short nothing w = absurd w
 wrote-by plan text old mid new (status.Full entries bytes) short nothing w = absurd w
 wrote-by plan text old mid new status.Turns short nothing w = absurd w
+wrote-by plan text old mid new status.InputEnded short nothing w = absurd w
 
 pub wrote : (plan : Plan) (input left : Option (List ℕ)) (read : List ℕ) (old mid new : Option (List ℕ)) (s : Status) → Consumes input left read → IsAtEnd left → length read ≤ text_limit → Appends old mid [] → Writes plan read mid new s
     → KeepsPromise plan input old new s
@@ -92,6 +93,7 @@ refused-by plan text left old new (status.Unfinished phase) short r nothing told
 refused-by plan text left old new (status.Rejected template code) short r nothing told = absurd told
 refused-by plan text left old new (status.Full entries bytes) short r nothing told = absurd told
 refused-by plan text left old new status.Turns short r nothing told = absurd told
+refused-by plan text left old new status.InputEnded short r nothing told = absurd told
 
 pub line_refused : (plan : Plan) (input end_left : Option (List ℕ)) (read : List ℕ) (left : ℕ) (old : Option (List ℕ)) (s : Status) → Consumes input end_left read → IsAtEnd end_left → length read ≤ text_limit → RefusesWith plan read left
     → TellsLine (length (lines_in read) - left + 1) s → KeepsPromise plan input old old s

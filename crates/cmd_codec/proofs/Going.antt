@@ -10,7 +10,7 @@ use Rattle.cmd_codec.specs.declared.shown.Shown.{Shown}
 use Rattle.cmd_base.specs.declared.status.Bad.{Bad}
 use Rattle.cmd_base.specs.declared.status.Bad.TheVariants as bad
 use Rattle.cmd_base.specs.declared.status.Status.{Status}
-use Rattle.cmd_base.specs.declared.status.Status.TheVariants.{Done, Words, Config, InputFault, OutputFault, JournalFault, JournalBad, DialFault, Unfinished, Rejected, Full, Turns, Message, Memory}
+use Rattle.cmd_base.specs.declared.status.Status.TheVariants.{Done, Words, Config, InputFault, OutputFault, JournalFault, JournalBad, DialFault, Unfinished, Rejected, Full, Turns, Message, Memory, InputEnded}
 use Rattle.cmd_codec.specs.declared.decoder.Decoder.{Decoder}
 use Rattle.cmd_codec.specs.Decoded.{Decoded, ends, behind, lines_of_frame, followed, next_number, next_place, status_at, frames_decoded, decoded_from}
 use Rattle.cmd_codec.specs.Decoding.{Keeps, Stops, Added, Wrong, Prints, Took, Takes}
@@ -123,3 +123,4 @@ takes-err A shown plan old new order message size (Unfinished phase) e is = absu
 takes-err A shown plan old new order message size (Rejected template code) e is = absurd is
 takes-err A shown plan old new order message size (Full entries bytes) e is = absurd is
 takes-err A shown plan old new order message size Turns e is = absurd is
+takes-err A shown plan old new order message size InputEnded e is = absurd is

@@ -177,6 +177,7 @@ last_written plan text left number before now after frames (status.Unfinished ph
 last_written plan text left number before now after frames (status.Rejected template code) h none s pushed = absurd pushed
 last_written plan text left number before now after frames (status.Full entries bytes) h none s pushed = absurd pushed
 last_written plan text left number before now after frames status.Turns h none s pushed = absurd pushed
+last_written plan text left number before now after frames status.InputEnded h none s pushed = absurd pushed
 last_written plan text left number before now after frames (status.Message wrong) h none s pushed = absurd pushed
 last_written plan text left number before now after frames status.Memory h none s pushed = absurd pushed
 

@@ -25,7 +25,7 @@ use Rattle.conn_out.specs.Projections.{Tells, Projects, ProjectsOn}
 use Rattle.cmd_base.specs.Contents.{Disks}
 use Rattle.cmd_base.specs.Texts.{IsUnconfigured, Refuses}
 use Rattle.cmd_base.specs.declared.status.Status.{Status}
-use Rattle.cmd_base.specs.declared.status.Status.TheVariants.{Config, InputFault, OutputFault, JournalFault, JournalBad, DialFault, Memory}
+use Rattle.cmd_base.specs.declared.status.Status.TheVariants.{Config, InputFault, OutputFault, JournalFault, JournalBad, DialFault, Memory, InputEnded}
 use Rattle.cmd_session.specs.Inputs.{IsConfigured, configuration_at, end_of}
 use Rattle.cmd_session.specs.Journals.{IsJournal}
 use Rattle.cmd_session.specs.Lived.{IsOfLife, LeftBoth, OpensOutbox, OpensInbox}
@@ -151,7 +151,7 @@ module _ {S I K A D N C J : Type 0} where
       (status : Status) : Type 0 where
     pub begun : K
     pub out : WentOn sees.keeps (sees.session.told before.in_disk) (sees.session.taken before.out) (sees.session.taken begun)
-    pub of_life : IsOfLife status ⊎ (status ≡ InputFault)
+    pub of_life : IsOfLife status ⊎ ((status ≡ InputFault) ⊎ (status ≡ InputEnded))
     pub input : status ≡ InputFault → HasRisen (sees.input before.input) (sees.input after.input)
     pub output : status ≡ OutputFault
         → HasRisen (sees.session.sink before.out) (sees.session.sink after.out) ⊎ HasRisen (sees.accepted before.accepted) (sees.accepted after.accepted)

@@ -19,6 +19,7 @@ use cmd_config::{Configuration, Trade};
 use cmd_session::{Live, Over, OverBoxes, Role, close_inbox, close_outbox, end_config, open_boxes};
 use fixp_shake::EndConfig;
 use gw_appended::Appended;
+use gw_fed::Feed;
 use gw_links::{Clock, Dialer};
 use gw_outside::{Disk, Sink, Source};
 use jr_dated::Journal;
@@ -54,7 +55,7 @@ fn without_desks(alloc: Global, trade: Trade) -> Result<(), Status>
 /// status. What is ensured of the run holds whatever CONFIG was before it was read.
 fn feed_behind_out<
     S: Source,
-    I: Source + Send,
+    I: Feed + Send,
     K: Appended,
     A: Sink + Send,
     D: Disk + Send,
@@ -136,7 +137,7 @@ fn feed_behind_out<
 /// was before it was read.
 fn feed_over_disks<
     S: Source,
-    I: Source + Send,
+    I: Feed + Send,
     K: Appended,
     A: Sink + Send,
     D: Disk + Send,
@@ -213,7 +214,7 @@ fn feed_over_disks<
 /// not waited for.
 pub fn run_feeding<
     S: Source,
-    I: Source + Send,
+    I: Feed + Send,
     K: Appended,
     A: Sink + Send,
     D: Disk + Send,

@@ -1,7 +1,7 @@
 //! The life of a session that is fed, over its boxes: the senders seated at a gate, the connections served with the feeder beside them, and the outbox out of
 //! the gate again.
 
-ghost use Rattle.std.specs.Prelude.{◌≡◌, ◌⊎◌, ◌+◌, ◌<◌, ◌≤◌, ◌^◌, false, [], length, vec_len, vec_capacity, Some, Err, IfOk};
+ghost use Rattle.std.specs.Prelude.{◌≡◌, ◌⊎◌, ◌+◌, ◌<◌, ◌≤◌, ◌^◌, false, [], length, vec_len, vec_capacity, Some, Err, IfOk, All};
 ghost use Rattle.gw_outside.specs.Faults.{HasRisen};
 ghost use Rattle.fixp_msgs.specs.declared.flow.Flow.TheVariants as flows;
 ghost use Rattle.fixp_machine.specs.Machine.{fresh};
@@ -18,10 +18,12 @@ ghost use Rattle.life_laws.specs.PlanLives.{clocked};
 ghost use Rattle.fed_laws.specs.At.{FedAt, fed_beside};
 ghost use Rattle.cmd_session.specs.Outsides.{hears};
 ghost use Rattle.cmd_session.specs.Lived.{IsOfLife, BeganNone};
-ghost use Rattle.cmd_feed.specs.Fed.{refusal_of, status_of_feeding, streams, HasLivedFed};
+ghost use Rattle.conn_again.specs.Reviews.{unread};
+ghost use Rattle.cmd_feed.specs.Fed.{or_input_ended, refusal_of, status_of_feeding, streams, HasLivedFed};
 
 use cmd_base::Status;
 use cmd_session::{Live, MOST, Over, OverBoxes, made_gate, status_of};
+use conn_again::Review;
 use conn_door::answer_of;
 use conn_fed::{Fed, feed_lent};
 use conn_feed::{FeedEnd, Feeder};
@@ -30,8 +32,10 @@ use fixp_shake::EndConfig;
 use gate_senders::{Gate, Kept};
 use gate_staff::{Plan, Sender, give_last, seat, take_last, unseat};
 use gate_turn::Passes;
+use gw_fed::Feed;
 use gw_links::{Clock, Dialer};
-use gw_outside::{Disk, Sink, Source};
+use gw_outside::{Disk, Sink};
+use jr_boxes::Which;
 use jr_dated::Journal;
 use jr_kept::Inbox;
 use std::alloc::{AllocError, Global};
@@ -39,51 +43,77 @@ use std::sync::Wait;
 use std::sync::atomic::AtomicBool;
 use std::thread::Threads;
 
-/// An empty plan for each of so many senders, since what they send comes as lines; and room for their seats.
-type Places<O> = (Vec<Plan>, Vec<Sender<O>>);
+/// An empty plan for each of so many senders, since what they send comes as lines; room for their seats; and where messages that come again are looked for.
+type Places<O> = (Vec<Plan>, Vec<Sender<O>>, Vec<Review>);
 
 /// The places of so many senders.
 fn made_places<O: Journal>(alloc: Global, senders: u16) -> Result<Places<O>, AllocError>
     ensures plans { IfOk result (λ r. vec_len r.0 ≡ senders) }
     ensures empty { IfOk result (λ r. r.1.items ≡ []) }
     ensures room { IfOk result (λ r. senders ≤ vec_capacity r.1) }
+    ensures reviews { IfOk result (λ r. (vec_len r.2 ≡ senders) × All (λ x. x ≡ unread) r.2.items) }
 {
     let mut plans = Vec::new(alloc);
+    let mut reviews = Vec::new(alloc);
     for _ in 0..senders {
         plans.push(Plan::new(alloc))?;
+        reviews.push(Review::new(alloc))?;
     }
     let seats = Vec::with_capacity(alloc, senders as usize)?;
-    Ok((plans, seats))
+    Ok((plans, seats, reviews))
 }
 
-/// What a feeding that ended so is to its life, with the mark refused so, if it was, where neither INPUT nor ACCEPTED failed.
-fn refusal_of(end: FeedEnd, mark: Option<ServeFault>) -> Option<ServeFault>
-    ensures value { result ≡ refusal_of end mark }
+/// What a feeding that ended so is to its life, where neither INPUT nor ACCEPTED ended it.
+fn refusal_of(end: FeedEnd) -> Option<ServeFault>
+    ensures value { result ≡ refusal_of end }
 {
     match end {
-        FeedEnd::Ended | FeedEnd::Closed | FeedEnd::Stopped | FeedEnd::Input | FeedEnd::Accepted =>
-            mark,
+        FeedEnd::Ended
+        | FeedEnd::InputEnded
+        | FeedEnd::Stopped
+        | FeedEnd::Input
+        | FeedEnd::Accepted => None,
         FeedEnd::Journal => Some(ServeFault::Journal),
+        FeedEnd::Changed { at } => Some(ServeFault::Changed {
+            which: Which::Outbox,
+            at,
+        }),
         FeedEnd::Full { entries, bytes } => Some(ServeFault::Full { entries, bytes }),
         FeedEnd::Memory => Some(ServeFault::Memory),
     }
 }
 
+/// The status of a life whose INPUT ended without `finish`: that, unless one that comes before it is the connections'.
+fn or_input_ended(status: Status) -> Status
+    ensures value { result ≡ or_input_ended status }
+{
+    match status {
+        Status::OutputFault
+        | Status::JournalFault
+        | Status::JournalBad { .. }
+        | Status::Rejected { .. }
+        | Status::Full { .. }
+        | Status::Memory => status,
+        _ => Status::InputEnded,
+    }
+}
+
 /// The status of a life that was fed and ended so.
 fn status_of_feeding(fed: Fed) -> Status
-    ensures value { result ≡ status_of_feeding fed.connections fed.end fed.refused }
+    ensures value { result ≡ status_of_feeding fed.connections fed.end }
 {
     match fed.end {
         FeedEnd::Input => Status::InputFault,
         FeedEnd::Accepted => Status::OutputFault,
+        FeedEnd::InputEnded => {
+            or_input_ended(status_of(answer_of(fed.connections, refusal_of(fed.end))))
+        }
         FeedEnd::Ended
-        | FeedEnd::Closed
         | FeedEnd::Stopped
         | FeedEnd::Journal
+        | FeedEnd::Changed { .. }
         | FeedEnd::Full { .. }
-        | FeedEnd::Memory => {
-            status_of(answer_of(fed.connections, refusal_of(fed.end, fed.refused)))
-        }
+        | FeedEnd::Memory => status_of(answer_of(fed.connections, refusal_of(fed.end))),
     }
 }
 
@@ -103,7 +133,7 @@ fn serve_seated<
     N: Dialer,
     C: Clock,
     A: Sink + Send,
-    S: Source + Send,
+    S: Feed + Send,
     R: Threads + Wait + Sync,
 >(
     rt: &R,
@@ -123,6 +153,7 @@ fn serve_seated<
     requires few { vec_len places.0 ≤ 16 }
     requires empty { places.1.items ≡ [] }
     requires room { vec_len places.0 ≤ vec_capacity places.1 }
+    requires reviews { (vec_len places.2 ≡ vec_len places.0) × All (λ x. x ≡ unread) places.2.items }
     requires sent { length (opening_of gate.now).history.made < 2 ^ 40 }
     requires lent { N.lent devices.dialer ≡ false }
     requires flow { inboxes.flow_of inbox ≡ config.peer_flow }
@@ -138,18 +169,17 @@ fn serve_seated<
         (fresh config (opened_state (opening_of gate.now).history inbox) (2 ^ 26)) result.fed }
     ensures output { result.fed.connections ≡ Err faults.Output → HasRisen (K.faults devices.out) (K.faults result.devices.out) }
     ensures dial { result.fed.connections ≡ Err faults.Dial → HasRisen (N.faults devices.dialer) (N.faults result.devices.dialer) }
-    ensures mark { (result.fed.refused ≡ Some faults.Output → ⊥) × (result.fed.refused ≡ Some faults.Dial → ⊥) }
     ensures accepted { result.fed.end ≡ ends.Accepted → HasRisen (A.faults accepted) (A.faults result.accepted) }
     ensures input { result.fed.end ≡ ends.Input → HasRisen (S.faults input.old) (S.faults input.new) }
     ensures counted { (A.faults accepted ≤ A.faults result.accepted) × (S.faults input.old ≤ S.faults input.new) }
     ensures unlent { N.lent result.devices.dialer ≡ false }
     ensures never_falls { (inboxes.faults_of inbox ≤ inboxes.faults_of result.inbox) × (K.faults devices.out ≤ K.faults result.devices.out) × (N.faults devices.dialer ≤ N.faults result.devices.dialer) }
 {
-    let (plans, seats) = places;
+    let (plans, seats, reviews) = places;
     let count = plans.len() as u16;
     let senders = seat(gate, passes, plans, seats);
     let pass = take_last(gate, passes, count);
-    let mut feeder = Feeder::new(alloc, gate, senders, accepted, rt);
+    let mut feeder = Feeder::new(alloc, gate, senders, accepted, reviews, rt);
     let opening = Opening {
         alloc,
         gate,
@@ -192,7 +222,7 @@ pub fn live_feeding<
     N: Dialer,
     C: Clock,
     A: Sink + Send,
-    S: Source + Send,
+    S: Feed + Send,
     R: Threads + Wait + Sync,
 >(
     rt: &R,
@@ -215,7 +245,7 @@ pub fn live_feeding<
     ensures lived { ((result.0 ≡ Status.Memory) × (input.new ≡ input.old) × (result.1 ≡ accepted) × BeganNone K.taken K.faults on result.2 result.0)
         ⊎ HasLivedFed (hears K.Sink N.Dialer N.Link.Link C.Clock) config senders on result.2
         (streams (S.left input.old) (A.taken accepted)) (streams (S.left input.new) (A.taken result.1)) result.0 }
-    ensures of_life { IsOfLife result.0 ⊎ (result.0 ≡ Status.InputFault) }
+    ensures of_life { IsOfLife result.0 ⊎ ((result.0 ≡ Status.InputFault) ⊎ (result.0 ≡ Status.InputEnded)) }
     ensures input { result.0 ≡ Status.InputFault → HasRisen (S.faults input.old) (S.faults input.new) }
     ensures output { result.0 ≡ Status.OutputFault → HasRisen (K.faults on.live.out) (K.faults result.2.live.out) ⊎ HasRisen (A.faults accepted) (A.faults result.1) }
     ensures dial { result.0 ≡ Status.DialFault → HasRisen (N.faults on.live.dialer) (N.faults result.2.live.dialer) }

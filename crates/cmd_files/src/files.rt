@@ -188,6 +188,7 @@ impl<'a> Run<'a> {
             | Status::Unfinished { .. }
             | Status::Rejected { .. }
             | Status::Turns
+            | Status::InputEnded
             | Status::Memory => Ok(()),
         }
     }

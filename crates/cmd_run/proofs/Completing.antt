@@ -3,7 +3,7 @@ use Rattle.std.proofs.Common.{◌≡◌, ℕ, List, arith, Option, Result, Ok, E
 use Rattle.std.specs.Io.KnownBytes.{Appends}
 use Rattle.schema_toml.specs.declared.fault.ConfigFault.{ConfigFault}
 use Rattle.cmd_base.specs.declared.status.Status.{Status}
-use Rattle.cmd_base.specs.declared.status.Status.TheVariants.{Done, Words, Config, InputFault, OutputFault, JournalFault, JournalBad, DialFault, Unfinished, Rejected, Full, Turns, Message, Memory}
+use Rattle.cmd_base.specs.declared.status.Status.TheVariants.{Done, Words, Config, InputFault, OutputFault, JournalFault, JournalBad, DialFault, Unfinished, Rejected, Full, Turns, Message, Memory, InputEnded}
 use Rattle.fixp_shake.specs.declared.config.EndConfig.{EndConfig}
 use Rattle.cmd_answer.specs.Answer.{Answer, IsAnswer, acceptor_of}
 use Rattle.cmd_base.specs.Contents.{Content}
@@ -32,6 +32,7 @@ check_completes text plan before after old new (Unfinished phase) same judged ga
 check_completes text plan before after old new (Rejected template code) same judged gave cause none = absurd judged
 check_completes text plan before after old new (Full entries bytes) same judged gave cause none = absurd judged
 check_completes text plan before after old new Turns same judged gave cause none = absurd judged
+check_completes text plan before after old new InputEnded same judged gave cause none = absurd judged
 check_completes text plan before after old new (Config fault) same judged gave cause none = absurd (no_fault _ plan fault same judged)
 check_completes text plan before after old new (Message bad) same judged gave cause none = absurd (rw same at gave)
 check_completes text plan before after old new InputFault same judged gave (inl rose) none = absurd (none.config rose)
@@ -60,6 +61,7 @@ answer_completes text input settings answer before after old new (Unfinished pha
 answer_completes text input settings answer before after old new (Rejected template code) same is judged gave cause none = absurd judged
 answer_completes text input settings answer before after old new (Full entries bytes) same is judged gave cause none = absurd judged
 answer_completes text input settings answer before after old new Turns same is judged gave cause none = absurd judged
+answer_completes text input settings answer before after old new InputEnded same is judged gave cause none = absurd judged
 answer_completes text input settings answer before after old new (Config fault) same is judged gave cause none = absurd (no_fault _ settings fault same judged)
 answer_completes text input settings answer before after old new InputFault same is judged gave (inl rose) none = absurd (none.config rose)
 answer_completes text input settings answer before after old new InputFault same is judged gave (inr rose) none = absurd (none.input rose)
@@ -78,6 +80,7 @@ decode_completes text input shown plan before after old new (Unfinished phase) s
 decode_completes text input shown plan before after old new (Rejected template code) same judged gave cause none = absurd judged
 decode_completes text input shown plan before after old new (Full entries bytes) same judged gave cause none = absurd judged
 decode_completes text input shown plan before after old new Turns same judged gave cause none = absurd judged
+decode_completes text input shown plan before after old new InputEnded same judged gave cause none = absurd judged
 decode_completes text input shown plan before after old new (Config fault) same judged gave cause none = absurd (no_fault _ plan fault same judged)
 decode_completes text input shown plan before after old new InputFault same judged gave (inl rose) none = absurd (none.config rose)
 decode_completes text input shown plan before after old new InputFault same judged gave (inr rose) none = absurd (none.input rose)
@@ -112,6 +115,7 @@ encode_completes text input plan messages before after old new (Unfinished phase
 encode_completes text input plan messages before after old new (Rejected template code) same is short judged gave cause none = absurd judged
 encode_completes text input plan messages before after old new (Full entries bytes) same is short judged gave cause none = absurd judged
 encode_completes text input plan messages before after old new Turns same is short judged gave cause none = absurd judged
+encode_completes text input plan messages before after old new InputEnded same is short judged gave cause none = absurd judged
 encode_completes text input plan messages before after old new (Config fault) same is short judged gave cause none = absurd (no_fault _ plan fault same judged)
 encode_completes text input plan messages before after old new InputFault same is short judged gave (inl rose) none = absurd (none.config rose)
 encode_completes text input plan messages before after old new InputFault same is short judged gave (inr rose) none = absurd (none.input rose)

@@ -2,7 +2,7 @@
 use Rattle.std.specs.Prelude.{ℕ, List, [], ◌∷◌, ◌++◌, codes, decimal}
 use Rattle.plan_feed.specs.Wrongs.{wrong_words}
 use Rattle.conn_accepted.specs.declared.why.Why.{Why}
-use Rattle.conn_accepted.specs.declared.why.Why.TheVariants.{Wrong, TooLong, Full, Closed, Failed, Memory}
+use Rattle.conn_accepted.specs.declared.why.Why.TheVariants.{Wrong, TooLong, Cut, Differs, Gap, Full, Closed, Failed, Memory}
 
 -- a sender has so many messages in the outbox
 abbrev pub has_line : ℕ → ℕ → List ℕ
@@ -12,10 +12,17 @@ has_line sender count = codes "sender " ++ decimal sender ++ codes " has " ++ de
 abbrev pub accepted_line : ℕ → ℕ → ℕ → List ℕ
 accepted_line number sender count = codes "accepted " ++ decimal number ++ codes " sender " ++ decimal sender ++ codes " " ++ decimal count ++ 10 ∷ []
 
+-- the mark that nothing more comes is stable: it stands behind all messages in the outbox
+abbrev pub finished_line : List ℕ
+finished_line = codes "finished\n"
+
 -- why a line of INPUT was not sent, where there are so many senders, in words
 abbrev pub why_words : ℕ → Why → List ℕ
 why_words senders (Wrong wrong) = wrong_words senders wrong
 why_words senders TooLong = codes "too long"
+why_words senders Cut = codes "cut"
+why_words senders Differs = codes "differs"
+why_words senders Gap = codes "gap"
 why_words senders Full = codes "full"
 why_words senders Closed = codes "finished"
 why_words senders Failed = codes "failed"

@@ -5,5 +5,5 @@
 mod lines;
 mod why;
 
-pub use lines::{push_accepted_line, push_has_line, push_refused_line};
+pub use lines::{push_accepted_line, push_finished_line, push_has_line, push_refused_line};
 pub use why::Why;

@@ -1,7 +1,7 @@
 //! Each line of ACCEPTED.
 
 ghost use Rattle.std.specs.Prelude.{◌≡◌, ◌++◌, OnOk};
-ghost use Rattle.conn_accepted.specs.Lines.{accepted_line, has_line, refused_line, why_words};
+ghost use Rattle.conn_accepted.specs.Lines.{accepted_line, finished_line, has_line, refused_line, why_words};
 
 use crate::why::Why;
 use plan_feed::push_wrong;
@@ -38,6 +38,16 @@ pub fn push_accepted_line(
     lines.extend_from_slice(b"\n")
 }
 
+/// Adds the line of the mark that nothing more comes, which stands behind all messages of the outbox.
+///
+/// # Errors
+/// Want of memory.
+pub fn push_finished_line(lines: &mut Vec<u8>) -> Result<(), AllocError>
+    ensures added { OnOk result (lines.new.items ≡ lines.old.items ++ finished_line) }
+{
+    lines.extend_from_slice(b"finished\n")
+}
+
 /// Adds why a line was not sent, in words.
 fn push_why(lines: &mut Vec<u8>, senders: u16, why: Why) -> Result<(), AllocError>
     ensures { OnOk result (lines.new.items ≡ lines.old.items ++ why_words senders why) }
@@ -45,6 +55,9 @@ fn push_why(lines: &mut Vec<u8>, senders: u16, why: Why) -> Result<(), AllocErro
     match why {
         Why::Wrong(wrong) => push_wrong(lines, senders, wrong),
         Why::TooLong => lines.extend_from_slice(b"too long"),
+        Why::Cut => lines.extend_from_slice(b"cut"),
+        Why::Differs => lines.extend_from_slice(b"differs"),
+        Why::Gap => lines.extend_from_slice(b"gap"),
         Why::Full => lines.extend_from_slice(b"full"),
         Why::Closed => lines.extend_from_slice(b"finished"),
         Why::Failed => lines.extend_from_slice(b"failed"),

@@ -9,9 +9,15 @@ pub enum Why {
     Wrong(Wrong),
     /// It is longer than any line that gives one.
     TooLong,
+    /// Its writer went before its line feed.
+    Cut,
+    /// The sender has another message of the number that it names.
+    Differs,
+    /// The sender has no message of the number before the one that it names.
+    Gap,
     /// The outbox is at a limit.
     Full,
-    /// The outbox is finished.
+    /// The outbox is finished, or nothing more was to come.
     Closed,
     /// A call of the outbox's disk failed.
     Failed,

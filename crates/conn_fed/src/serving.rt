@@ -10,7 +10,7 @@ ghost use Rattle.conn_serve.specs.Lives.{IsIdle, MayOpen, MayLive, GoesOn, Comes
 ghost use Rattle.conn_serve.specs.Opening.{opened_state};
 ghost use Rattle.conn_feed.specs.declared.end.FeedEnd.TheVariants as ends;
 ghost use Rattle.conn_feed.specs.Fed.{AtSeats};
-ghost use Rattle.conn_feed.specs.Course.{point_of};
+ghost use Rattle.conn_feed.specs.Course.{IsFresh, point_of};
 ghost use Rattle.conn_fed.specs.Fed.{FedBy};
 
 use crate::feeding::feed_all;
@@ -18,8 +18,9 @@ use conn_door::{Entrance, LifeEnd, ServeFault, Signals};
 use conn_feed::{FeedEnd, Feeder};
 use conn_serve::{Lent, Life, Opening, beside, serve_then_shut};
 use gate_senders::Gate;
+use gw_fed::Feed;
 use gw_links::{Clock, Dialer};
-use gw_outside::{Sink, Source};
+use gw_outside::Sink;
 use jr_dated::Journal;
 use std::sync::Wait;
 use std::sync::atomic::{AtomicBool, Ordering};
@@ -32,8 +33,6 @@ pub struct Fed {
     pub connections: Result<LifeEnd, ServeFault>,
     /// Why the feeding ended.
     pub end: FeedEnd,
-    /// The refusal of the mark behind all lines, if one was met other than that it stands already.
-    pub refused: Option<ServeFault>,
 }
 
 /// Serves the connections, and then has the feeding stop.
@@ -69,7 +68,7 @@ fn serve_beside<
     I: Journal,
     C: Clock,
     A: Sink + Send,
-    S: Source + Send,
+    S: Feed + Send,
     R: Threads + Wait + Sync,
 >(
     life: &mut Life<K, N, O, I, C>,
@@ -82,37 +81,35 @@ fn serve_beside<
 ) -> Fed
     requires may { MayLive (hears K.Sink N.Dialer N.Link.Link C.Clock) gate.now life.old }
     requires seats { AtSeats gate.now feeder.old.senders.items }
+    requires fresh { IsFresh feeder.old }
     ensures idle { IsIdle (hears K.Sink N.Dialer N.Link.Link C.Clock) gate.now life.new }
     ensures goes_on { GoesOn (hears K.Sink N.Dialer N.Link.Link C.Clock) life.old life.new }
     ensures served { ServedIn O.tells (hears K.Sink N.Dialer N.Link.Link C.Clock) life.old life.new result.connections }
     ensures seats { AtSeats gate.now feeder.new.senders.items × (length feeder.new.senders.items ≡ length feeder.old.senders.items) }
-    ensures fed { FedBy (point_of A.taken feeder.old) (point_of A.taken feeder.new) (S.left input.old) (S.left input.new) result.end result.refused }
+    ensures fed { FedBy O.tells feeder.old.closed (point_of A.taken feeder.old) (point_of A.taken feeder.new) (S.left input.old) (S.left input.new) result.end }
     ensures accepted { result.end ≡ ends.Accepted → HasRisen (A.faults feeder.old.accepted) (A.faults feeder.new.accepted) }
     ensures input { result.end ≡ ends.Input → HasRisen (S.faults input.old) (S.faults input.new) }
     ensures counted { (A.faults feeder.old.accepted ≤ A.faults feeder.new.accepted) × (S.faults input.old ≤ S.faults input.new) }
 {
     let entrance = Entrance::new(signals, life.waker());
-    let ((end, refused), connections) = beside(
+    let (end, connections) = beside(
         rt,
-        &mut || -> (FeedEnd, Option<ServeFault>)
-            requires { AtSeats gate.now feeder.now.senders.items }
+        &mut || -> FeedEnd
+            requires { AtSeats gate.now feeder.now.senders.items × IsFresh feeder.now }
         { feed_all(gate, feeder, input, &entrance, over, rt) },
         life,
         &mut |life: &mut Life<K, N, O, I, C>| -> Result<LifeEnd, ServeFault>
             requires { MayLive (hears K.Sink N.Dialer N.Link.Link C.Clock) gate.now life.old }
         { serve_to_end(life, gate, signals, over, rt) },
     );
-    Fed {
-        connections,
-        end,
-        refused,
-    }
+    Fed { connections, end }
 }
 
 /// Serves one life that is fed: the connections of the dialer, one after another, and beside them the lines of INPUT, each of which is submitted for
-/// its sender behind all that the outbox has of it. ACCEPTED is told first how many messages each sender has, and then what came of each line; once
-/// INPUT is at its end, the mark is added. The connections end as those of `serve` do, and where lines or the mark were refused for another reason
-/// than that the outbox is closed, or INPUT or ACCEPTED failed, before the turn or the connection that would follow. Behind the connections `over` is
+/// its sender behind all that the outbox has of it, or compared with what the outbox has. ACCEPTED is told first how many messages each sender has, and then
+/// what came of each line; by the line `finish` the mark is added. The connections end as those of `serve` do, and where INPUT ended without that
+/// line, lines or the mark were refused for another reason than that the outbox is closed, or INPUT or ACCEPTED failed, before the turn or the
+/// connection that would follow. Behind the connections `over` is
 /// set: the feeding ends then, behind the read of INPUT that is under way, whether or not INPUT is at its end.
 pub fn serve_feeding<
     K: Sink,
@@ -121,7 +118,7 @@ pub fn serve_feeding<
     I: Journal,
     C: Clock,
     A: Sink + Send,
-    S: Source + Send,
+    S: Feed + Send,
     R: Threads + Wait + Sync,
 >(
     life: &mut Life<K, N, O, I, C>,
@@ -133,11 +130,12 @@ pub fn serve_feeding<
 ) -> Fed
     requires may { MayLive (hears K.Sink N.Dialer N.Link.Link C.Clock) gate.now life.old }
     requires seats { AtSeats gate.now feeder.old.senders.items }
+    requires fresh { IsFresh feeder.old }
     ensures idle { IsIdle (hears K.Sink N.Dialer N.Link.Link C.Clock) gate.now life.new }
     ensures goes_on { GoesOn (hears K.Sink N.Dialer N.Link.Link C.Clock) life.old life.new }
     ensures served { ServedIn O.tells (hears K.Sink N.Dialer N.Link.Link C.Clock) life.old life.new result.connections }
     ensures seats { AtSeats gate.now feeder.new.senders.items × (length feeder.new.senders.items ≡ length feeder.old.senders.items) }
-    ensures fed { FedBy (point_of A.taken feeder.old) (point_of A.taken feeder.new) (S.left input.old) (S.left input.new) result.end result.refused }
+    ensures fed { FedBy O.tells feeder.old.closed (point_of A.taken feeder.old) (point_of A.taken feeder.new) (S.left input.old) (S.left input.new) result.end }
     ensures accepted { result.end ≡ ends.Accepted → HasRisen (A.faults feeder.old.accepted) (A.faults feeder.new.accepted) }
     ensures input { result.end ≡ ends.Input → HasRisen (S.faults input.old) (S.faults input.new) }
     ensures counted { (A.faults feeder.old.accepted ≤ A.faults feeder.new.accepted) × (S.faults input.old ≤ S.faults input.new) }
@@ -155,7 +153,7 @@ pub fn feed_lent<
     I: Journal,
     C: Clock,
     A: Sink + Send,
-    S: Source + Send,
+    S: Feed + Send,
     R: Threads + Wait + Sync,
 >(
     opening: Opening<'_, O>,
@@ -167,11 +165,12 @@ pub fn feed_lent<
 ) -> (Fed, Lent<K, N, O, I, C>)
     requires may { MayOpen (hears K.Sink N.Dialer N.Link.Link C.Clock) opening.gate.now opening.config opening.most lent }
     requires seats { AtSeats opening.gate.now feeder.old.senders.items }
+    requires fresh { IsFresh feeder.old }
     ensures comes_back { ComesBack (hears K.Sink N.Dialer N.Link.Link C.Clock) opening.entry.gate.now lent result.1 }
     ensures kind { SameKind lent.inbox result.1.inbox }
     ensures seats { AtSeats opening.entry.gate.now feeder.new.senders.items × (length feeder.new.senders.items ≡ length feeder.old.senders.items) }
     ensures served { ServedWith O.tells (hears K.Sink N.Dialer N.Link.Link C.Clock) lent result.1 (fresh opening.entry.config (opened_state (opening_of opening.entry.gate.now).history lent.inbox) opening.entry.most) result.0.connections }
-    ensures fed { FedBy (point_of A.taken feeder.old) (point_of A.taken feeder.new) (S.left input.old) (S.left input.new) result.0.end result.0.refused }
+    ensures fed { FedBy O.tells feeder.old.closed (point_of A.taken feeder.old) (point_of A.taken feeder.new) (S.left input.old) (S.left input.new) result.0.end }
     ensures accepted { result.0.end ≡ ends.Accepted → HasRisen (A.faults feeder.old.accepted) (A.faults feeder.new.accepted) }
     ensures input { result.0.end ≡ ends.Input → HasRisen (S.faults input.old) (S.faults input.new) }
     ensures counted { (A.faults feeder.old.accepted ≤ A.faults feeder.new.accepted) × (S.faults input.old ≤ S.faults input.new) }
@@ -183,7 +182,6 @@ pub fn feed_lent<
             let fed = Fed {
                 connections: Err(ServeFault::Memory),
                 end: FeedEnd::Memory,
-                refused: None,
             };
             return (fed, lent);
         }

@@ -1,5 +1,5 @@
 -- How far a feeding is. These are steps of the proof: nothing that a user relies on needs them.
-use Rattle.std.specs.Prelude.{true, ◌≡◌, ◌≢◌, ◌⊎◌, ℕ, zero, suc, ◌+◌, ◌-◌, ◌^◌, ◌<◌, ◌≤◌, min, All, List, [], ◌∷◌, ◌++◌, length, map, take, slice_index_or, Option, Some, None, Result, Ok, Err}
+use Rattle.std.specs.Prelude.{⊤, Bool, true, false, ◌≡◌, ◌≢◌, ◌⊎◌, ℕ, zero, suc, ◌+◌, ◌-◌, ◌^◌, ◌<◌, ◌≤◌, min, All, List, [], ◌∷◌, ◌++◌, length, map, take, slice_index_or, Option, Some, None, Result, Ok, Err}
 use Rattle.std.specs.Io.KnownBytes.{Appends, Consumes}
 use Rattle.gw_outside.specs.Faults.{TakesFront}
 use Rattle.session_model.specs.Journal.{Entry}
@@ -15,16 +15,23 @@ use Rattle.gate_senders.specs.declared.submission.Submission.{Submission}
 use Rattle.gate_senders.specs.Shown.{TakesTurn, SubmittedAll, IsFullBehind, LosesAll, entries_after}
 use Rattle.gate_staff.specs.declared.sender.Sender.{Sender}
 use Rattle.gw_lines.specs.Reading.{Reading, HasGiven}
-use Rattle.plan_text.specs.Plans.{AreGiven}
 use Rattle.plan_feed.specs.Pieces.{Messages}
 use Rattle.conn_accepted.specs.declared.why.Why.{Why}
-use Rattle.conn_accepted.specs.Lines.{accepted_line, refused_line}
+use Rattle.conn_accepted.specs.declared.why.Why.TheVariants as whys
+use Rattle.conn_accepted.specs.Lines.{accepted_line, finished_line, refused_line}
+use Rattle.conn_door.specs.declared.answer.ServeFault.{ServeFault}
+use Rattle.conn_door.specs.declared.answer.ServeFault.TheVariants as serve
+use Rattle.gw_lines.specs.Lines.{longest, with_feeds}
+use Rattle.plan_feed.specs.Lines.{finish_line}
+use Rattle.plan_feed.specs.Wrongs.{IsWrong}
 use Rattle.conn_feed.specs.declared.end.FeedEnd.{FeedEnd}
 use Rattle.conn_feed.specs.declared.end.FeedEnd.TheVariants as ends
 use Rattle.conn_feed.specs.declared.feeder.Feeder.{Feeder}
-use Rattle.conn_feed.specs.Words.{Word, accepted, alike, words_text, CameOfEach, IsClear}
-use Rattle.conn_feed.specs.Fed.{AtSeats, parts_of, part_at, gifts_to, Fed}
-use Rattle.conn_feed.specs.Ends.{Point, Answered, why_of}
+use Rattle.conn_again.specs.Reviews.{Reviewed, Follows}
+use Rattle.conn_feed.specs.Rows.{Row, whole, cut, AreRows}
+use Rattle.conn_feed.specs.Words.{Word, accepted, is_over, alike, words_text, CameOfEach, IsClear, IsWhy}
+use Rattle.conn_feed.specs.Fed.{AtSeats, parts_of, part_at, mine_of, AskEach, Fed}
+use Rattle.conn_feed.specs.Ends.{Point, Answered, IsMarked, IsClosed, IsRefusedClosed, why_of, end_of}
 
 -- what the gate answers of these payloads to a pass that knew p and knows q
 pub record Submits (p q : Part) (ps : List (List ℕ)) (r : Submission) : Type 0 where
@@ -51,10 +58,17 @@ module _ {J : Type 0} {G : Ghosts J} where
     pub others : (i : ℕ) (d : Sender J G) → i ≢ piece.sender - 1 → slice_index_or after i d ≡ slice_index_or before i d
 
 module _ {J K : Type 0} {G : Ghosts J} where
-  -- the senders sit at their seats, and the piece is of one of them
+  -- the reviews are those of the senders: each follows its sender's pass
+  pub record AreReviews (f : Feeder J K G) : Type 0 where
+    pub many : length f.reviews.items ≡ length f.senders.items
+    pub each : (s : ℕ) (r : Reviewed) → In (length f.senders.items) s → Follows G.tells (slice_index_or f.reviews.items (s - 1) r) (part_at (parts_of f.senders.items) s)
+
+  -- the senders sit at their seats, and the piece is of one of them; once a line said that nothing more comes, no message waits
   pub record IsSound (gate : Gate J G) (f : Feeder J K G) : Type 0 where
     pub seats : AtSeats gate f.senders.items
     pub sender : f.piece.payloads ≢ [] → In (length f.senders.items) f.piece.sender
+    pub reviews : AreReviews f
+    pub waits_not : f.over ≡ true → f.piece.payloads ≡ []
 
   -- what it moves
   abbrev pub point_of : (K → Option (List ℕ)) → Feeder J K G → Point
@@ -100,24 +114,31 @@ behind (Err e) end = Err e
 abbrev pub ended_by : Option SubmitFault → Result (Unit {0}) FeedEnd → Result (Unit {0}) FeedEnd
 ended_by None told = told
 ended_by (Some submit.Broken) told = Err ends.Journal
-ended_by (Some submit.Closed) told = behind told ends.Closed
+ended_by (Some submit.Closed) told = told
 ended_by (Some (submit.Full entries bytes)) told = behind told (ends.Full entries bytes)
 ended_by (Some submit.Memory) told = behind told ends.Memory
 ended_by (Some submit.Fault) told = Err ends.Journal
 
--- the first of some lines are answered, and the others give the messages of the piece
-pub record Stands (senders : ℕ) (start now : Point) (piece : Messages) (number : ℕ) (lines : List (List ℕ)) : Type 0 where
-  pub first : List (List ℕ)
-  pub held : List (List ℕ)
-  pub split : lines ≡ first ++ held
+-- The first of some lines are answered, and the others ask for the messages of the piece, the next ones of its sender. Where a line said that nothing more comes,
+-- the mark stands, and no message waits
+pub record Stands (tells : Type 0) (stood : Bool) (senders : ℕ) (start now : Point) (piece : Messages) (number : ℕ) (closed over : Bool) (rows : List Row) : Type 0 where
+  pub first : List Row
+  pub held : List Row
+  pub split : rows ≡ first ++ held
   pub words : List Word
-  pub came : CameOfEach senders first words
+  pub came : CameOfEach tells senders (mine_of start.parts) [] first words
   pub clear : All IsClear words
-  pub fed : Fed start.parts now.parts words
+  pub before_mark : List Part
+  pub fed : Fed tells start.parts before_mark words
+  pub marked : IsMarked before_mark now.parts words None
   pub told : Appends start.taken now.taken (words_text senders 1 words)
-  pub unlost : (s : ℕ) → In senders s → (part_at now.parts s).lost ≡ (part_at start.parts s).lost
-  pub given : AreGiven senders held (gifts_to piece.sender piece.payloads)
+  pub unlost : (s : ℕ) → In senders s → (part_at before_mark s).lost ≡ (part_at start.parts s).lost
+  pub asked : AskEach senders held piece.sender (length (part_at before_mark piece.sender).mine) piece.payloads
   pub numbered : 0 < length held → number ≡ min (length first + 1) (2 ^ 64 - 1)
+  pub over_is : over ≡ is_over words
+  pub waits_not : over ≡ true → held ≡ []
+  pub shut : closed ≡ true → IsClosed stood start.parts now.parts
+  pub refused : IsRefusedClosed words → IsClosed stood start.parts now.parts
 
 -- ACCEPTED took all of a text, or a front of it where it failed or memory ran out
 abbrev pub Told : (old new : Option (List ℕ)) → List ℕ → Result (Unit {0}) FeedEnd → Type 0
@@ -125,8 +146,8 @@ Told old new text (Ok _) = Appends old new text
 Told old new text (Err end) = TakesFront old new text × ((end ≡ ends.Accepted) ⊎ (end ≡ ends.Memory))
 
 -- a line of this number follows some lines
-abbrev pub Follows : ℕ → List (List ℕ) → Type 0
-Follows number lines = number ≡ min (length lines + 1) (2 ^ 64 - 1)
+abbrev pub Follows : ℕ → List Row → Type 0
+Follows number rows = number ≡ min (length rows + 1) (2 ^ 64 - 1)
 
 module _ {J K : Type 0} {G : Ghosts J} where
   -- how many senders there are
@@ -134,42 +155,80 @@ module _ {J K : Type 0} {G : Ghosts J} where
   count_of f = length f.senders.items
 
   -- it stands so with some lines, since a feeding began that moved these passes
-  pub record StandsSo (taken : K → Option (List ℕ)) (start : Point) (f : Feeder J K G) (lines : List (List ℕ)) : Type 0 where
+  pub record StandsSo (taken : K → Option (List ℕ)) (stood : Bool) (start : Point) (f : Feeder J K G) (rows : List Row) : Type 0 where
     pub many : length start.parts ≡ count_of f
-    pub stands : Stands (count_of f) start (point_of taken f) f.piece f.number lines
+    pub stands : Stands G.tells stood (count_of f) start (point_of taken f) f.piece f.number f.closed f.over rows
 
   -- a feeding ended so with some lines
-  abbrev pub EndedSo : (K → Option (List ℕ)) → Point → Feeder J K G → List (List ℕ) → FeedEnd → Type 0
-  EndedSo taken start f lines end = Answered (length start.parts) start (point_of taken f) lines end
+  abbrev pub EndedSo : (K → Option (List ℕ)) → Point → Feeder J K G → List Row → FeedEnd → Type 0
+  EndedSo taken start f rows end = Answered G.tells (length start.parts) start (point_of taken f) rows end
 
   -- it goes on with the same lines
   abbrev pub GoesOn : (K → Option (List ℕ)) → (f g : Feeder J K G) → Type 0
-  GoesOn taken f g = (start : Point) (lines : List (List ℕ)) → StandsSo taken start f lines → StandsSo taken start g lines
+  GoesOn taken f g = (stood : Bool) (start : Point) (rows : List Row) → StandsSo taken stood start f rows → StandsSo taken stood start g rows
 
   -- or it ends so
   abbrev pub EndsSo : (K → Option (List ℕ)) → (f g : Feeder J K G) → FeedEnd → Type 0
-  EndsSo taken f g end = (start : Point) (lines : List (List ℕ)) → StandsSo taken start f lines → EndedSo taken start g lines end
+  EndsSo taken f g end = (stood : Bool) (start : Point) (rows : List Row) → StandsSo taken stood start f rows → EndedSo taken start g rows end
 
   -- it goes on with a line of this number more
-  abbrev pub GoesOnAt : (K → Option (List ℕ)) → ℕ → (f g : Feeder J K G) → List ℕ → Type 0
-  GoesOnAt taken number f g line = (start : Point) (lines : List (List ℕ)) → Follows number lines → StandsSo taken start f lines → StandsSo taken start g (lines ++ line ∷ [])
+  abbrev pub GoesOnAt : (K → Option (List ℕ)) → ℕ → (f g : Feeder J K G) → Row → Type 0
+  GoesOnAt taken number f g row = (stood : Bool) (start : Point) (rows : List Row) → Follows number rows → StandsSo taken stood start f rows → StandsSo taken stood start g (rows ++ row ∷ [])
 
   -- or it ends so
-  abbrev pub EndsAt : (K → Option (List ℕ)) → ℕ → (f g : Feeder J K G) → List ℕ → FeedEnd → Type 0
-  EndsAt taken number f g line end = (start : Point) (lines : List (List ℕ)) → Follows number lines → StandsSo taken start f lines → EndedSo taken start g (lines ++ line ∷ []) end
+  abbrev pub EndsAt : (K → Option (List ℕ)) → ℕ → (f g : Feeder J K G) → Row → FeedEnd → Type 0
+  EndsAt taken number f g row end = (stood : Bool) (start : Point) (rows : List Row) → Follows number rows → StandsSo taken stood start f rows → EndedSo taken start g (rows ++ row ∷ []) end
 
--- all lines that a reader gave, as they read
-abbrev pub said : List (List ℕ) → List (List ℕ)
-said lines = map unreturned lines
+-- what a line was refused for that is wrong with it alone
+abbrev pub IsWrongRow : (senders : ℕ) → Row → Why → Type 0
+IsWrongRow senders (whole line) (whys.Wrong wrong) = (line ≡ finish_line → ⊥) × IsWrong senders line wrong
+IsWrongRow senders (whole line) whys.TooLong = longest ≤ length line
+IsWrongRow senders (cut line) whys.Cut = ⊤
+IsWrongRow senders _ _ = ⊥
 
--- a reader gave some lines, and this is so of them
-pub record Reads (read : List ℕ) (reader : Reading) (IsSo : List (List ℕ) → Type 0) : Type 0 where
+-- the line of what came of the line of this number that said that nothing more comes
+abbrev pub mark_line : (senders line : ℕ) → Option ServeFault → List ℕ
+mark_line senders line None = finished_line
+mark_line senders line (Some serve.Journal) = refused_line senders line whys.Failed
+mark_line senders line (Some _) = refused_line senders line whys.Memory
+
+module _ {J K : Type 0} {G : Ghosts J} where
+  -- no line said that nothing more comes
+  abbrev pub IsOpen : Feeder J K G → Type 0
+  IsOpen f = f.over ≡ false
+
+  -- it has not fed, and looked for no message
+  pub record IsFresh (f : Feeder J K G) : Type 0 where
+    pub unsaid : IsOpen f
+    pub reviews : AreReviews f
+
+  -- what each sender has, where no message waits
+  abbrev pub has_now : Feeder J K G → ℕ → List Entry
+  has_now f = mine_of (parts_of f.senders.items)
+
+  -- a line may be refused so: behind one that said that nothing more comes; or for what is so of it, and as finished only where the outbox is
+  abbrev pub MayRefuse : (tells : Type 0) → Feeder J K G → Row → Why → Type 0
+  MayRefuse tells f row why = ((f.over ≡ true) × (why ≡ whys.Closed))
+      ⊎ ((f.over ≡ false) × IsWhy tells (count_of f) (has_now f) row why × (why ≡ whys.Closed → f.closed ≡ true))
+
+  -- a line asks for this message of a sender: as its next one, or by the number that it has behind those that wait
+  abbrev pub AsksBehind : Feeder J K G → Row → (sender : ℕ) → List ℕ → Type 0
+  AsksBehind f row sender payload =
+      AskEach (count_of f) (row ∷ []) sender (length (has_now f sender)) (payload ∷ [])
+
+-- Writers that went wrote these lines, and of the one that is there a reader gave some: so it is of all of them. The reader goes on behind what was cut as behind
+-- a line feed, and counts each line
+pub record Reads (gone : List (List ℕ)) (here : List ℕ) (reader : Reading) (IsSo : List Row → Type 0) : Type 0 where
+  pub rows : List Row
+  pub before : AreRows gone [] rows
+  pub lines : List (List ℕ)
+  pub many : length lines ≡ length rows
   pub raw : List (List ℕ)
-  pub given : HasGiven read raw reader
-  pub is : IsSo (said raw)
+  pub given : HasGiven (with_feeds lines here) (lines ++ raw) reader
+  pub is : IsSo (rows ++ map (λ line. whole (unreturned line)) raw)
 
--- a source gave more meanwhile
-pub record ReadsOn (left_before left_behind : Option (List ℕ)) (read : List ℕ) (reader : Reading) (IsSo : List (List ℕ) → Type 0) : Type 0 where
+-- a source gave more meanwhile, of the writer that is there
+pub record ReadsOn (left_before left_behind : Option (List ℕ)) (gone : List (List ℕ)) (here : List ℕ) (reader : Reading) (IsSo : List Row → Type 0) : Type 0 where
   pub more : List ℕ
   pub consumed : Consumes left_before left_behind more
-  pub reads : Reads (read ++ more) reader IsSo
+  pub reads : Reads gone (here ++ more) reader IsSo

@@ -1,5 +1,5 @@
 -- What the passes of the senders know once lines were fed (this project's profile).
-use Rattle.std.specs.Prelude.{⊤, ◌≡◌, ◌≢◌, true, ℕ, zero, suc, ◌+◌, ◌-◌, ◌≤◌, All, List, ◌∷◌, ◌++◌, length, map, slice_get, slice_index_or, Some}
+use Rattle.std.specs.Prelude.{⊤, ◌≡◌, ◌≢◌, ◌⊎◌, true, ℕ, zero, suc, ◌+◌, ◌-◌, ◌≤◌, All, List, [], ◌∷◌, ◌++◌, length, map, slice_get, slice_index_or, None, Some}
 use Rattle.session_model.specs.Journal.{Entry, payloads, entries_of}
 use Rattle.jr_dated.specs.declared.journal.Journal.{Ghosts}
 use Rattle.gate_turn.specs.Views.{Part, new_part, nothing}
@@ -12,8 +12,9 @@ use Rattle.gate_staff.specs.Sent.{GoesOn}
 pub use Rattle.gate_staff.specs.Runs.{IsCounted}
 use Rattle.gate_staff.specs.Seats.{Seated}
 use Rattle.gate_staff.specs.declared.sender.Sender.{Sender}
-use Rattle.plan_text.specs.Plans.{Gift, AreGiven}
-use Rattle.conn_feed.specs.Words.{Word, accepted, refused, entries_in}
+use Rattle.plan_text.specs.Plans.{Gift}
+use Rattle.conn_feed.specs.Rows.{Row}
+use Rattle.conn_feed.specs.Words.{Word, accepted, again, finishes, refused, entries_in, Asks}
 
 module _ {J : Type 0} {G : Ghosts J} where
   -- the senders have the passes of the numbers from 1 on, in order, and count their entries
@@ -45,40 +46,51 @@ pub record Made (p q : Part) (es : List Entry) : Type 0 where
   pub mine : q.mine ≡ p.mine ++ es
   pub counted : es ≡ entries_after p (payloads es)
 
--- an entry that was accepted has its number in what the pass of its sender has seen
-abbrev pub StandsIn : List Part → Word → Type 0
-StandsIn now (accepted n e) = (1 ≤ n) × (slice_get (part_at now e.sender).seen.made (n - 1) ≡ Some e)
-StandsIn now (refused why) = ⊤
+-- what each sender has at first, as its pass knows it
+abbrev pub mine_of : List Part → ℕ → List Entry
+mine_of parts s = (part_at parts s).mine
 
--- each pass made exactly the entries of its sender that were accepted, in order, and they stand at their numbers
-pub record Fed (start now : List Part) (words : List Word) : Type 0 where
+-- An entry whose number was told has it in what the pass of its sender has seen; where it was read again, if the disk tells its content
+abbrev pub StandsIn : (tells : Type 0) → List Part → Word → Type 0
+StandsIn tells now (accepted n e) = (1 ≤ n) × (slice_get (part_at now e.sender).seen.made (n - 1) ≡ Some e)
+StandsIn tells now (again n e) = (1 ≤ n) × (tells → slice_get (part_at now e.sender).seen.made (n - 1) ≡ Some e)
+StandsIn tells now (finishes refusal) = ⊤
+StandsIn tells now (refused why) = ⊤
+
+-- each pass made exactly the entries of its sender that were accepted, in order, and all that were told stand at their numbers
+pub record Fed (tells : Type 0) (start now : List Part) (words : List Word) : Type 0 where
   pub long : length now ≡ length start
   pub each : (s : ℕ) → In (length start) s → Made (part_at start s) (part_at now s) (entries_of (entries_in words) s)
-  pub stand : All (StandsIn now) words
+  pub stand : All (StandsIn tells now) words
 
--- payloads that lines give to one sender
-abbrev pub gifts_to : ℕ → List (List ℕ) → List Gift
-gifts_to sender payloads = map (λ payload. record { sender = sender; payload = payload }) payloads
+-- lines ask for the messages of one sender with these payloads, behind so many that it has
+abbrev pub AskEach : (senders : ℕ) → List Row → (sender count : ℕ) → List (List ℕ) → Type 0
+AskEach senders [] sender count [] = ⊤
+AskEach senders [] sender count (payload ∷ payloads) = ⊥
+AskEach senders (row ∷ rows) sender count [] = ⊥
+AskEach senders (row ∷ rows) sender count (payload ∷ payloads) =
+    (Asks senders row None (record { sender = sender; payload = payload }) ⊎ Asks senders row (Some (count + 1)) (record { sender = sender; payload = payload }))
+    × AskEach senders rows sender (count + 1) payloads
 
 -- behind a failed call a pass was to add its next entries, of the first of these lines, a piece at most, where no mark stood; and adds nothing any more
-pub record LosesLines (senders : ℕ) (q : Part) (lines : List (List ℕ)) : Type 0 where
+pub record LosesLines (senders : ℕ) (q : Part) (rows : List Row) : Type 0 where
   pub payloads : List (List ℕ)
-  pub given : AreGiven senders lines (gifts_to q.number payloads)
+  pub asked : AskEach senders rows q.number (length q.mine) payloads
   pub few : length payloads ≤ 64
   pub loses : LosesAll q payloads
   pub unmarked : q.seen.finished ≢ true
 
 -- The payload that the first of these lines gives was refused of a pass, where no mark stood: what it has seen has so many entries and takes so many
 -- bytes, and its next entry, of that payload, is past a limit
-pub record FillsLines (senders entries bytes : ℕ) (q : Part) (lines : List (List ℕ)) : Type 0 where
+pub record FillsLines (senders entries bytes : ℕ) (q : Part) (rows : List Row) : Type 0 where
   pub payload : List ℕ
   pub behind : List (List ℕ)
-  pub given : AreGiven senders lines (gifts_to q.number (payload ∷ behind))
+  pub asked : AskEach senders rows q.number (length q.mine) (payload ∷ behind)
   pub full : IsFullAt q.opening.limits q.seen (next_entry q.seen q.number payload) entries bytes
   pub unmarked : q.seen.finished ≢ true
 
 -- so it is of the pass of one of the senders
-pub record OneFills (senders entries bytes : ℕ) (now : List Part) (lines : List (List ℕ)) : Type 0 where
+pub record OneFills (senders entries bytes : ℕ) (now : List Part) (rows : List Row) : Type 0 where
   pub sender : ℕ
   pub there : In senders sender
-  pub fills : FillsLines senders entries bytes (part_at now sender) lines
+  pub fills : FillsLines senders entries bytes (part_at now sender) rows

@@ -1,20 +1,24 @@
 //! Why a feeding ended.
 
 ghost use Rattle.std.specs.Prelude.{◌≡◌, ◌≢◌, IfErr};
-ghost use Rattle.conn_feed.specs.Ends.{end_of, why_of};
+ghost use Rattle.conn_feed.specs.Ends.{end_of, end_of_read, why_of};
+ghost use Rattle.conn_accepted.specs.declared.why.Why.TheVariants as whys;
+ghost use Rattle.conn_door.specs.declared.answer.ServeFault.TheVariants as serve;
 ghost use Rattle.conn_feed.specs.Course.{ended_by};
 ghost use Rattle.conn_feed.specs.declared.end.FeedEnd.TheVariants as ends;
 
 use conn_accepted::Why;
+use conn_door::ServeFault;
 use jr_boxes::SubmitFault;
+use jr_dated::FetchFault;
 
 /// Why a feeding ended.
 #[derive(Clone, Copy)]
 pub enum FeedEnd {
-    /// INPUT is at its end, and each of its lines is answered.
+    /// INPUT is at its end, each of its lines is answered, and one of them said that nothing more comes, or the outbox has the mark that says so.
     Ended,
-    /// The outbox has the mark that nothing more comes.
-    Closed,
+    /// INPUT is at its end, each of its lines is answered, and none of them said that nothing more comes.
+    InputEnded,
     /// It was told to stop.
     Stopped,
     /// INPUT failed.
@@ -23,21 +27,56 @@ pub enum FeedEnd {
     Accepted,
     /// A call of the outbox's disk failed, now or since its opening.
     Journal,
+    /// The disk of the outbox gave another record than was written at this index of its journal, from 0 on.
+    Changed { at: u64 },
     /// The outbox is at a limit for the next message: it has so many messages, and so many bytes.
     Full { entries: u64, bytes: u64 },
     /// There was not enough memory.
     Memory,
 }
 
-/// What ends a feeding where the outbox refused a message.
-pub(crate) fn end_of(fault: SubmitFault) -> FeedEnd
+/// What ends a feeding where the outbox refused a message, if that does: where it is finished, each line more is refused.
+pub(crate) fn end_of(fault: SubmitFault) -> Option<FeedEnd>
     ensures { result ≡ end_of fault }
 {
     match fault {
-        SubmitFault::Broken | SubmitFault::Fault => FeedEnd::Journal,
-        SubmitFault::Closed => FeedEnd::Closed,
-        SubmitFault::Full { entries, bytes } => FeedEnd::Full { entries, bytes },
-        SubmitFault::Memory => FeedEnd::Memory,
+        SubmitFault::Broken | SubmitFault::Fault => Some(FeedEnd::Journal),
+        SubmitFault::Closed => None,
+        SubmitFault::Full { entries, bytes } => Some(FeedEnd::Full { entries, bytes }),
+        SubmitFault::Memory => Some(FeedEnd::Memory),
+    }
+}
+
+/// What ends a feeding where the mark was refused.
+pub(crate) fn end_of_mark(fault: ServeFault) -> FeedEnd
+    ensures journal { fault ≡ serve.Journal → result ≡ ends.Journal }
+    ensures memory { fault ≡ serve.Memory → result ≡ ends.Memory }
+{
+    match fault {
+        ServeFault::Journal => FeedEnd::Journal,
+        _ => FeedEnd::Memory,
+    }
+}
+
+/// What is said of the line `finish` whose mark was refused.
+pub(crate) fn why_of_mark(fault: ServeFault) -> Why
+    ensures journal { fault ≡ serve.Journal → result ≡ whys.Failed }
+    ensures memory { fault ≡ serve.Memory → result ≡ whys.Memory }
+{
+    match fault {
+        ServeFault::Journal => Why::Failed,
+        _ => Why::Memory,
+    }
+}
+
+/// What ends a feeding where a message of the outbox was not read again.
+pub(crate) fn end_of_read(fault: FetchFault) -> FeedEnd
+    ensures { result ≡ end_of_read fault }
+{
+    match fault {
+        FetchFault::Broken | FetchFault::Fault => FeedEnd::Journal,
+        FetchFault::Changed { at } => FeedEnd::Changed { at },
+        FetchFault::Memory => FeedEnd::Memory,
     }
 }
 
@@ -66,9 +105,9 @@ pub(crate) fn ended_by(
     match refused {
         None => told,
         Some(SubmitFault::Broken | SubmitFault::Fault) => Err(FeedEnd::Journal),
-        Some(fault) => match told {
-            Ok(()) => Err(end_of(fault)),
-            Err(end) => Err(end),
+        Some(fault) => match (told, end_of(fault)) {
+            (Ok(()), Some(end)) => Err(end),
+            (told, _) => told,
         },
     }
 }

@@ -1,28 +1,35 @@
 //! The feeder: it holds the senders of a gate, gathers what lines give them into pieces, and tells what came of each line.
 
-ghost use Rattle.std.specs.Prelude.{◌≡◌, ◌≢◌, ◌⊎◌, ℕ, ◌+◌, ◌-◌, ◌<◌, ◌≤◌, ◌^◌, List, [], ◌∷◌, ◌++◌, min, length, slice_index_or, vec_len, IfOk, IfErr, OnOk, OnErr, IsErrOf, All};
+ghost use Rattle.std.specs.Prelude.{◌≡◌, ◌≢◌, ◌⊎◌, true, false, Some, ℕ, ◌+◌, ◌-◌, ◌<◌, ◌≤◌, ◌^◌, List, [], ◌∷◌, ◌++◌, min, length, slice_index_or, vec_len, IfOk, IfErr, OnOk, OnErr, IsErrOf, All};
 ghost use Rattle.std.specs.Io.KnownBytes.{Appends};
 ghost use Rattle.gw_outside.specs.Faults.{HasRisen, TakesFront};
 ghost use Rattle.fixp_msgs.specs.Payload.{IsApplication};
 ghost use Rattle.gate_turn.specs.Rule.{In};
+ghost use Rattle.gate_senders.specs.Gate.{opening_of};
+ghost use Rattle.conn_accepted.specs.Lines.{accepted_line};
 ghost use Rattle.gate_staff.specs.Runs.{CountedEach};
 ghost use Rattle.gate_staff.specs.Seats.{Seated};
 ghost use Rattle.gate_staff.specs.declared.sender.Sender.{Sender};
 ghost use Rattle.gw_lines.specs.Lines.{IsTold};
 ghost use Rattle.plan_feed.specs.Pieces.{Takes};
-ghost use Rattle.plan_text.specs.Plans.{Gives};
-ghost use Rattle.conn_feed.specs.Words.{refused, IsWhy, IsClear};
+ghost use Rattle.plan_feed.specs.Lines.{finish_line, GivesAt};
+ghost use Rattle.conn_again.specs.Reviews.{unread};
+ghost use Rattle.conn_feed.specs.Rows.{Row, whole, cut};
+ghost use Rattle.conn_feed.specs.Words.{refused, IsClear};
 ghost use Rattle.conn_feed.specs.declared.end.FeedEnd.TheVariants as ends;
 
-use crate::end::{FeedEnd, ended_by};
+use crate::end::{FeedEnd, end_of_mark, end_of_read, ended_by, why_of_mark};
 use crate::text::{piece_text, push_counts};
-use conn_accepted::{Why, push_refused_line};
+use conn_accepted::{Why, push_accepted_line, push_finished_line, push_refused_line};
+use conn_again::{Again, Review};
+use conn_door::ServeFault;
 use gate_senders::{Gate, Submission};
 use gate_staff::{Door, Sender, count_done};
 use gw_lines::Found;
 use gw_outside::{Sink, push_all};
+use jr_boxes::SubmitFault;
 use jr_dated::Journal;
-use plan_feed::{Fed, Piece, read_line};
+use plan_feed::{Fed, Piece, Standing, place_among, read_line};
 use sbe_value::Bytes;
 use std::alloc::Global;
 use std::sync::Wait;
@@ -30,12 +37,26 @@ use std::sync::Wait;
 /// The most messages that a sender may have for a piece more to be counted.
 const MOST_OWN: u64 = u64::MAX - 64;
 
+/// A message that a line gives.
+struct Message {
+    sender: u16,
+    /// The number that it has among its sender's, where the line names one.
+    own_number: Option<u64>,
+    payload: Bytes,
+}
+
 /// Feeds lines to senders. It holds the senders, one for each number from 1 on, and ACCEPTED.
 #[derive(Drop)]
 pub struct Feeder<J: Journal, K> {
     alloc: Global,
     pub(crate) senders: Vec<Sender<J>>,
     accepted: K,
+    /// Where each sender's messages that come again are looked for.
+    pub(crate) reviews: Vec<Review>,
+    /// Whether the outbox has the mark that nothing more comes.
+    closed: bool,
+    /// Whether a line of this feeding said so.
+    over: bool,
     /// The messages that wait to be submitted.
     piece: Piece,
     /// The number of the line that gives the first of them.
@@ -52,28 +73,39 @@ fn tell_door<D: Door>(door: &D, count: u64) {
 impl<J: Journal, K: Sink> Feeder<J, K> {
     ghost use Rattle.conn_feed.specs.Words.{counts_text};
     ghost use Rattle.conn_feed.specs.Fed.{AtSeats, IsCounted, parts_of, counts_of};
-    ghost use Rattle.conn_feed.specs.Course.{Went, IsSound, Told, piece_text, count_of, GoesOn, EndsSo, GoesOnAt, EndsAt};
+    ghost use Rattle.conn_feed.specs.Course.{Went, AreReviews, IsSound, IsOpen, IsWrongRow, MayRefuse, AsksBehind, Told, piece_text, mark_line, count_of, GoesOn, EndsSo, GoesOnAt, EndsAt};
 
-    /// A feeder of the senders that were seated at a gate, that tells ACCEPTED. What the outbox has of each is counted as done.
+    /// A feeder of the senders that were seated at a gate, that tells ACCEPTED and looks for messages of each that come again by its review. What the outbox has
+    /// of each is counted as done.
     pub fn new<R: Wait>(
         alloc: Global,
         gate: &Gate<J>,
         mut senders: Vec<Sender<J>>,
         accepted: K,
+        reviews: Vec<Review>,
         rt: &R,
     ) -> Feeder<J, K>
+        requires reviews { vec_len reviews ≡ vec_len senders }
+        requires unread { All (λ r. r ≡ unread) reviews.items }
         requires few { vec_len senders ≤ 16 }
         requires seated { Seated gate.now senders.items (vec_len senders + 1) }
         ensures seats { AtSeats gate.now result.senders.items }
         ensures count { vec_len result.senders ≡ vec_len senders }
         ensures each { CountedEach gate.now senders.items result.senders.items }
         ensures accepted { result.accepted ≡ accepted }
+        ensures closed { result.closed ≡ (opening_of gate.now).history.finished }
+        ensures over { result.over ≡ false }
+        ensures reviews { AreReviews result }
     {
         count_done(gate, &mut senders, rt);
+        let (_count, closed) = gate.opened();
         Feeder {
             alloc,
             senders,
             accepted,
+            reviews,
+            closed,
+            over: false,
             piece: Piece::new(alloc),
             number: 0,
         }
@@ -175,7 +207,7 @@ impl<J: Journal, K: Sink> Feeder<J, K> {
         requires within { submission.count ≤ length self.old.piece.payloads }
         ensures told { Told (K.taken self.old.accepted) (K.taken self.new.accepted)
             (piece_text (length self.old.senders.items) self.old.number own self.old.piece submission) result }
-        ensures unended { IfErr result (λ end. end ≢ ends.Ended) }
+        ensures unended { IfErr result (λ end. (end ≢ ends.Ended) × (end ≢ ends.InputEnded)) }
         ensures own { IfErr result (λ end. end ≢ ends.Input) }
         ensures risen { IsErrOf result ends.Accepted → HasRisen (K.faults self.old.accepted) (K.faults self.new.accepted) }
         ensures counted { K.faults self.old.accepted ≤ K.faults self.new.accepted }
@@ -205,7 +237,7 @@ impl<J: Journal, K: Sink> Feeder<J, K> {
         ensures empty { OnOk result (self.new.piece.payloads ≡ []) }
         ensures goes { OnOk result (GoesOn K.taken self.old self.new) }
         ensures over { IfErr result (EndsSo K.taken self.old self.new) }
-        ensures unended { IfErr result (λ end. end ≢ ends.Ended) }
+        ensures unended { IfErr result (λ end. (end ≢ ends.Ended) × (end ≢ ends.InputEnded)) }
         ensures own { IfErr result (λ end. end ≢ ends.Input) }
         ensures risen { IsErrOf result ends.Accepted → HasRisen (K.faults self.old.accepted) (K.faults self.new.accepted) }
         ensures counted { K.faults self.old.accepted ≤ K.faults self.new.accepted }
@@ -215,6 +247,9 @@ impl<J: Journal, K: Sink> Feeder<J, K> {
             return Err(FeedEnd::Memory);
         }
         let submission = self.submit(own, gate, door, rt);
+        if matches!(submission.refused, Some(SubmitFault::Closed)) {
+            self.closed = true;
+        }
         let told = self.tell_piece(own, submission);
         self.piece.clear(self.alloc);
         ended_by(submission.refused, told)
@@ -233,7 +268,7 @@ impl<J: Journal, K: Sink> Feeder<J, K> {
         ensures empty { OnOk result (self.new.piece.payloads ≡ []) }
         ensures goes { OnOk result (GoesOn K.taken self.old self.new) }
         ensures over { IfErr result (EndsSo K.taken self.old self.new) }
-        ensures unended { IfErr result (λ end. end ≢ ends.Ended) }
+        ensures unended { IfErr result (λ end. (end ≢ ends.Ended) × (end ≢ ends.InputEnded)) }
         ensures own { IfErr result (λ end. end ≢ ends.Input) }
         ensures risen { IsErrOf result ends.Accepted → HasRisen (K.faults self.old.accepted) (K.faults self.new.accepted) }
         ensures counted { K.faults self.old.accepted ≤ K.faults self.new.accepted }
@@ -251,9 +286,10 @@ impl<J: Journal, K: Sink> Feeder<J, K> {
         requires clear { IsClear (refused why) }
         ensures senders { self.new.senders ≡ self.old.senders }
         ensures piece { self.new.piece ≡ self.old.piece }
-        ensures goes { OnOk result ((line : List ℕ) → IsWhy (length self.old.senders.items) line why → GoesOnAt K.taken number self.old self.new line) }
-        ensures over { IfErr result (λ end. (line : List ℕ) → IsWhy (length self.old.senders.items) line why → EndsAt K.taken number self.old self.new line end) }
-        ensures unended { IfErr result (λ end. end ≢ ends.Ended) }
+        ensures flags { (self.new.closed ≡ self.old.closed) × (self.new.over ≡ self.old.over) }
+        ensures goes { OnOk result ((row : Row) → MayRefuse J.tells self.old row why → GoesOnAt K.taken number self.old self.new row) }
+        ensures over { IfErr result (λ end. (row : Row) → MayRefuse J.tells self.old row why → EndsAt K.taken number self.old self.new row end) }
+        ensures unended { IfErr result (λ end. (end ≢ ends.Ended) × (end ≢ ends.InputEnded)) }
         ensures own { IfErr result (λ end. end ≢ ends.Input) }
         ensures risen { IsErrOf result ends.Accepted → HasRisen (K.faults self.old.accepted) (K.faults self.new.accepted) }
         ensures counted { K.faults self.old.accepted ≤ K.faults self.new.accepted }
@@ -266,48 +302,34 @@ impl<J: Journal, K: Sink> Feeder<J, K> {
         self.tell(text.as_slice())
     }
 
-    /// The number that the next message of this sender has among its own.
-    fn next_of(&self, sender: u16) -> u64
+    /// How many messages this sender has, with those that wait.
+    fn count_with_waiting(&self, sender: u16) -> u64
         requires there { In (length self.now.senders.items) sender }
+        ensures waiting { (d : Sender _ _) → self.now.piece.sender ≡ sender
+            → result ≡ min ((slice_index_or self.now.senders.items (sender - 1) d).done + length self.now.piece.payloads) (2 ^ 64 - 1) }
     {
         let waiting = if self.piece.sender() == sender {
             self.piece.payloads().len() as u64
         } else {
             0
         };
-        let done = self.senders[sender as usize - 1].done;
-        done.saturating_add(waiting).saturating_add(1)
+        self.count(sender).saturating_add(waiting)
     }
 
-    /// Submits the piece where a message cannot go with it, and has the door let the message in.
-    fn let_in<D: Door, R: Wait>(
-        &mut self,
-        sender: u16,
-        size: usize,
-        gate: &Gate<J>,
-        door: &D,
-        rt: &R,
-    ) -> Result<(), FeedEnd>
-        requires sound { IsSound gate.now self.old }
-        requires there { In (length self.old.senders.items) sender }
-        ensures sound { IsSound gate.now self.new }
-        ensures long { length self.new.senders.items ≡ length self.old.senders.items }
-        ensures takes { OnOk result (Takes self.new.piece sender size) }
-        ensures goes { OnOk result (GoesOn K.taken self.old self.new) }
-        ensures over { IfErr result (EndsSo K.taken self.old self.new) }
-        ensures unended { IfErr result (λ end. end ≢ ends.Ended) }
-        ensures own { IfErr result (λ end. end ≢ ends.Input) }
-        ensures risen { IsErrOf result ends.Accepted → HasRisen (K.faults self.old.accepted) (K.faults self.new.accepted) }
-        ensures counted { K.faults self.old.accepted ≤ K.faults self.new.accepted }
+    /// How many messages this sender has in the outbox.
+    fn count(&self, sender: u16) -> u64
+        requires there { In (length self.now.senders.items) sender }
+        ensures count { (d : Sender _ _) → result ≡ (slice_index_or self.now.senders.items (sender - 1) d).done }
     {
-        if !self.piece.is_empty()
-            && self.piece.takes(sender, size)
-            && door.with_it(sender, self.next_of(sender), rt)
-        {
-            return Ok(());
-        }
-        self.flush(gate, door, rt)?;
-        if door.before(sender, self.next_of(sender), rt) {
+        self.senders[usize::from(sender) - 1].done
+    }
+
+    /// Has the door let in the next message of a sender, behind all that was submitted.
+    fn let_in<D: Door, R: Wait>(&self, sender: u16, door: &D, rt: &R) -> Result<(), FeedEnd>
+        requires there { In (length self.now.senders.items) sender }
+        ensures which { IfErr result (λ end. end ≡ ends.Stopped) }
+    {
+        if door.before(sender, self.count(sender).saturating_add(1), rt) {
             Ok(())
         } else {
             Err(FeedEnd::Stopped)
@@ -346,31 +368,27 @@ impl<J: Journal, K: Sink> Feeder<J, K> {
         }
     }
 
-    /// Adds the payload that the line of this number gives to a sender.
+    /// Has the message that the line of this number gives wait as the first of a piece, once the door lets it in.
     fn add<D: Door, R: Wait>(
         &mut self,
         number: u64,
-        sender: u16,
-        payload: Bytes,
-        gate: &Gate<J>,
+        message: Message,
         door: &D,
         rt: &R,
     ) -> Result<(), FeedEnd>
-        requires sound { IsSound gate.now self.old }
-        requires there { In (length self.old.senders.items) sender }
-        requires application { IsApplication payload }
-        ensures sound { IsSound gate.now self.new }
+        requires there { In (length self.old.senders.items) message.sender }
+        requires application { IsApplication message.payload }
+        requires unsaid { IsOpen self.old }
+        requires empty { self.old.piece.payloads ≡ [] }
+        ensures sound { (gate : _) → IsSound gate self.old → IsSound gate self.new }
         ensures long { length self.new.senders.items ≡ length self.old.senders.items }
-        ensures goes { OnOk result ((line : List ℕ) → Gives (length self.old.senders.items) line (record { sender = sender; payload = payload })
-            → GoesOnAt K.taken number self.old self.new line) }
-        ensures over { IfErr result (λ end. (line : List ℕ) → EndsAt K.taken number self.old self.new line end) }
-        ensures unended { IfErr result (λ end. end ≢ ends.Ended) }
-        ensures own { IfErr result (λ end. end ≢ ends.Input) }
-        ensures risen { IsErrOf result ends.Accepted → HasRisen (K.faults self.old.accepted) (K.faults self.new.accepted) }
+        ensures goes { OnOk result ((row : Row) → AsksBehind self.old row message.sender message.payload → GoesOnAt K.taken number self.old self.new row) }
+        ensures over { IfErr result (λ end. (row : Row) → EndsAt K.taken number self.old self.new row end) }
+        ensures which { IfErr result (λ end. (end ≡ ends.Stopped) ⊎ (end ≡ ends.Memory)) }
         ensures counted { K.faults self.old.accepted ≤ K.faults self.new.accepted }
     {
-        match self.let_in(sender, payload.len(), gate, door, rt) {
-            Ok(()) => self.hold(number, sender, payload),
+        match self.let_in(message.sender, door, rt) {
+            Ok(()) => self.hold(number, message.sender, message.payload),
             Err(end) => Err(end),
         }
     }
@@ -386,11 +404,12 @@ impl<J: Journal, K: Sink> Feeder<J, K> {
     ) -> Result<(), FeedEnd>
         requires sound { IsSound gate.now self.old }
         requires clear { IsClear (refused why) }
+        requires unsaid { IsOpen self.old }
         ensures sound { IsSound gate.now self.new }
         ensures long { length self.new.senders.items ≡ length self.old.senders.items }
-        ensures goes { OnOk result ((line : List ℕ) → IsWhy (length self.old.senders.items) line why → GoesOnAt K.taken number self.old self.new line) }
-        ensures over { IfErr result (λ end. (line : List ℕ) → IsWhy (length self.old.senders.items) line why → EndsAt K.taken number self.old self.new line end) }
-        ensures unended { IfErr result (λ end. end ≢ ends.Ended) }
+        ensures goes { OnOk result ((row : Row) → IsWrongRow (length self.old.senders.items) row why → GoesOnAt K.taken number self.old self.new row) }
+        ensures over { IfErr result (λ end. (row : Row) → IsWrongRow (length self.old.senders.items) row why → EndsAt K.taken number self.old self.new row end) }
+        ensures unended { IfErr result (λ end. (end ≢ ends.Ended) × (end ≢ ends.InputEnded)) }
         ensures own { IfErr result (λ end. end ≢ ends.Input) }
         ensures risen { IsErrOf result ends.Accepted → HasRisen (K.faults self.old.accepted) (K.faults self.new.accepted) }
         ensures counted { K.faults self.old.accepted ≤ K.faults self.new.accepted }
@@ -398,6 +417,191 @@ impl<J: Journal, K: Sink> Feeder<J, K> {
         match self.flush(gate, door, rt) {
             Ok(()) => self.refuse(number, why),
             Err(end) => Err(end),
+        }
+    }
+
+    /// Tells that the message of the line of this number stands in the outbox as this one.
+    fn tell_again(&mut self, number: u64, sender: u16, own_number: u64) -> Result<(), FeedEnd>
+        requires least { 1 ≤ number }
+        ensures told { Told (K.taken self.old.accepted) (K.taken self.new.accepted) (accepted_line number sender own_number) result }
+        ensures risen { IsErrOf result ends.Accepted → HasRisen (K.faults self.old.accepted) (K.faults self.new.accepted) }
+        ensures counted { K.faults self.old.accepted ≤ K.faults self.new.accepted }
+        ensures senders { self.new.senders ≡ self.old.senders }
+        ensures piece { self.new.piece ≡ self.old.piece }
+    {
+        let mut text = Vec::new(self.alloc);
+        let Ok(()) = push_accepted_line(&mut text, number, sender, own_number) else {
+            return Err(FeedEnd::Memory);
+        };
+        self.tell(text.as_slice())
+    }
+
+    /// Compares the message that the line of this number gives with the one of its number that its sender has in the outbox, and tells what it is to that.
+    fn compare<R: Wait>(
+        &mut self,
+        number: u64,
+        message: &Message,
+        own_number: u64,
+        gate: &Gate<J>,
+        rt: &R,
+    ) -> Result<(), FeedEnd>
+        requires there { In (length self.old.senders.items) message.now.sender }
+        requires unsaid { IsOpen self.old }
+        requires empty { self.old.piece.payloads ≡ [] }
+        requires named { message.now.own_number ≡ Some own_number }
+        requires made { (1 ≤ own_number) × ((d : Sender _ _) → own_number ≤ (slice_index_or self.old.senders.items (message.now.sender - 1) d).done) }
+        requires sound { IsSound gate.now self.old }
+        ensures sound { IsSound gate.now self.new }
+        ensures long { length self.new.senders.items ≡ length self.old.senders.items }
+        ensures goes { OnOk result ((line : List ℕ) → GivesAt (length self.old.senders.items) line message.now.own_number (record { sender = message.now.sender; payload = message.now.payload }) → GoesOnAt K.taken number self.old self.new (whole line)) }
+        ensures over { IfErr result (λ end. (line : List ℕ) → EndsAt K.taken number self.old self.new (whole line) end) }
+        ensures unended { IfErr result (λ end. (end ≢ ends.Ended) × (end ≢ ends.InputEnded)) }
+        ensures own { IfErr result (λ end. end ≢ ends.Input) }
+        ensures risen { IsErrOf result ends.Accepted → HasRisen (K.faults self.old.accepted) (K.faults self.new.accepted) }
+        ensures counted { K.faults self.old.accepted ≤ K.faults self.new.accepted }
+    {
+        let sender = message.sender;
+        let seat = &mut self.senders[usize::from(sender) - 1];
+        let review = &mut self.reviews[usize::from(sender) - 1];
+        match review.compare(
+            gate,
+            &mut seat.pass,
+            own_number,
+            message.payload.as_slice(),
+            rt,
+        ) {
+            Ok(Again::Same { number }) => self.tell_again(number, sender, own_number),
+            Ok(Again::Differs) => self.refuse(number, Why::Differs),
+            Err(fault) => Err(end_of_read(fault)),
+        }
+    }
+
+    /// Takes the message that the line of this number gives, behind all that waited.
+    fn take_alone<D: Door, R: Wait>(
+        &mut self,
+        number: u64,
+        message: Message,
+        gate: &Gate<J>,
+        door: &D,
+        rt: &R,
+    ) -> Result<(), FeedEnd>
+        requires there { In (length self.old.senders.items) message.sender }
+        requires application { IsApplication message.payload }
+        requires unsaid { IsOpen self.old }
+        requires empty { self.old.piece.payloads ≡ [] }
+        requires sound { IsSound gate.now self.old }
+        ensures sound { IsSound gate.now self.new }
+        ensures long { length self.new.senders.items ≡ length self.old.senders.items }
+        ensures goes { OnOk result ((line : List ℕ) → GivesAt (length self.old.senders.items) line message.own_number (record { sender = message.sender; payload = message.payload }) → GoesOnAt K.taken number self.old self.new (whole line)) }
+        ensures over { IfErr result (λ end. (line : List ℕ) → EndsAt K.taken number self.old self.new (whole line) end) }
+        ensures unended { IfErr result (λ end. (end ≢ ends.Ended) × (end ≢ ends.InputEnded)) }
+        ensures own { IfErr result (λ end. end ≢ ends.Input) }
+        ensures risen { IsErrOf result ends.Accepted → HasRisen (K.faults self.old.accepted) (K.faults self.new.accepted) }
+        ensures counted { K.faults self.old.accepted ≤ K.faults self.new.accepted }
+    {
+        match (
+            place_among(self.count(message.sender), message.own_number),
+            message.own_number,
+        ) {
+            (Standing::Made, Some(own_number)) => {
+                self.compare(number, &message, own_number, gate, rt)
+            }
+            (Standing::Next | Standing::Made | Standing::Gap, _) if self.closed => {
+                self.refuse(number, Why::Closed)
+            }
+            (Standing::Gap, _) => self.refuse(number, Why::Gap),
+            (Standing::Next | Standing::Made, _) => { self.add(number, message, door, rt) }
+        }
+    }
+
+    /// Takes the message that the line of this number gives: the next one of its sender, behind those that wait, may wait with them; any other is taken
+    /// alone, once what waits was submitted.
+    fn take_message<D: Door, R: Wait>(
+        &mut self,
+        number: u64,
+        message: Message,
+        gate: &Gate<J>,
+        door: &D,
+        rt: &R,
+    ) -> Result<(), FeedEnd>
+        requires there { In (length self.old.senders.items) message.sender }
+        requires application { IsApplication message.payload }
+        requires unsaid { IsOpen self.old }
+        requires sound { IsSound gate.now self.old }
+        ensures sound { IsSound gate.now self.new }
+        ensures long { length self.new.senders.items ≡ length self.old.senders.items }
+        ensures goes { OnOk result ((line : List ℕ) → GivesAt (length self.old.senders.items) line message.own_number (record { sender = message.sender; payload = message.payload }) → GoesOnAt K.taken number self.old self.new (whole line)) }
+        ensures over { IfErr result (λ end. (line : List ℕ) → EndsAt K.taken number self.old self.new (whole line) end) }
+        ensures unended { IfErr result (λ end. (end ≢ ends.Ended) × (end ≢ ends.InputEnded)) }
+        ensures own { IfErr result (λ end. end ≢ ends.Input) }
+        ensures risen { IsErrOf result ends.Accepted → HasRisen (K.faults self.old.accepted) (K.faults self.new.accepted) }
+        ensures counted { K.faults self.old.accepted ≤ K.faults self.new.accepted }
+    {
+        let (sender, size) = (message.sender, message.payload.len());
+        let count = self.count_with_waiting(sender);
+        let may_wait = !self.piece.is_empty()
+            && self.piece.takes(sender, size)
+            && matches!(place_among(count, message.own_number), Standing::Next)
+            && door.with_it(sender, count.saturating_add(1), rt);
+        if may_wait {
+            return self.hold(number, sender, message.payload);
+        }
+        self.flush(gate, door, rt)?;
+        self.take_alone(number, message, gate, door, rt)
+    }
+
+    /// Tells what came of the line of this number, which says that nothing more comes.
+    fn tell_finish(&mut self, number: u64, refusal: Option<ServeFault>) -> Result<(), FeedEnd>
+        requires few { length self.old.senders.items ≤ 16 }
+        ensures told { Told (K.taken self.old.accepted) (K.taken self.new.accepted) (mark_line (length self.old.senders.items) number refusal) result }
+        ensures risen { IsErrOf result ends.Accepted → HasRisen (K.faults self.old.accepted) (K.faults self.new.accepted) }
+        ensures counted { K.faults self.old.accepted ≤ K.faults self.new.accepted }
+        ensures senders { self.new.senders ≡ self.old.senders }
+        ensures piece { self.new.piece ≡ self.old.piece }
+    {
+        let mut text = Vec::new(self.alloc);
+        let pushed = match refusal {
+            None => push_finished_line(&mut text),
+            Some(fault) => {
+                let senders = self.senders.len() as u16;
+                push_refused_line(&mut text, senders, number, why_of_mark(fault))
+            }
+        };
+        let Ok(()) = pushed else {
+            return Err(FeedEnd::Memory);
+        };
+        self.tell(text.as_slice())
+    }
+
+    /// Takes the line of this number, which says that nothing more comes: submits what waits, and adds the mark, where there are senders. Each line behind it is
+    /// refused.
+    fn take_finish<D: Door, R: Wait>(
+        &mut self,
+        number: u64,
+        gate: &Gate<J>,
+        door: &D,
+        rt: &R,
+    ) -> Result<(), FeedEnd>
+        requires unsaid { IsOpen self.old }
+        requires sound { IsSound gate.now self.old }
+        ensures sound { IsSound gate.now self.new }
+        ensures long { length self.new.senders.items ≡ length self.old.senders.items }
+        ensures goes { OnOk result (GoesOnAt K.taken number self.old self.new (whole finish_line)) }
+        ensures over { IfErr result (λ end. EndsAt K.taken number self.old self.new (whole finish_line) end) }
+        ensures unended { IfErr result (λ end. (end ≢ ends.Ended) × (end ≢ ends.InputEnded)) }
+        ensures own { IfErr result (λ end. end ≢ ends.Input) }
+        ensures risen { IsErrOf result ends.Accepted → HasRisen (K.faults self.old.accepted) (K.faults self.new.accepted) }
+        ensures counted { K.faults self.old.accepted ≤ K.faults self.new.accepted }
+    {
+        self.flush(gate, door, rt)?;
+        let refusal = self.mark(gate, rt);
+        let told = self.tell_finish(number, refusal);
+        match refusal {
+            None => {
+                door.accepted();
+                told
+            }
+            Some(fault) => Err(end_of_mark(fault)),
         }
     }
 
@@ -410,27 +614,41 @@ impl<J: Journal, K: Sink> Feeder<J, K> {
         door: &D,
         rt: &R,
     ) -> Result<(), FeedEnd>
+        requires unsaid { IsOpen self.old }
         requires sound { IsSound gate.now self.old }
         ensures sound { IsSound gate.now self.new }
         ensures long { length self.new.senders.items ≡ length self.old.senders.items }
-        ensures goes { OnOk result (GoesOnAt K.taken number self.old self.new line.now) }
-        ensures over { IfErr result (EndsAt K.taken number self.old self.new line.now) }
-        ensures unended { IfErr result (λ end. end ≢ ends.Ended) }
+        ensures goes { OnOk result (GoesOnAt K.taken number self.old self.new (whole line.now)) }
+        ensures over { IfErr result (λ end. EndsAt K.taken number self.old self.new (whole line.now) end) }
+        ensures unended { IfErr result (λ end. (end ≢ ends.Ended) × (end ≢ ends.InputEnded)) }
         ensures own { IfErr result (λ end. end ≢ ends.Input) }
         ensures risen { IsErrOf result ends.Accepted → HasRisen (K.faults self.old.accepted) (K.faults self.new.accepted) }
         ensures counted { K.faults self.old.accepted ≤ K.faults self.new.accepted }
     {
         let senders = self.senders.len() as u16;
         match read_line(self.alloc, senders, line) {
-            Ok(Fed::Payload { sender, payload }) => {
-                self.add(number, sender, payload, gate, door, rt)
+            Ok(
+                Fed::Payload {
+                    sender,
+                    own_number,
+                    payload,
+                },
+            ) => {
+                let message = Message {
+                    sender,
+                    own_number,
+                    payload,
+                };
+                self.take_message(number, message, gate, door, rt)
             }
+            Ok(Fed::Finish) => self.take_finish(number, gate, door, rt),
             Ok(Fed::Wrong(wrong)) => self.pass_over(number, Why::Wrong(wrong), gate, door, rt),
             Err(_) => Err(FeedEnd::Memory),
         }
     }
 
-    /// Takes the line of this number, of which this was found: adds what it gives, or tells why it was refused.
+    /// Takes the line of this number, of which this was found: adds what it gives, or tells why it was refused. Behind a line that said that nothing more
+    /// comes each is refused.
     pub(crate) fn take<D: Door, R: Wait>(
         &mut self,
         found: Found,
@@ -443,16 +661,43 @@ impl<J: Journal, K: Sink> Feeder<J, K> {
         requires sound { IsSound gate.now self.old }
         ensures sound { IsSound gate.now self.new }
         ensures long { length self.new.senders.items ≡ length self.old.senders.items }
-        ensures goes { OnOk result ((says raw : List ℕ) → IsTold found line.now says raw → length raw ≤ length says + 1 → GoesOnAt K.taken number self.old self.new says) }
-        ensures over { IfErr result (λ end. (says raw : List ℕ) → IsTold found line.now says raw → length raw ≤ length says + 1 → EndsAt K.taken number self.old self.new says end) }
-        ensures unended { IfErr result (λ end. end ≢ ends.Ended) }
+        ensures goes { OnOk result ((says raw : List ℕ) → IsTold found line.now says raw → length raw ≤ length says + 1 → GoesOnAt K.taken number self.old self.new (whole says)) }
+        ensures over { IfErr result (λ end. (says raw : List ℕ) → IsTold found line.now says raw → length raw ≤ length says + 1 → EndsAt K.taken number self.old self.new (whole says) end) }
+        ensures unended { IfErr result (λ end. (end ≢ ends.Ended) × (end ≢ ends.InputEnded)) }
         ensures own { IfErr result (λ end. end ≢ ends.Input) }
         ensures risen { IsErrOf result ends.Accepted → HasRisen (K.faults self.old.accepted) (K.faults self.new.accepted) }
         ensures counted { K.faults self.old.accepted ≤ K.faults self.new.accepted }
     {
+        if self.over {
+            return self.refuse(number, Why::Closed);
+        }
         match found {
             Found::Whole => self.take_whole(line, number, gate, door, rt),
             Found::TooLong => self.pass_over(number, Why::TooLong, gate, door, rt),
         }
+    }
+
+    /// Tells that the line of this number was cut: its writer went before its line feed.
+    pub(crate) fn take_cut<D: Door, R: Wait>(
+        &mut self,
+        number: u64,
+        gate: &Gate<J>,
+        door: &D,
+        rt: &R,
+    ) -> Result<(), FeedEnd>
+        requires sound { IsSound gate.now self.old }
+        ensures sound { IsSound gate.now self.new }
+        ensures long { length self.new.senders.items ≡ length self.old.senders.items }
+        ensures goes { OnOk result ((line : List ℕ) → GoesOnAt K.taken number self.old self.new (cut line)) }
+        ensures over { IfErr result (λ end. (line : List ℕ) → EndsAt K.taken number self.old self.new (cut line) end) }
+        ensures unended { IfErr result (λ end. (end ≢ ends.Ended) × (end ≢ ends.InputEnded)) }
+        ensures own { IfErr result (λ end. end ≢ ends.Input) }
+        ensures risen { IsErrOf result ends.Accepted → HasRisen (K.faults self.old.accepted) (K.faults self.new.accepted) }
+        ensures counted { K.faults self.old.accepted ≤ K.faults self.new.accepted }
+    {
+        if self.over {
+            return self.refuse(number, Why::Closed);
+        }
+        self.pass_over(number, Why::Cut, gate, door, rt)
     }
 }

@@ -1,9 +1,8 @@
 //! A feeding: INPUT is read a piece at a time until it ends, and what was read is fed before more is asked for.
 
-ghost use Rattle.std.specs.Prelude.{◌≡◌, ◌≢◌, ℕ, ◌≤◌, List, [], length, IfOk, IfErr, OnOk, IsErrOf, IsFalse};
+ghost use Rattle.std.specs.Prelude.{◌≡◌, ◌≢◌, ◌⊎◌, true, false, ℕ, ◌≤◌, List, [], ◌∷◌, ◌++◌, length, IfOk, IfErr, OnOk, IsErrOf, IsFalse};
 ghost use Rattle.std.specs.Io.KnownBytes.{IsAtEnd};
 ghost use Rattle.gw_outside.specs.Faults.{HasRisen};
-ghost use Rattle.text_words.specs.Lines.{lines_in};
 ghost use Rattle.gw_lines.specs.Reading.{HasGiven};
 ghost use Rattle.conn_feed.specs.declared.end.FeedEnd.TheVariants as ends;
 
@@ -11,8 +10,9 @@ use crate::end::FeedEnd;
 use crate::feeder::Feeder;
 use gate_senders::Gate;
 use gate_staff::Door;
+use gw_fed::Feed;
 use gw_lines::LineReader;
-use gw_outside::{Sink, Source};
+use gw_outside::Sink;
 use jr_dated::Journal;
 use std::sync::Wait;
 use std::sync::atomic::{AtomicBool, Ordering};
@@ -20,7 +20,7 @@ use std::sync::atomic::{AtomicBool, Ordering};
 impl<J: Journal, K: Sink> Feeder<J, K> {
     ghost use Rattle.conn_feed.specs.Fed.{AtSeats};
     ghost use Rattle.conn_feed.specs.Ends.{Feeding};
-    ghost use Rattle.conn_feed.specs.Course.{IsSound, point_of, EndedSo, StandsSo, Reads, ReadsOn};
+    ghost use Rattle.conn_feed.specs.Course.{IsSound, IsFresh, point_of, EndedSo, StandsSo, Reads, ReadsOn};
 
     /// Takes the lines that were read.
     fn take_read<D: Door, R: Wait>(
@@ -34,10 +34,10 @@ impl<J: Journal, K: Sink> Feeder<J, K> {
         ensures sound { IsSound gate.now self.new }
         ensures long { length self.new.senders.items ≡ length self.old.senders.items }
         ensures waiting { OnOk result (reader.new.waiting ≡ []) }
-        ensures goes { OnOk result ((start : _) (read : List ℕ) → Reads read reader.old (StandsSo K.taken start self.old) → Reads read reader.new (StandsSo K.taken start self.new)) }
-        ensures over { IfErr result (λ end. (start : _) (read : List ℕ) → Reads read reader.old (StandsSo K.taken start self.old)
-            → Reads read reader.new (λ lines. EndedSo K.taken start self.new lines end)) }
-        ensures unended { IfErr result (λ end. end ≢ ends.Ended) }
+        ensures goes { OnOk result ((stood : _) (start : _) (gone : List (List ℕ)) (here : List ℕ) → Reads gone here reader.old (StandsSo K.taken stood start self.old) → Reads gone here reader.new (StandsSo K.taken stood start self.new)) }
+        ensures over { IfErr result (λ end. (stood : _) (start : _) (gone : List (List ℕ)) (here : List ℕ) → Reads gone here reader.old (StandsSo K.taken stood start self.old)
+            → Reads gone here reader.new (λ rows. EndedSo K.taken start self.new rows end)) }
+        ensures unended { IfErr result (λ end. (end ≢ ends.Ended) × (end ≢ ends.InputEnded)) }
         ensures own { IfErr result (λ end. end ≢ ends.Input) }
         ensures risen { IsErrOf result ends.Accepted → HasRisen (K.faults self.old.accepted) (K.faults self.new.accepted) }
         ensures counted { K.faults self.old.accepted ≤ K.faults self.new.accepted }
@@ -51,7 +51,7 @@ impl<J: Journal, K: Sink> Feeder<J, K> {
     }
 
     /// Reads INPUT once, and takes the lines that this gave. Answers whether there may be more.
-    fn round<S: Source, D: Door, R: Wait>(
+    fn round<S: Feed, D: Door, R: Wait>(
         &mut self,
         reader: &mut LineReader,
         gate: &Gate<J>,
@@ -65,11 +65,11 @@ impl<J: Journal, K: Sink> Feeder<J, K> {
         ensures long { length self.new.senders.items ≡ length self.old.senders.items }
         ensures waiting { OnOk result (reader.new.waiting ≡ []) }
         ensures end { IfOk result (λ more. IsFalse more → IsAtEnd (S.left input.new)) }
-        ensures goes { OnOk result ((start : _) (read : List ℕ) → Reads read reader.old (StandsSo K.taken start self.old)
-            → ReadsOn (S.left input.old) (S.left input.new) read reader.new (StandsSo K.taken start self.new)) }
-        ensures over { IfErr result (λ end. (start : _) (read : List ℕ) → Reads read reader.old (StandsSo K.taken start self.old)
-            → ReadsOn (S.left input.old) (S.left input.new) read reader.new (λ lines. EndedSo K.taken start self.new lines end)) }
-        ensures unended { IfErr result (λ end. end ≢ ends.Ended) }
+        ensures goes { OnOk result ((stood : _) (start : _) (gone : List (List ℕ)) (here : List ℕ) → Reads gone here reader.old (StandsSo K.taken stood start self.old)
+            → ReadsOn (S.left input.old) (S.left input.new) gone here reader.new (StandsSo K.taken stood start self.new)) }
+        ensures over { IfErr result (λ end. (stood : _) (start : _) (gone : List (List ℕ)) (here : List ℕ) → Reads gone here reader.old (StandsSo K.taken stood start self.old)
+            → ReadsOn (S.left input.old) (S.left input.new) gone here reader.new (λ rows. EndedSo K.taken start self.new rows end)) }
+        ensures unended { IfErr result (λ end. (end ≢ ends.Ended) × (end ≢ ends.InputEnded)) }
         ensures risen { IsErrOf result ends.Accepted → HasRisen (K.faults self.old.accepted) (K.faults self.new.accepted) }
         ensures counted { K.faults self.old.accepted ≤ K.faults self.new.accepted }
         ensures input_risen { IsErrOf result ends.Input → HasRisen (S.faults input.old) (S.faults input.new) }
@@ -84,8 +84,8 @@ impl<J: Journal, K: Sink> Feeder<J, K> {
         }
     }
 
-    /// Takes what stands behind the last line feed, as the last line of an INPUT that is at its end. It may wait in the piece.
-    fn take_last<D: Door, R: Wait>(
+    /// Tells that what stands behind the last line feed was cut, if anything stands there: its writer went. The next writer's first line begins anew.
+    fn cut<D: Door, R: Wait>(
         &mut self,
         reader: &mut LineReader,
         gate: &Gate<J>,
@@ -96,47 +96,37 @@ impl<J: Journal, K: Sink> Feeder<J, K> {
         requires waiting { reader.old.waiting ≡ [] }
         ensures sound { IsSound gate.now self.new }
         ensures long { length self.new.senders.items ≡ length self.old.senders.items }
-        ensures goes { OnOk result ((start : _) (read : List ℕ) → Reads read reader.old (StandsSo K.taken start self.old) → StandsSo K.taken start self.new (lines_in read)) }
-        ensures over { IfErr result (λ end. (start : _) (read : List ℕ) → Reads read reader.old (StandsSo K.taken start self.old) → EndedSo K.taken start self.new (lines_in read) end) }
-        ensures unended { IfErr result (λ end. end ≢ ends.Ended) }
+        ensures waiting { OnOk result (reader.new.waiting ≡ []) }
+        ensures goes { OnOk result ((stood : _) (start : _) (gone : List (List ℕ)) (here : List ℕ) → Reads gone here reader.old (StandsSo K.taken stood start self.old)
+            → Reads (gone ++ here ∷ []) [] reader.new (StandsSo K.taken stood start self.new)) }
+        ensures over { IfErr result (λ end. (stood : _) (start : _) (gone : List (List ℕ)) (here : List ℕ) → Reads gone here reader.old (StandsSo K.taken stood start self.old)
+            → Reads (gone ++ here ∷ []) [] reader.new (λ rows. EndedSo K.taken start self.new rows end)) }
+        ensures unended { IfErr result (λ end. (end ≢ ends.Ended) × (end ≢ ends.InputEnded)) }
         ensures own { IfErr result (λ end. end ≢ ends.Input) }
         ensures risen { IsErrOf result ends.Accepted → HasRisen (K.faults self.old.accepted) (K.faults self.new.accepted) }
         ensures counted { K.faults self.old.accepted ≤ K.faults self.new.accepted }
     {
         match reader.last() {
-            Some(found) => self.take(found, reader.line(), reader.number(), gate, door, rt),
+            Some(_found) => self.take_cut(reader.number(), gate, door, rt),
             None => Ok(()),
         }
     }
 
-    /// Takes what stands behind the last line feed, as the last line of an INPUT that is at its end, and submits what waits.
-    fn last<D: Door, R: Wait>(
-        &mut self,
-        reader: &mut LineReader,
-        gate: &Gate<J>,
-        door: &D,
-        rt: &R,
-    ) -> Result<(), FeedEnd>
-        requires sound { IsSound gate.now self.old }
-        requires waiting { reader.old.waiting ≡ [] }
-        ensures sound { IsSound gate.now self.new }
-        ensures long { length self.new.senders.items ≡ length self.old.senders.items }
-        ensures empty { OnOk result (self.new.piece.payloads ≡ []) }
-        ensures goes { OnOk result ((start : _) (read : List ℕ) → Reads read reader.old (StandsSo K.taken start self.old) → StandsSo K.taken start self.new (lines_in read)) }
-        ensures over { IfErr result (λ end. (start : _) (read : List ℕ) → Reads read reader.old (StandsSo K.taken start self.old) → EndedSo K.taken start self.new (lines_in read) end) }
-        ensures unended { IfErr result (λ end. end ≢ ends.Ended) }
-        ensures own { IfErr result (λ end. end ≢ ends.Input) }
-        ensures risen { IsErrOf result ends.Accepted → HasRisen (K.faults self.old.accepted) (K.faults self.new.accepted) }
-        ensures counted { K.faults self.old.accepted ≤ K.faults self.new.accepted }
+    /// How a feeding ends whose INPUT is at its end.
+    fn end_of_input(&self) -> FeedEnd
+        ensures which { (result ≡ ends.Ended) ⊎ (result ≡ ends.InputEnded) }
+        ensures ended { result ≡ ends.Ended → (self.now.over ≡ true) ⊎ (self.now.closed ≡ true) }
+        ensures input_ended { result ≡ ends.InputEnded → (self.now.over ≡ false) × (self.now.closed ≡ false) }
     {
-        match self.take_last(reader, gate, door, rt) {
-            Ok(()) => self.flush(gate, door, rt),
-            Err(end) => Err(end),
+        if self.over || self.closed {
+            FeedEnd::Ended
+        } else {
+            FeedEnd::InputEnded
         }
     }
 
-    /// Reads and feeds until INPUT is at its end, and each of its lines is answered.
-    fn feed_from<S: Source, D: Door, R: Wait>(
+    /// Reads and feeds until something ends that, and answers what did. Where a writer of INPUT goes and another may come, that one is awaited.
+    fn feed_from<S: Feed, D: Door, R: Wait>(
         &mut self,
         mut reader: LineReader,
         gate: &Gate<J>,
@@ -144,40 +134,46 @@ impl<J: Journal, K: Sink> Feeder<J, K> {
         door: &D,
         stop: &AtomicBool,
         rt: &R,
-    ) -> Result<(), FeedEnd>
+    ) -> FeedEnd
         requires sound { IsSound gate.now self.old }
         requires empty { self.old.piece.payloads ≡ [] }
         requires fresh { HasGiven [] [] reader }
         requires waiting { reader.waiting ≡ [] }
+        requires unsaid { self.old.over ≡ false }
         ensures sound { IsSound gate.now self.new }
         ensures long { length self.new.senders.items ≡ length self.old.senders.items }
-        ensures whole { OnOk result (Feeding (point_of K.taken self.old) (point_of K.taken self.new) (S.left input.old) (S.left input.new) ends.Ended) }
-        ensures over { IfErr result (Feeding (point_of K.taken self.old) (point_of K.taken self.new) (S.left input.old) (S.left input.new)) }
-        ensures unended { IfErr result (λ end. end ≢ ends.Ended) }
-        ensures risen { IsErrOf result ends.Accepted → HasRisen (K.faults self.old.accepted) (K.faults self.new.accepted) }
+        ensures fed { Feeding J.tells self.old.closed (point_of K.taken self.old) (point_of K.taken self.new) (S.left input.old) (S.left input.new) result }
+        ensures risen { result ≡ ends.Accepted → HasRisen (K.faults self.old.accepted) (K.faults self.new.accepted) }
         ensures counted { K.faults self.old.accepted ≤ K.faults self.new.accepted }
-        ensures input_risen { IsErrOf result ends.Input → HasRisen (S.faults input.old) (S.faults input.new) }
+        ensures input_risen { result ≡ ends.Input → HasRisen (S.faults input.old) (S.faults input.new) }
         ensures input_counted { S.faults input.old ≤ S.faults input.new }
     {
         for _ in rt.forever() {
             let more = match self.round(&mut reader, gate, input, door, rt) {
                 Ok(more) => more,
-                Err(end) => return Err(end),
+                Err(end) => return end,
             };
             if stop.load(Ordering::SeqCst) {
-                return Err(FeedEnd::Stopped);
+                return FeedEnd::Stopped;
             }
-            if !more {
-                return self.last(&mut reader, gate, door, rt);
+            if more {
+                continue;
+            }
+            if let Err(end) = self.cut(&mut reader, gate, door, rt) {
+                return end;
+            }
+            if input.ends() {
+                return self.end_of_input();
             }
         }
         unreachable!()
     }
 
-    /// Feeds the lines of INPUT to the senders until INPUT is at its end, or something else ends it, and answers what did. What a read gives is
-    /// submitted, and told on ACCEPTED, before more is asked for; whether it is to stop is looked at behind each read, and asked of the door
-    /// before each message.
-    pub fn feed<S: Source, D: Door, R: Wait>(
+    /// Feeds the lines of INPUT to the senders until something ends that, and answers what did: INPUT at its end, or a failure, or the end of the connections. A
+    /// line `S K HEX` whose sender has a message of the number K is compared with that one. The line `finish` adds the mark that nothing more comes, and nothing
+    /// else does. What a read gives is submitted, and told on ACCEPTED, before more is asked for; whether it is to stop is looked at behind each read, and
+    /// asked of the door before each message.
+    pub fn feed<S: Feed, D: Door, R: Wait>(
         &mut self,
         gate: &Gate<J>,
         input: &mut S,
@@ -186,9 +182,10 @@ impl<J: Journal, K: Sink> Feeder<J, K> {
         rt: &R,
     ) -> FeedEnd
         requires seats { AtSeats gate.now self.old.senders.items }
+        requires fresh { IsFresh self.old }
         ensures seats { AtSeats gate.now self.new.senders.items }
         ensures long { length self.new.senders.items ≡ length self.old.senders.items }
-        ensures fed { Feeding (point_of K.taken self.old) (point_of K.taken self.new) (S.left input.old) (S.left input.new) result }
+        ensures fed { Feeding J.tells self.old.closed (point_of K.taken self.old) (point_of K.taken self.new) (S.left input.old) (S.left input.new) result }
         ensures accepted { result ≡ ends.Accepted → HasRisen (K.faults self.old.accepted) (K.faults self.new.accepted) }
         ensures accepted_counted { K.faults self.old.accepted ≤ K.faults self.new.accepted }
         ensures input { result ≡ ends.Input → HasRisen (S.faults input.old) (S.faults input.new) }
@@ -198,9 +195,6 @@ impl<J: Journal, K: Sink> Feeder<J, K> {
         let Ok(reader) = LineReader::new(self.alloc()) else {
             return FeedEnd::Memory;
         };
-        match self.feed_from(reader, gate, input, door, stop, rt) {
-            Ok(()) => FeedEnd::Ended,
-            Err(end) => end,
-        }
+        self.feed_from(reader, gate, input, door, stop, rt)
     }
 }

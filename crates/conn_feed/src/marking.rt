@@ -1,6 +1,6 @@
 //! The mark behind all lines.
 
-ghost use Rattle.std.specs.Prelude.{◌≡◌, ◌<◌, length, IsTrue, IsFalse};
+ghost use Rattle.std.specs.Prelude.{◌≡◌, ◌<◌, true, None, length, IsTrue, IsFalse};
 ghost use Rattle.gate_turn.specs.Places.{known};
 
 use crate::feeder::Feeder;
@@ -15,23 +15,29 @@ impl<J: Journal, K: Sink> Feeder<J, K> {
     ghost use Rattle.conn_feed.specs.Ends.{FinishedBy};
 
     /// Whether it has no senders.
-    pub fn is_empty(&self) -> bool
+    fn is_empty(&self) -> bool
         ensures yes { IsTrue result → length self.now.senders.items ≡ 0 }
         ensures no { IsFalse result → 0 < length self.now.senders.items }
     {
         self.senders.is_empty()
     }
 
-    /// Adds the mark that nothing more comes, by the pass of the first sender. Answers the refusal that was met, if one was other than that the mark
-    /// stands already.
-    pub fn finish<R: Wait>(&mut self, gate: &Gate<J>, rt: &R) -> Option<ServeFault>
+    /// Adds the mark that nothing more comes, by the pass of the first sender, where there are senders, and has each line more be refused. Answers the refusal that
+    /// was met, if one was other than that the mark stands already.
+    pub(crate) fn mark<R: Wait>(&mut self, gate: &Gate<J>, rt: &R) -> Option<ServeFault>
         requires seats { AtSeats gate.now self.old.senders.items }
-        requires some { 0 < length self.old.senders.items }
         ensures seats { AtSeats gate.now self.new.senders.items }
         ensures long { length self.new.senders.items ≡ length self.old.senders.items }
-        ensures finished { FinishedBy (parts_of self.old.senders.items) (parts_of self.new.senders.items) result }
+        ensures finished { 0 < length self.old.senders.items → FinishedBy (parts_of self.old.senders.items) (parts_of self.new.senders.items) result }
+        ensures none { length self.old.senders.items ≡ 0 → (self.new.senders ≡ self.old.senders) × (result ≡ None) }
+        ensures over { self.new.over ≡ true }
         ensures accepted { self.new.accepted ≡ self.old.accepted }
+        ensures piece { self.new.piece ≡ self.old.piece }
     {
+        self.over = true;
+        if self.is_empty() {
+            return None;
+        }
         let seat = &mut self.senders[0];
         finish_by(gate, &mut seat.pass, rt)
     }

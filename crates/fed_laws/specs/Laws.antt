@@ -1,5 +1,5 @@
 -- The law of a life that is fed (this project's profile).
-use Rattle.std.specs.Prelude.{◌≡◌, ℕ, suc, ◌+◌, ◌<◌, ◌≤◌, List, length, slice_index_or, Option, Some, Result, IfErr}
+use Rattle.std.specs.Prelude.{◌≡◌, ◌||◌, ℕ, suc, ◌+◌, ◌<◌, ◌≤◌, List, length, slice_index_or, Option, Some, Result, IfErr}
 use Rattle.fixp_machine.specs.Machine.{State}
 use Rattle.gw_links.specs.Dialers.{DialerTold}
 use Rattle.gw_links.specs.declared.link.Link.{Ghosts as LinkGhosts}
@@ -25,6 +25,8 @@ use Rattle.conn_serve.specs.Causes.{IsBlamed}
 use Rattle.conn_serve.specs.Moments.{life_at, faults_at, beside}
 use Rattle.conn_serve.specs.Served.{ServedOver}
 use Rattle.conn_feed.specs.declared.end.FeedEnd.{FeedEnd}
+use Rattle.conn_feed.specs.Rows.{Row}
+use Rattle.conn_feed.specs.Words.{Word, is_over}
 use Rattle.conn_feed.specs.Fed.{parts_of}
 use Rattle.conn_feed.specs.Ends.{Point}
 use Rattle.conn_fed.specs.Fed.{FedBy}
@@ -57,9 +59,9 @@ module _ {J : Type 0} {G : Ghosts J} where
   -- What they know is what the passes of senders know that submitted these plans: what the outbox had of each, and behind it what the lines give that
   -- were answered
   pub record IsByPlans {I : Type 0} {K : Ghosts I} {L : Type 0} (over : Clocked L) (a : Account) (new : Passes (Kept J G)) (count : ℕ)
-      (lines : List (List ℕ)) (dialed later : Option DialerTold) (out now_out : Option (List ℕ)) (m : State) (box since : Inbox I K) (result : Result (Unit {0}) ServeFault) : Type 0 where
+      (rows : List Row) (words : List Word) (dialed later : Option DialerTold) (out now_out : Option (List ℕ)) (m : State) (box since : Inbox I K) (result : Result (Unit {0}) ServeFault) : Type 0 where
     pub gifts : List Gift
-    pub give : GiveThese count lines gifts
+    pub give : GiveThese count rows words gifts
     pub served : ServedAt over a (fed_plans count a.history.made gifts) (known_at new) (beside dialed out box) (beside later now_out since) m result
 
 -- A life that was fed so, beside connections that ended so, is one whose senders submitted plans, and answers to the laws on these with its refusal, where
@@ -68,13 +70,13 @@ abbrev pub FeedingIsByPlans : {J I L : Type 0} {G : Ghosts J} {K : Ghosts I} →
 FeedingIsByPlans {J} {I} {L} {G} {K} links gate box =
     (before behind : ℕ) (a : Account) (seated counted after : List (Sender J G)) (old new : Passes (Kept J G)) (pass : Pass (Kept J G)) (first now : Part)
     → FedPasses gate a seated counted after old new pass first now
-    → (start last : Point) (left left' : Option (List ℕ)) (end : FeedEnd) (mark : Option ServeFault)
+    → (start last : Point) (left left' : Option (List ℕ)) (end : FeedEnd)
     → start.parts ≡ parts_of counted → parts_of after ≡ last.parts
-    → (b : FedBy start last left left' end mark)
+    → (b : FedBy G.tells a.history.finished start last left left' end)
     → (dialed later : Option DialerTold) (out now_out : Option (List ℕ)) (out_faults now_out_faults dial_faults now_dial_faults : ℕ) (m : State)
     (since : Inbox I K) (connections : Result LifeEnd ServeFault)
     → ServedOver G.tells links before behind (life_at dialed out first.seen box) (life_at later now_out now.seen since) m connections
     → IfErr connections (IsBlamed G.tells (faults_at out_faults dial_faults first box) (faults_at now_out_faults now_dial_faults now since))
     → limits_of since ≡ limits_of box
-    → IsByPlans (clocked G.tells links before behind) a new (length counted) b.from.feeding.answered.first dialed later out now_out m box since
-    (answer_of connections (fed_refusal end mark))
+    → IsByPlans (clocked G.tells links before behind) a new (length counted) b.feeding.answered.first b.feeding.answered.words dialed later out now_out m box since
+    (answer_of connections (fed_refusal end (is_over b.feeding.answered.words || a.history.finished)))

@@ -1,7 +1,7 @@
 //! The law of a feeding.
 
 ghost use Rattle.fed_laws.specs.Laws.{FeedingIsByPlans};
-ghost use Rattle.fed_laws.specs.Told.{FeedingIsTold};
+ghost use Rattle.fed_laws.specs.Told.{FeedingIsTold, NumbersToldOnce};
 
 use gate_senders::Gate;
 use gw_links::Dialer;
@@ -16,4 +16,9 @@ pub fn feeding_is_by_plans<O: Journal, I: Journal, N: Dialer>(gate: &Gate<O>, in
 /// Of such a life the closing history has exactly what ACCEPTED was told, whatever the gates of this kind.
 pub fn feeding_is_told<O: Journal>(gate: &Gate<O>)
     ensures law { FeedingIsTold gate.now }
+{}
+
+/// No number is told on ACCEPTED for two messages, by one run or by two, where all that was told stands in one outbox.
+pub fn numbers_told_once()
+    ensures law { NumbersToldOnce }
 {}

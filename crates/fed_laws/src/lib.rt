@@ -5,4 +5,4 @@
 
 mod laws;
 
-pub use laws::{feeding_is_by_plans, feeding_is_told};
+pub use laws::{feeding_is_by_plans, feeding_is_told, numbers_told_once};

@@ -10,6 +10,7 @@ use cmd_files::Report;
 use cmd_run::Status;
 use gw_appended::Appended;
 use gw_appended_files::AppendedFile;
+use gw_fed::Feed;
 use gw_links::{Clock as LinkClock, Dialer};
 use gw_outside::{Disk, Failed, Sink, Source};
 use gw_real::{FileSink, Named};
@@ -125,7 +126,7 @@ fn devices<'a, 't, R: Clock + Files<File = File> + Print + AllocGlobal, I, A, D,
 fn run_over<
     R: Threads + Wait + Sync,
     S: Source,
-    I: Source + Send,
+    I: Feed + Send,
     K: Appended,
     A: Sink + Send,
     D: Disk + Send,
@@ -187,7 +188,7 @@ fn run_with<
     'a,
     't,
     R: Threads + Wait + Sync + Clock + Files<File = File> + Print + Eprint + AllocGlobal,
-    I: Source + Send + Drop + SaysWhy,
+    I: Feed + Send + Drop + SaysWhy,
     A: Sink + Send + Drop + SaysWhy,
     D: Disk + Send + Drop + SaysWhy,
     N: Approaches + Drop + SaysWhy,
@@ -227,7 +228,7 @@ pub fn feed_over_sockets<
         + Print
         + Eprint
         + AllocGlobal,
-    I: Source + Send + Drop + SaysWhy,
+    I: Feed + Send + Drop + SaysWhy,
     A: Sink + Send + Drop + SaysWhy,
     D: Disk + Send + Drop + SaysWhy,
 >(

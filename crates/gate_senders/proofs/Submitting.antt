@@ -1,6 +1,6 @@
 -- What a pass has seen, made and lost, once its entry stands or was refused.
 use Rattle.std.proofs.Common.{◌≡◌, ◌≢◌, ℕ, ◌+◌, ◌≤◌, Bool, true, false, not, ◌&&◌, ◌||◌, List, [], ◌∷◌, ◌++◌, length, drop, Result, Ok, Err, OnOk, IfOk, IfErr, IsErrOf, ⊎_elim, refl, sym, ap, ◌∙◌, subst, arith}
-use Rattle.session_model.specs.Journal.{Entry, History, OutboxRecord, entry, finish, BeginsHistory}
+use Rattle.session_model.specs.Journal.{Entry, History, OutboxRecord, entry, entries_of, finish, BeginsHistory}
 use Rattle.session_model.proofs.Lists.{drop_length}
 use Rattle.jr_boxes.specs.declared.faults.SubmitFault.{SubmitFault}
 use Rattle.jr_boxes.specs.declared.faults.SubmitFault.TheVariants as submit
@@ -48,6 +48,11 @@ loses p q last a b entered is none = ap (λ (r : Part). r.lost) (after_turn p q 
 -- it made nothing, and no mark, where the value has the same entries, and the same history
 pub same_mine : (p q last : Part) (a b : Account) → Entered p q a → last ≡ left b q → b.history.made ≡ a.history.made → last.mine ≡ p.mine
 same_mine p q last a b entered is same = ap (λ (r : Part). r.mine) (after_turn p q last a b entered is) ∙ nothing_lost p.mine a.history.made b.history.made same
+
+-- its own entries are then those of its number in what it has seen
+pub mine_seen : (p q last : Part) (a b : Account) → Entered p q a → last ≡ left b q → b.history ≡ a.history → last.mine ≡ entries_of last.seen.made last.number
+mine_seen p q last a b entered is same = subst (λ (r : Part). r.mine ≡ entries_of r.seen.made r.number) (sym (after_turn p q last a b entered is))
+    (nothing_lost p.mine a.history.made b.history.made (ap (λ (h : History). h.made) same) ∙ entered.found.mine ∙ ap (λ (h : History). entries_of h.made p.number) (sym same))
 
 pub same_ended : (p q last : Part) (a b : Account) → Entered p q a → last ≡ left b q → b.history ≡ a.history → last.ended ≡ p.ended
 same_ended p q last a b entered is same =

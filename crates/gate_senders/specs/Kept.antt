@@ -6,6 +6,7 @@ use Rattle.jr_dated.specs.declared.journal.Journal.{Ghosts}
 use Rattle.jr_record.specs.declared.record.Record.TheVariants as kinds
 use Rattle.jr_dated.specs.Images.{record_size, journal_size}
 use Rattle.jr_kept.specs.declared.outbox.Outbox.{Outbox}
+use Rattle.jr_kept.specs.declared.sent.Sent.{Sent}
 use Rattle.jr_boxes.specs.Outboxes.{records_of_history}
 use Rattle.jr_kept.specs.Entries.{entries_behind, entries_made}
 use Rattle.jr_kept.specs.Outbox.{limits_of, faults_of, is_broken}
@@ -79,6 +80,15 @@ messages h from most = numbered_from from (take most (drop (from - 1) h.made))
 pub record GivenOf (tells : Type 0) (h : History) (from most : ℕ) (list : List Numbered) : Type 0 where
   pub numbers : map (λ (m : Numbered). m.number) list ≡ map (λ (m : Numbered). m.number) (messages h from most)
   pub told : tells → list ≡ messages h from most
+
+-- an entry as it was read
+abbrev pub entry_of : Sent → Entry
+entry_of s = record { sender = s.sender; own_number = s.own_number; payload = s.payload }
+
+-- what was read of the entries of a history from a number on, at most so many: as many; and just these, where the disk tells its content
+pub record SentOf (tells : Type 0) (h : History) (from most : ℕ) (list : List Sent) : Type 0 where
+  pub count : length list ≡ length (take most (drop (from - 1) h.made))
+  pub told : tells → map entry_of list ≡ take most (drop (from - 1) h.made)
 
 -- the record at this place, from 0 on, has changed: one of these messages, and the disk does not tell its content
 pub record ChangedIn (tells : Type 0) (h : History) (from most at : ℕ) : Type 0 where

@@ -1,7 +1,7 @@
 //! The gate: senders submit messages at once, each by its pass, and the connection fetches what is stable.
 ghost use Rattle.std.specs.List.{AllByRecursion};
 ghost use Rattle.std.specs.Prelude.{◌≡◌, ◌≢◌, ℕ, ◌+◌, ◌<◌, ◌≤◌, ◌^◌, true, false, [], ◌∷◌, length, take, Some, None, Err, IfOk, IfErr, IfSome, IfNone, OnOk, IsErrOf, All};
-ghost use Rattle.session_model.specs.Journal.{entry, finish};
+ghost use Rattle.session_model.specs.Journal.{InOrder, entries_of, entry, finish};
 ghost use Rattle.fixp_msgs.specs.Payload.{IsApplication};
 ghost use Rattle.jr_record.specs.Records.{IsPayload};
 ghost use Rattle.jr_kept.specs.Outbox.{is_broken};
@@ -12,7 +12,7 @@ ghost use Rattle.jr_dated.specs.declared.faults.FetchFault.TheVariants as fetchi
 ghost use Rattle.gate_turn.specs.Views.{HasFailed, looked_at};
 ghost use Rattle.gate_turn.specs.Places.{known};
 ghost use Rattle.gate_turn.specs.Calls.{IsFree, HasTurn, opened_with};
-ghost use Rattle.gate_senders.specs.Kept.{next_entry, GivenOf, ChangedIn, IsFullAt};
+ghost use Rattle.gate_senders.specs.Kept.{next_entry, GivenOf, SentOf, ChangedIn, IsFullAt};
 ghost use Rattle.gate_senders.specs.Told.{told_by};
 ghost use Rattle.gate_senders.specs.Shown.{TakesTurn, Submitted, SubmittedAll, IsFullBehind, LosesAll, Finished, entry_after};
 
@@ -21,7 +21,7 @@ use crate::submission::Submission;
 use gate_turn::{Held, Logged, Pass, Passes, TurnLock};
 use gw_outside::Bytes;
 use jr_dated::{FetchFault, Journal};
-use jr_kept::{CloseFault, Outbox, Stable, SubmitFault};
+use jr_kept::{CloseFault, Outbox, Sent, Stable, SubmitFault};
 use std::alloc::Global;
 use std::sync::Wait;
 
@@ -221,6 +221,43 @@ impl<J: Journal> Gate<J> {
     {
         let Held { mut value } = self.lock.enter_next(pass, rt);
         let answer = value.fetch(self.alloc, from, most);
+        self.lock.leave(pass, Held { value });
+        answer
+    }
+
+    /// The entries from a number on, at most `most` of them and fewer only where the history ends, each with its sender and its number among the sender's, as
+    /// reads give them now. It waits for its turn behind those who wait. What was seen then has less than 2^40 entries, in which each sender's count from 1 on,
+    /// and the pass's own are those of its number.
+    ///
+    /// # Errors
+    ///
+    /// As those of `fetch`.
+    pub fn sent<R: Wait>(
+        &self,
+        pass: &mut Pass<Kept<J>>,
+        from: u64,
+        most: u16,
+        rt: &R,
+    ) -> Result<Vec<Sent>, FetchFault>
+        requires own { IsPassAt self.now pass.old }
+        requires free { IsFree pass.old }
+        requires least { 1 ≤ from }
+        ensures own { IsPassAt self.now pass.new }
+        ensures free { IsFree pass.new }
+        ensures turn { TakesTurn (known pass.old) (known pass.new) }
+        ensures given { IfOk result (λ list. SentOf J.tells (known pass.new).seen from most list.items) }
+        ensures applications { IfOk result (λ list. All (λ s. IsApplication s.payload) list.items) }
+        ensures changed { (at : ℕ) → result ≡ Err (fetching.Changed at) → ChangedIn J.tells (known pass.new).seen from most at }
+        ensures mine { (known pass.new).mine ≡ entries_of (known pass.new).seen.made (known pass.new).number }
+        ensures in_order { InOrder (known pass.new).seen.made }
+        ensures few { length (known pass.new).seen.made < 2 ^ 40 }
+        ensures same { ((known pass.new).mine ≡ (known pass.old).mine) × ((known pass.new).ended ≡ (known pass.old).ended) }
+        ensures unlost { (known pass.new).lost ≡ (known pass.old).lost }
+        ensures fault { IsErrOf result fetching.Fault → HasFailed (known pass.old).faults (known pass.new).faults }
+        ensures broken { result ≡ Err fetching.Broken → HasFailed (known pass.new).opening.faults (known pass.new).faults }
+    {
+        let Held { mut value } = self.lock.enter(pass, rt);
+        let answer = value.sent(self.alloc, from, most);
         self.lock.leave(pass, Held { value });
         answer
     }

@@ -12,14 +12,14 @@ ghost use Rattle.jr_boxes.specs.declared.faults.SubmitFault.TheVariants as submi
 ghost use Rattle.jr_boxes.specs.declared.faults.CloseFault.TheVariants as closing;
 ghost use Rattle.jr_dated.specs.declared.faults.FetchFault.TheVariants as fetching;
 ghost use Rattle.gate_turn.specs.Views.{HasFailed};
-ghost use Rattle.gate_senders.specs.Kept.{account, next_entry, next_entries, GivenOf, ChangedIn, StaysSound, IsFullAt, IsCutAt, RefusesAll};
+ghost use Rattle.gate_senders.specs.Kept.{account, next_entry, next_entries, entry_of, GivenOf, SentOf, ChangedIn, StaysSound, IsFullAt, IsCutAt, RefusesAll};
 
 use crate::submission::Submission;
 use crate::told::{Says, Told};
 use gate_turn::Logged;
 use gw_outside::Bytes;
 use jr_dated::{FetchFault, Journal};
-use jr_kept::{CloseFault, Outbox, Stable, SubmitFault};
+use jr_kept::{CloseFault, Outbox, Sent, Stable, SubmitFault};
 use std::alloc::Global;
 
 /// An outbox, with the history that is told of it, and the records whose adding failed: every stop leaves that history, and
@@ -200,6 +200,50 @@ impl<J: Journal> Kept<J> {
         for number in from..end {
             let entry = self.stable(number)?;
             let Ok(()) = list.push(entry) else {
+                return Err(FetchFault::Memory);
+            };
+        }
+        Ok(list)
+    }
+
+    /// The entry of a number from 1 to the last, with its sender and its number among the sender's, as a read gives them now.
+    fn entry(&mut self, number: u64) -> Result<Sent, FetchFault>
+        requires least { 1 ≤ number }
+        requires within { number ≤ length (told_by self.old).history.made }
+        ensures application { IfOk result (λ s. IsApplication s.payload) }
+        ensures entry { IfOk result (λ s. J.tells → slice_get (told_by self.old).history.made (number - 1) ≡ Some (entry_of s)) }
+        ensures changed { (at : ℕ) → result ≡ Err (fetching.Changed at) → (at + 1 ≡ number) × (J.tells → ⊥) }
+        ensures whole { OnOk result ((told_by self.new).broken ≢ true) }
+        ensures same { ((told_by self.new).history ≡ (told_by self.old).history) × ((told_by self.new).refused ≡ (told_by self.old).refused) }
+        ensures sound { StaysSound (told_by self.old) (told_by self.new) }
+        ensures fault { IsErrOf result fetching.Fault → HasFailed (told_by self.old).faults (told_by self.new).faults }
+        ensures broken { result ≡ Err fetching.Broken → (told_by self.old).broken ≡ true }
+    {
+        self.outbox.entry(number)
+    }
+
+    /// The entries from a number on, at most so many, with their senders, as reads give them now.
+    pub(crate) fn sent(
+        &mut self,
+        alloc: Global,
+        from: u64,
+        most: u16,
+    ) -> Result<Vec<Sent>, FetchFault>
+        requires least { 1 ≤ from }
+        ensures given { IfOk result (λ list. SentOf J.tells (told_by self.old).history from most list.items) }
+        ensures applications { IfOk result (λ list. All (λ s. IsApplication s.payload) list.items) }
+        ensures changed { (at : ℕ) → result ≡ Err (fetching.Changed at) → ChangedIn J.tells (told_by self.old).history from most at }
+        ensures few { length (told_by self.old).history.made < 2 ^ 40 }
+        ensures same { ((told_by self.new).history ≡ (told_by self.old).history) × ((told_by self.new).refused ≡ (told_by self.old).refused) }
+        ensures sound { StaysSound (told_by self.old) (told_by self.new) }
+        ensures fault { IsErrOf result fetching.Fault → HasFailed (told_by self.old).faults (told_by self.new).faults }
+        ensures broken { result ≡ Err fetching.Broken → (told_by self.old).broken ≡ true }
+    {
+        let end = from.saturating_add(u64::from(most)).min(self.length() + 1);
+        let mut list = Vec::with_capacity(alloc, end.saturating_sub(from) as usize)?;
+        for number in from..end {
+            let sent = self.entry(number)?;
+            let Ok(()) = list.push(sent) else {
                 return Err(FetchFault::Memory);
             };
         }

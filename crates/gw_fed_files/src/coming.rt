@@ -3,12 +3,15 @@
 ghost use Rattle.std.specs.Prelude.{◌≡◌, ◌≤◌, None, length, IfOk};
 ghost use Rattle.gw_outside.specs.Faults.{HasRisen};
 
+use crate::followed::Followed;
 use crate::waited::{Waited, poll_of, read_some, writer_of};
+use gw_fed::Feed;
 use gw_outside::{Failed, Source};
 use std::alloc::Global;
 use std::fs::{self, File, Files};
 use std::io;
 use std::net::Net;
+use std::os::unix::fs::FileTypeExt;
 use std::sync::atomic::AtomicBool;
 
 /// The path of standard input.
@@ -21,10 +24,12 @@ enum Input {
     Plain(File),
     /// It is waited for.
     Waited(Waited),
+    /// It may grow.
+    Followed(Followed),
 }
 
 /// A file that is read as it comes; `-` is standard input. It is opened at the first read. A read waits, in short pieces, until something is there;
-/// where `over` is set it gives nothing, as at the end.
+/// where `over` is set it gives nothing, as at the end. A FIFO that has a name gives nothing each time that its last writer went, and a regular file is followed.
 #[derive(Drop)]
 pub struct ComingFile<'a, R> {
     rt: &'a R,
@@ -36,13 +41,22 @@ pub struct ComingFile<'a, R> {
     faults: u64,
 }
 
-/// Opens the file at a path. Of standard input no writer is held: it has one, or is at its end.
+/// Opens the file at a path. Of standard input no writer is held, and it is not followed, whatever file it is: it has a writer, or is at its end.
 fn opened<R: Net + Files<File = File>>(rt: &R, alloc: Global, path: &str) -> io::Result<Input> {
-    let held = writer_of(rt, path)?;
+    let has_name = path != STANDARD_INPUT;
+    let kind = fs::metadata(rt, path)?.file_type();
+    let comes_back = has_name && kind.is_fifo();
+    let writer = if comes_back {
+        writer_of(rt, path)
+    } else {
+        None
+    };
     let file = fs::open(rt, path)?;
-    let writer = if path == STANDARD_INPUT { None } else { held };
     match poll_of(rt, &file) {
-        Some(poll) => Ok(Input::Waited(Waited::new(alloc, file, writer, poll)?)),
+        Some(poll) => Ok(Input::Waited(Waited::new(
+            alloc, file, comes_back, writer, poll,
+        )?)),
+        None if has_name && kind.is_file() => Ok(Input::Followed(Followed::new(rt, alloc, file)?)),
         None => Ok(Input::Plain(file)),
     }
 }
@@ -100,7 +114,8 @@ impl<R: Net + Files<File = File>> ComingFile<'_, R> {
         };
         let outcome = match &mut input {
             Input::Plain(file) => read_some(file, into),
-            Input::Waited(waited) => waited.read(self.over, into),
+            Input::Waited(waited) => waited.read(self.rt, self.alloc, self.over, into),
+            Input::Followed(followed) => followed.read(self.over, into),
         };
         self.input = Some(input);
         outcome
@@ -116,6 +131,16 @@ impl<R: Net + Files<File = File>> Source for ComingFile<'_, R> {
         match self.read(into) {
             Ok(count) => Ok(count),
             Err(error) => Err(self.failed(error)),
+        }
+    }
+}
+
+impl<R: Net + Files<File = File>> Feed for ComingFile<'_, R> {
+    fn ends(&self) -> bool {
+        match &self.input {
+            None | Some(Input::Plain(_)) => true,
+            Some(Input::Waited(waited)) => !waited.comes_back(),
+            Some(Input::Followed(_)) => false,
         }
     }
 }

@@ -5,11 +5,10 @@ ghost use Rattle.std.specs.Prelude.{◌≤◌, length, IfOk};
 use mio::unix::SourceFd;
 use mio::{Events, Interest, Poll, Token};
 use std::alloc::Global;
-use std::fs::{self, File, Files, OpenOptions};
+use std::fs::{File, Files, OpenOptions};
 use std::io::{self, ErrorKind, Read};
 use std::net::Net;
 use std::os::fd::AsRawFd;
-use std::os::unix::fs::FileTypeExt;
 use std::sync::atomic::{AtomicBool, Ordering};
 use std::time::Duration;
 
@@ -23,7 +22,9 @@ const FILE: Token = Token(0);
 #[derive(Drop)]
 pub(crate) struct Waited {
     file: File,
-    /// A writer of a FIFO, held until bytes come: without it the FIFO would be at its end before the first writer opened it.
+    /// Whether it is a FIFO, to which another writer may come.
+    comes_back: bool,
+    /// A writer of a FIFO, held until bytes come: without it the FIFO would be at its end before a writer opened it.
     writer: Option<File>,
     poll: Poll,
     events: Events,
@@ -43,16 +44,9 @@ pub(crate) fn read_some(file: &mut File, into: &mut [u8]) -> io::Result<usize>
     Err(io::Error::from(ErrorKind::Interrupted))
 }
 
-/// The writer that is held of a FIFO, so that opening it does not wait for one; `None` of another file.
-pub(crate) fn writer_of<R: Files<File = File>>(rt: &R, path: &str) -> io::Result<Option<File>> {
-    if !fs::metadata(rt, path)?.file_type().is_fifo() {
-        return Ok(None);
-    }
-    match OpenOptions::new().read(true).write(true).open(rt, path) {
-        Ok(file) => Ok(Some(file)),
-        // It may be read and not written: then opening it waits for a writer.
-        Err(_) => Ok(None),
-    }
+/// A writer that is held of the FIFO at a path, so that opening it does not wait for one. There is none where it may be read and not written.
+pub(crate) fn writer_of<R: Files<File = File>>(rt: &R, path: &str) -> Option<File> {
+    OpenOptions::new().read(true).write(true).open(rt, path).ok()
 }
 
 /// What to wait for a file with, if it is one that can be waited for: of a regular file all is there at once.
@@ -68,21 +62,37 @@ pub(crate) fn poll_of<R: Net>(rt: &R, file: &File) -> Option<Poll> {
     }
 }
 
+/// Waits for nothing, a short while.
+pub(crate) fn rest(poll: &mut Poll, events: &mut Events) -> io::Result<()> {
+    match poll.poll(events, Some(Duration::from_millis(WAIT))) {
+        Ok(()) => Ok(()),
+        Err(error) if error.kind() == ErrorKind::Interrupted => Ok(()),
+        Err(error) => Err(error),
+    }
+}
+
 impl Waited {
-    /// A file that is waited for with this; of a FIFO a writer is held.
+    /// A file that is waited for with this; of a FIFO to which another writer may come, one is held.
     pub(crate) fn new(
         alloc: Global,
         file: File,
+        comes_back: bool,
         writer: Option<File>,
         poll: Poll,
     ) -> io::Result<Waited> {
         let events = Events::with_capacity(alloc, 1)?;
         Ok(Waited {
             file,
+            comes_back,
             writer,
             poll,
             events,
         })
+    }
+
+    /// Whether another writer may come to it.
+    pub(crate) fn comes_back(&self) -> bool {
+        self.comes_back
     }
 
     /// Waits a short while. Answers whether there is something to read, or the end.
@@ -116,13 +126,35 @@ impl Waited {
         Ok(false)
     }
 
-    /// Reads as soon as there is something, or the end; nothing where it was told before that nobody asks any more.
-    pub(crate) fn read(&mut self, over: &AtomicBool, into: &mut [u8]) -> io::Result<usize>
+    /// Holds a writer of the FIFO anew, whatever stands at its path by now. Where there is none to be had, the FIFO stays at its end until another writer comes,
+    /// and is looked at each short while.
+    fn hold<R: Net + Files<File = File>>(&mut self, rt: &R, alloc: Global) -> io::Result<()> {
+        let path = format!(in alloc; "/proc/self/fd/{}", self.file.as_raw_fd())?;
+        self.writer = writer_of(rt, path.as_str());
+        if self.writer.is_none() {
+            rest(&mut Poll::new(rt)?, &mut self.events)?;
+        }
+        Ok(())
+    }
+
+    /// Reads as soon as there is something, or the end; nothing where it was told before that nobody asks any more. Behind the end of a FIFO a writer is held
+    /// until bytes come again.
+    pub(crate) fn read<R: Net + Files<File = File>>(
+        &mut self,
+        rt: &R,
+        alloc: Global,
+        over: &AtomicBool,
+        into: &mut [u8],
+    ) -> io::Result<usize>
         ensures count { IfOk result (λ n. n ≤ length into.new) }
     {
         if !self.wait(over)? {
             return Ok(0);
         }
-        read_some(&mut self.file, into)
+        let count = read_some(&mut self.file, into)?;
+        if count == 0 && self.comes_back {
+            self.hold(rt, alloc)?;
+        }
+        Ok(count)
     }
 }

@@ -105,16 +105,32 @@ next_given read lines old new found part behind h split feedless ends front wait
 
 -- what stands behind the last line feed is given
 pub last_given : (read : List ℕ) (lines : List (List ℕ)) (old new : Reading) (found : Found) → HasGiven read lines old → old.waiting ≡ [] → (old.front ≡ Some [] → ⊥)
-    → ToldOf old.front found new.line → new.number ≡ min (old.number + 1) (2 ^ 64 - 1) → GivesLast read lines found new
-last_given read lines old new found h none some tells number = record {
+    → ToldOf old.front found new.line → new.front ≡ Some [] → new.waiting ≡ [] → new.number ≡ min (old.number + 1) (2 ^ 64 - 1) → GivesLast read lines found new
+last_given read lines old new found h none some tells front waits number = record {
   rest = h.front;
   some = some_bytes h.front (λ empty. some (h.kept_is ∙ ap kept empty));
-  bytes = h.bytes ∙ ap (λ (bs : List ℕ). with_feeds lines (h.front ++ bs)) none ∙ ap (with_feeds lines) (append-nil h.front);
+  bytes = split;
   feedless = h.feedless;
   told = told_last found h.front new.line (subst (λ (f : Option (List ℕ)). ToldOf f found new.line) h.kept_is tells);
-  counted = capped new.number old.number (length lines) (2 ^ 64 - 1) h.counted number;
+  counted = count;
+  goes_on = record {
+    front = [];
+    bytes =
+        ap (λ (bs : List ℕ). bs ++ 10 ∷ []) split ∙ more_behind lines h.front (10 ∷ []) ∙ sym (line_behind lines h.front [])
+        ∙ ap (with_feeds (lines ++ h.front ∷ [])) (sym waits);
+    each = All-push IsFeedless lines h.front h.each h.feedless;
+    feedless = none_feedless;
+    kept_is = front;
+    counted = count ∙ ap (λ (n : ℕ). min n (2 ^ 64 - 1)) (sym (length-append lines (h.front ∷ [])));
+  };
 }
   where
+    split : read ≡ with_feeds lines h.front
+    split = h.bytes ∙ ap (λ (bs : List ℕ). with_feeds lines (h.front ++ bs)) none ∙ ap (with_feeds lines) (append-nil h.front)
+
+    count : new.number ≡ min (length lines + 1) (2 ^ 64 - 1)
+    count = capped new.number old.number (length lines) (2 ^ 64 - 1) h.counted number
+
     some_bytes : (front : List ℕ) → (front ≡ [] → ⊥) → 0 < length front
     some_bytes [] e = absurd (e refl)
     some_bytes (b ∷ bs) e = omega arith

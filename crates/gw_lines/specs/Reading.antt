@@ -31,7 +31,7 @@ pub record GivesNext (read : List ℕ) (lines : List (List ℕ)) (found : Found)
   pub told : IsTold found r.line (unreturned line) line
   pub given : HasGiven read (lines ++ line ∷ []) r
 
--- what stands behind the last feed is given as a line, as it stands
+-- What stands behind the last feed is given as a line, as it stands. Who reads on, from another writer, has a reader that goes on as behind a line feed
 pub record GivesLast (read : List ℕ) (lines : List (List ℕ)) (found : Found) (r : Reading) : Type 0 where
   pub rest : List ℕ
   pub some : 0 < length rest
@@ -39,3 +39,4 @@ pub record GivesLast (read : List ℕ) (lines : List (List ℕ)) (found : Found)
   pub feedless : IsFeedless rest
   pub told : IsTold found r.line rest rest
   pub counted : r.number ≡ min (length lines + 1) (2 ^ 64 - 1)
+  pub goes_on : HasGiven (read ++ 10 ∷ []) (lines ++ rest ∷ []) r

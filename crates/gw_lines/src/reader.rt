@@ -142,12 +142,14 @@ impl LineReader {
         Some(self.give())
     }
 
-    /// What stands behind the last line feed, as a line; none where nothing does. It is the last line of a source that is at its end.
+    /// What stands behind the last line feed, as a line; none where nothing does. It is the last line of a source that is at its end; of one that goes on with what
+    /// another writer writes, the next line begins behind it, as behind a line feed.
     pub fn last(&mut self) -> Option<Found>
         requires { self.old.waiting ≡ [] }
         ensures line { IfSome result (λ found. (read : List ℕ) (lines : List (List ℕ)) → HasGiven read lines self.old → GivesLast read lines found self.new) }
         ensures none { IfNone result ((read : List ℕ) (lines : List (List ℕ)) → HasGiven read lines self.old → read ≡ with_feeds lines []) }
         ensures same { IfNone result (self.new ≡ self.old) }
+        ensures looked { self.new.waiting ≡ [] }
     {
         if self.front.is_empty() {
             return None;

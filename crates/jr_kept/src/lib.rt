@@ -10,9 +10,11 @@ mod inbox;
 mod messages;
 mod noting;
 mod outbox;
+mod sent;
 mod stable;
 
 pub use inbox::Inbox;
 pub use jr_boxes::{BoxFault, CloseFault, SubmitFault};
 pub use outbox::Outbox;
+pub use sent::Sent;
 pub use stable::Stable;

@@ -5,6 +5,7 @@ ghost use Rattle.fixp_msgs.specs.Payload.{IsApplication};
 ghost use Rattle.jr_record.specs.Records.{IsPayload, IsRecord};
 ghost use Rattle.jr_record.specs.declared.record.Record.TheVariants as kinds;
 
+use crate::sent::Sent;
 use fixp_msgs::is_application;
 use gw_outside::Bytes;
 use jr_record::Record;
@@ -26,19 +27,23 @@ pub fn entry_in(r: Record) -> Option<Bytes>
     }
 }
 
-/// The sender and the payload of an entry, if that is one of an application message.
-pub fn sent_in(r: Record) -> Option<(u16, Bytes)>
-    ensures found { IfSome result (λ p. IsApplication p.1 × (own_number : ℕ) × (r ≡ kinds.Entry p.0 own_number p.1)) }
+/// An entry as it was recorded, if it is one of an application message.
+pub fn sent_in(r: Record) -> Option<Sent>
+    ensures found { IfSome result (λ s. IsApplication s.payload × (r ≡ kinds.Entry s.sender s.own_number s.payload)) }
     ensures none { IfNone result ((sender own_number : ℕ) (payload : List ℕ) → IsApplication payload → r ≡ kinds.Entry sender own_number payload → ⊥) }
 {
     match r {
         Record::Entry {
             sender,
+            own_number,
             payload,
-            ..
         } => {
             if is_application(payload.as_slice()) {
-                Some((sender, payload))
+                Some(Sent {
+                    sender,
+                    own_number,
+                    payload,
+                })
             } else {
                 None
             }

@@ -26,6 +26,7 @@ use crate::batch::{append_fitting, count_entries, entries, up_to};
 use crate::counting::count_records;
 use crate::faults::{not_accepted, not_closed, not_entered};
 use crate::messages::{entry_in, sent_in};
+use crate::sent::Sent;
 use crate::stable::Stable;
 use gw_outside::Bytes;
 use jr_boxes::{BoxFault, CloseFault, SubmitFault, Tally};
@@ -278,18 +279,18 @@ impl<J: Journal> Outbox<J> {
         }
     }
 
-    /// The sender and the payload of the entry of a number from 1 to the front, as a read gives them now: those that every later stop
+    /// The entry of a number from 1 to the front, with its sender and its number among the sender's, as a read gives them now: those that every later stop
     /// leaves, where the disk tells its content. It changes neither the history nor what a stop may leave.
     ///
     /// # Errors
     /// As those of `stable`.
-    pub fn entry(&mut self, number: u64) -> Result<(u16, Bytes), FetchFault>
+    pub fn entry(&mut self, number: u64) -> Result<Sent, FetchFault>
         requires least { 1 ≤ number }
         requires within { number ≤ front_of self.old }
-        ensures sender { IfOk result (λ p. IsSender p.0) }
-        ensures application { IfOk result (λ p. IsApplication p.1) }
-        ensures entry { IfOk result (λ p. J.is_told (journal_of self.old) → (h : History) → StandsFor self.old h
-            → (own_number : ℕ) × (slice_get (records_of_history h) (number - 1) ≡ Some (kinds.Entry p.0 own_number p.1))) }
+        ensures sender { IfOk result (λ s. IsSender s.sender) }
+        ensures application { IfOk result (λ s. IsApplication s.payload) }
+        ensures entry { IfOk result (λ s. J.is_told (journal_of self.old) → (h : History) → StandsFor self.old h
+            → slice_get (records_of_history h) (number - 1) ≡ Some (kinds.Entry s.sender s.own_number s.payload)) }
 
         ensures broken { (result ≡ Err fetch.Broken) ↔ (is_broken self.old ≡ true) }
         ensures changed { (at : ℕ) → result ≡ Err (fetch.Changed at) → (at + 1 ≡ number) × (J.is_told (journal_of self.old) → ⊥) }

@@ -9,7 +9,7 @@ use Rattle.sofh_frame.specs.Framing.{encoding_of, order_of}
 use Rattle.fixp_msgs.specs.Header.{kind_of}
 use Rattle.fixp_msgs.specs.Payload.{IsApplication}
 use Rattle.plan_feed.specs.declared.wrong.Wrong.{Wrong}
-use Rattle.plan_feed.specs.declared.wrong.Wrong.TheVariants.{NoSenders, Form, Sender, Digits, Size, Encoding, Session}
+use Rattle.plan_feed.specs.declared.wrong.Wrong.TheVariants.{NoSenders, Form, Sender, Number, Digits, Size, Encoding, Session}
 use Rattle.plan_feed.specs.Wrongs.{HasSession, IsLacking}
 
 two_bytes : (n : ℕ) → length (to_be_bytes w16 n) ≡ 2
@@ -35,6 +35,7 @@ pub lacks_nothing : (payload : List ℕ) (wrong : Wrong) → IsLacking payload w
 lacks_nothing payload NoSenders l a = l
 lacks_nothing payload Form l a = l
 lacks_nothing payload (Sender number) l a = l
+lacks_nothing payload (Number number) l a = l
 lacks_nothing payload Digits l a = l
 lacks_nothing payload (Size bytes) l a =
     let parts : 2 + length a.frame.message ≡ length payload = sym (length-append (to_be_bytes w16 (encoding_of a.frame.order)) a.frame.message) ∙ ap length a.spelled in

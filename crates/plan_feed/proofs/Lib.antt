@@ -1,3 +1,4 @@
 mod Judged
 pub mod Lines
 mod Parts
+mod Reading

@@ -1,11 +1,12 @@
 //! What a line says.
 
-ghost use Rattle.std.specs.Prelude.{◌≡◌, ℕ, ◌+◌, ◌<◌, ◌≤◌, ◌∷◌, ◌++◌, List, length, decimal, Ok, None, IfOk, IfErr, IfSome, IfNone, MatchOption};
+ghost use Rattle.std.specs.Prelude.{◌≡◌, ◌↔◌, ℕ, ◌+◌, ◌<◌, ◌≤◌, ◌∷◌, ◌++◌, List, length, codes, decimal, Ok, None, IfOk, IfErr, IfSome, IfNone, IsTrue, MatchOption};
 ghost use Rattle.std.specs.Int.{w16, to_be_bytes};
 ghost use Rattle.hex.specs.Hex.{decode_of};
 ghost use Rattle.sofh_frame.specs.Framing.{order_of};
 ghost use Rattle.fixp_msgs.specs.Payload.{IsApplication};
-ghost use Rattle.plan_feed.specs.Wrongs.{IsLacking, IsWrong, Says};
+ghost use Rattle.plan_feed.specs.Lines.{finish_line};
+ghost use Rattle.plan_feed.specs.Wrongs.{IsLacking, IsRest, IsWrong, NamesSender, Says};
 
 use crate::wrong::Wrong;
 use fixp_msgs::is_application;
@@ -14,17 +15,33 @@ use sbe_value::Bytes;
 use std::alloc::{AllocError, Global};
 use text_words::number_before;
 
+/// The greatest number that a message has among its sender's: as many as an outbox has at most.
+const MOST_NUMBER: u64 = 67_108_864;
+
 /// What a line says.
 #[derive(Drop)]
 pub enum Fed {
-    /// It gives the payload of an application message to this sender.
-    Payload { sender: u16, payload: Bytes },
-    /// It gives none.
+    /// It gives the payload of an application message to this sender: as its message of the number that the line names, from 1 to 2^26, or as its next.
+    Payload {
+        sender: u16,
+        own_number: Option<u64>,
+        payload: Bytes,
+    },
+    /// Nothing more comes.
+    Finish,
+    /// It says neither.
     Wrong(Wrong),
 }
 
-/// The sender that a line names, and the digits behind the blank.
-fn sender_and_digits(senders: u16, line: &[u8]) -> Result<(u16, &[u8]), Wrong>
+/// Whether a line says that nothing more comes.
+fn is_finish(line: &[u8]) -> bool
+    ensures { IsTrue result ↔ (line.now ≡ finish_line) }
+{
+    line == b"finish".as_slice()
+}
+
+/// The sender that a line names, and what stands behind the blank.
+fn sender_and_rest(senders: u16, line: &[u8]) -> Result<(u16, &[u8]), Wrong>
     ensures range { IfOk result (λ r. (1 ≤ r.0) × (r.0 ≤ senders)) }
     ensures found { IfOk result (λ r. line.now ≡ decimal r.0 ++ 32 ∷ r.1.now) }
     ensures wrong { IfErr result (IsWrong senders line.now) }
@@ -34,11 +51,28 @@ fn sender_and_digits(senders: u16, line: &[u8]) -> Result<(u16, &[u8]), Wrong>
     }
     match number_before(line, b' ') {
         None => Err(Wrong::Form),
-        Some((number, digits)) => {
+        Some((number, rest)) => {
             if number < 1 || number > u64::from(senders) {
                 Err(Wrong::Sender { number })
             } else {
-                Ok((number as u16, digits))
+                Ok((number as u16, rest))
+            }
+        }
+    }
+}
+
+/// The number of a message at the front of what stands behind the sender, if there is one, and the digits behind it.
+fn number_and_digits(rest: &[u8]) -> Result<(Option<u64>, &[u8]), Wrong>
+    ensures found { IfOk result (λ r. IsRest r.0 rest.now r.1.now) }
+    ensures wrong { IfErr result (λ wrong. (senders : ℕ) (line : List ℕ) → NamesSender senders line rest.now → IsWrong senders line wrong) }
+{
+    match number_before(rest, b' ') {
+        None => Ok((None, rest)),
+        Some((number, digits)) => {
+            if number < 1 || number > MOST_NUMBER {
+                Err(Wrong::Number { number })
+            } else {
+                Ok((Some(number), digits))
             }
         }
     }
@@ -93,10 +127,18 @@ fn lacking(payload: &[u8]) -> Option<Wrong>
 ///
 /// # Errors
 /// Want of memory.
+#[tactic(auto, using(crate::proofs::Reading::wrong_behind, crate::proofs::Reading::no_pairs, crate::proofs::Reading::lacks, crate::proofs::Reading::gives))]
 pub fn read_line(alloc: Global, senders: u16, line: &[u8]) -> Result<Fed, AllocError>
     ensures exact { IfOk result (Says senders line.now) }
 {
-    let (sender, digits) = match sender_and_digits(senders, line) {
+    if is_finish(line) {
+        return Ok(Fed::Finish);
+    }
+    let (sender, rest) = match sender_and_rest(senders, line) {
+        Ok(found) => found,
+        Err(wrong) => return Ok(Fed::Wrong(wrong)),
+    };
+    let (own_number, digits) = match number_and_digits(rest) {
         Ok(found) => found,
         Err(wrong) => return Ok(Fed::Wrong(wrong)),
     };
@@ -104,7 +146,11 @@ pub fn read_line(alloc: Global, senders: u16, line: &[u8]) -> Result<Fed, AllocE
         return Ok(Fed::Wrong(Wrong::Digits));
     };
     match lacking(payload.as_slice()) {
-        None => Ok(Fed::Payload { sender, payload }),
+        None => Ok(Fed::Payload {
+            sender,
+            own_number,
+            payload,
+        }),
         Some(wrong) => Ok(Fed::Wrong(wrong)),
     }
 }

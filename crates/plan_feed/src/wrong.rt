@@ -1,7 +1,7 @@
 //! Why a line gives no payload to a sender, and the words for it.
 
-ghost use Rattle.std.specs.Prelude.{◌≡◌, ◌++◌, OnOk};
-ghost use Rattle.plan_feed.specs.declared.wrong.Wrong.TheVariants.{Form, Sender};
+ghost use Rattle.std.specs.Prelude.{◌≡◌, ℕ, ◌++◌, OnOk};
+ghost use Rattle.plan_feed.specs.declared.wrong.Wrong.TheVariants.{Form, Number, Sender};
 ghost use Rattle.plan_feed.specs.Wrongs.{encoding_words, session_words, size_words, wrong_words};
 
 use std::alloc::AllocError;
@@ -16,7 +16,9 @@ pub enum Wrong {
     Form,
     /// This number is none of a sender.
     Sender { number: u64 },
-    /// What stands behind the blank is not in pairs of hexadecimal digits.
+    /// This number behind the sender is none of a message.
+    Number { number: u64 },
+    /// What stands behind the numbers is not in pairs of hexadecimal digits.
     Digits,
     /// The payload has so many bytes, which are too few or too many.
     Size { bytes: u64 },
@@ -39,6 +41,7 @@ pub fn push_wrong(lines: &mut Vec<u8>, senders: u16, wrong: Wrong) -> Result<(),
         }
         Wrong::Form => push_form(lines, senders),
         Wrong::Sender { number } => push_sender(lines, senders, number),
+        Wrong::Number { number } => push_message(lines, number),
         Wrong::Digits => {
             lines.extend_from_slice(b"its payload is not in pairs of hexadecimal digits")
         }
@@ -62,6 +65,15 @@ fn push_sender(lines: &mut Vec<u8>, senders: u16, number: u64) -> Result<(), All
 {
     push_number(lines, b"sender ", number)?;
     push_number(lines, b" is not from 1 to ", u64::from(senders))?;
+    Ok(())
+}
+
+/// Adds that a number is none of a message.
+fn push_message(lines: &mut Vec<u8>, number: u64) -> Result<(), AllocError>
+    ensures { OnOk result ((senders : ℕ) → lines.new.items ≡ lines.old.items ++ wrong_words senders (Number number)) }
+{
+    push_number(lines, b"message ", number)?;
+    lines.extend_from_slice(b" is not from 1 to 67108864")?;
     Ok(())
 }
 

@@ -1,11 +1,11 @@
 -- The lines of INPUT that entries make (this project's profile).
-use Rattle.std.specs.Prelude.{ℕ, ◌+◌, ◌-◌, ◌^◌, min, List, [], ◌∷◌, ◌++◌, length, codes, decimal, slice_index}
-use Rattle.hex.specs.Hex.{encode_lower}
+use Rattle.std.specs.Prelude.{ℕ, ◌+◌, ◌-◌, ◌^◌, min, Option, None, Some, List, [], ◌∷◌, ◌++◌, length, decimal, slice_index}
 use Rattle.fixp_msgs.specs.Numbering.{payload_of}
 use Rattle.sbe_value.specs.declared.message.Message.{Message}
 use Rattle.sbe_layout.specs.declared.plan.Plan.{Plan}
 use Rattle.sbe_grammar.specs.Canonical.{canonical}
 use Rattle.plan_text.specs.Plans.{Gift, payloads_of_sender}
+use Rattle.plan_feed.specs.Lines.{finish_line, line_of}
 use Rattle.plan_lines.specs.declared.form.Form.{Form}
 use Rattle.plan_lines.specs.declared.form.Form.TheVariants.{Plain, Numbered}
 use Rattle.plan_lines.specs.Entries.{Entry, passes, names, gives, finishes}
@@ -50,14 +50,19 @@ first_of (Numbered firsts) sender = slice_index firsts (sender - 1)
 abbrev pub number_behind : Form → List Gift → ℕ → ℕ
 number_behind form before sender = min (first_of form sender + length (payloads_of_sender sender before)) (2 ^ 64 - 1)
 
--- the number of a message and a blank (32), where lines have it
+-- the number that a line names, where lines name one
+abbrev pub named_by : Form → ℕ → Option ℕ
+named_by Plain number = None
+named_by (Numbered firsts) number = Some number
+
+-- that number and a blank (32)
 abbrev pub number_part : Form → ℕ → List ℕ
 number_part Plain number = []
 number_part (Numbered firsts) number = decimal number ++ 32 ∷ []
 
--- the line of a message that has this number among its sender's: `S HEX` or `S K HEX`
+-- the line of a message that has this number among its sender's, as a feeding reads it
 abbrev pub gift_line : Form → ℕ → Gift → List ℕ
-gift_line form number g = decimal g.sender ++ 32 ∷ [] ++ number_part form number ++ encode_lower g.payload ++ 10 ∷ []
+gift_line form number g = line_of (named_by form number) g ++ 10 ∷ []
 
 -- the line of an entry behind others; one that says nothing and one that names a sender have none
 abbrev pub line_behind : Plan → Form → List Entry → Entry → List ℕ
@@ -65,7 +70,7 @@ line_behind plan form before passes = []
 line_behind plan form before (names sender) = []
 line_behind plan form before (gives message) =
     gift_line form (number_behind form (gifts_of plan before) (sender_behind before)) (gift_of plan (sender_behind before) message)
-line_behind plan form before finishes = codes "finish\n"
+line_behind plan form before finishes = finish_line ++ 10 ∷ []
 
 abbrev pub lines_behind : Plan → Form → List Entry → List Entry → List ℕ
 lines_behind plan form before [] = []

@@ -1,6 +1,6 @@
 //! Laws of the entries of texts, which have empty bodies.
 
-ghost use Rattle.plan_lines.specs.Laws.{OneReading, ReadsAsEncode, StrictIsPlanned};
+ghost use Rattle.plan_lines.specs.Laws.{LinesSay, OneReading, ReadsAsEncode, StrictIsPlanned};
 
 /// The lines of a text are those of one list of entries alone.
 pub fn one_reading()
@@ -15,4 +15,9 @@ pub fn reads_as_encode()
 /// Entries in the strict form are the entries that they are there, whatever a schema's names are.
 pub fn strict_is_planned()
     ensures law { StrictIsPlanned }
+{}
+
+/// The line of a message says that message to a feeding.
+pub fn lines_say()
+    ensures law { LinesSay }
 {}

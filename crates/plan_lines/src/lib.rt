@@ -12,5 +12,5 @@ mod stream;
 
 pub use end::{PlanEnd, Wrong};
 pub use form::{Form, SENDERS};
-pub use laws::{one_reading, reads_as_encode, strict_is_planned};
+pub use laws::{lines_say, one_reading, reads_as_encode, strict_is_planned};
 pub use stream::plan_messages;

@@ -65,8 +65,13 @@ pub fn fronts_of<J: Journal>(
     let mut fronts = open_fronts(alloc, plans)?;
     let count = outbox.front();
     for at in 0..count {
-        let (sender, payload) = outbox.entry(at + 1)?;
-        take_entry(plans, fronts.as_mut_slice(), sender, payload.as_slice());
+        let sent = outbox.entry(at + 1)?;
+        take_entry(
+            plans,
+            fronts.as_mut_slice(),
+            sent.sender,
+            sent.payload.as_slice(),
+        );
     }
     Ok(fronts)
 }

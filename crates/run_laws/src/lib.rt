@@ -15,7 +15,7 @@ pub use runs::{desks_complete, fresh_is_set_up, run_completes};
 pub use several::{
     boxes_are_left, closings_stand, desks_hold, desks_sample, fed_hold, going_on_sample,
     inputs_hold, kept_between, none_is_lost, out_tells, run_keeps, runs_go_on, runs_hold,
-    runs_sample, senders_hold,
+    runs_sample, senders_hold, told_once,
 };
 pub use timed::{
     done_is_whole, finish_is_whole, rest_is_whole, runs_end_in_time, runs_in_time_sample,

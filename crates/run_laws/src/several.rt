@@ -5,7 +5,7 @@ ghost use Rattle.cmd_session.specs.Outsides.{sees};
 ghost use Rattle.cmd_feed.specs.Outsides.{feed_sees};
 ghost use Rattle.run_laws.specs.DeskSamples.{DesksSample};
 ghost use Rattle.run_laws.specs.Desks.{DesksHold};
-ghost use Rattle.run_laws.specs.FedLaws.{FedHold};
+ghost use Rattle.run_laws.specs.FedLaws.{FedHold, ToldOnce};
 ghost use Rattle.run_laws.specs.GoingOn.{KeptBetween, RunsGoOn};
 ghost use Rattle.run_laws.specs.GoingOnSamples.{GoingOnSample};
 ghost use Rattle.run_laws.specs.Holding.{BoxesAreLeft, NoneIsLost, RunsHold};
@@ -97,6 +97,11 @@ pub fn boxes_are_left<S: Source, I: Source, K: Sink, A: Sink, D: Disk, N: Dialer
 /// what its sender had; and ACCEPTED took what came of the lines of INPUT, or a front of that where it, a journal or memory failed.
 pub fn fed_hold<S: Source, I: Source, K: Sink, A: Sink, D: Disk, N: Dialer, C: Clock>()
     ensures law { (keeps : Bool) → FedHold ⟦<SegJournal<D> as Journal>⟧ (feed_sees (sees S.Source K.Sink D.Disk N.Dialer N.Link.Link C.Clock) keeps I.Source A.Sink) }
+{}
+
+/// Of all fed runs of an end, no number was told on ACCEPTED for two messages.
+pub fn told_once<S: Source, I: Source, K: Sink, A: Sink, D: Disk, N: Dialer, C: Clock>()
+    ensures law { (keeps : Bool) → ToldOnce ⟦<SegJournal<D> as Journal>⟧ (feed_sees (sees S.Source K.Sink D.Disk N.Dialer N.Link.Link C.Clock) keeps I.Source A.Sink) }
 {}
 
 /// Behind any fed runs of an end, whatever front of OUT was left between two of them, an OUT that keeps what it takes tells of the first messages that

@@ -96,7 +96,9 @@ fn push_line<R: Files<File = File>, D: Disk + SaysWhy, N: SaysWhy>(
             outside.input.kept(),
             bad,
         ),
-        Status::Done | Status::Words | Status::Turns | Status::Memory => Ok(()),
+        Status::Done | Status::Words | Status::Turns | Status::InputEnded | Status::Memory => {
+            Ok(())
+        }
     }
 }
 

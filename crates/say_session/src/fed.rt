@@ -65,6 +65,14 @@ fn push_untaken<R: Files<File = File>, A: SaysWhy>(
     Ok(())
 }
 
+/// Adds that INPUT has ended, and what stands: all that was accepted.
+fn push_input_ended(line: &mut String, session: Session<'_>) -> Result<(), AllocError> {
+    push_place(line, session.input)?;
+    line.push_str(
+        "it ended, and no line finish stood in it: nothing marks the end of what is sent, and the same words go on with it",
+    )
+}
+
 /// Adds what is wrong; nothing where the status says all.
 fn push_line<R: Files<File = File>, I: SaysWhy, A: SaysWhy, D: Disk + SaysWhy, N: SaysWhy>(
     rt: &R,
@@ -101,6 +109,7 @@ fn push_line<R: Files<File = File>, I: SaysWhy, A: SaysWhy, D: Disk + SaysWhy, N
             *entries,
             *bytes,
         ),
+        Status::InputEnded => push_input_ended(line, session),
         Status::Done | Status::Words | Status::Turns | Status::Memory | Status::Message(_) => {
             Ok(())
         }

@@ -2,13 +2,15 @@
 
 use crate::words::lines::shown;
 use cases_words::{digits, halves, number};
-use conn_accepted::{Why, push_accepted_line, push_has_line, push_refused_line};
+use conn_accepted::{
+    Why, push_accepted_line, push_finished_line, push_has_line, push_refused_line,
+};
 use conn_tail::{cut_tail, read_tail};
 use fixp_msgs::is_application;
 use gw_appended_fakes::MemAppended;
 use gw_fakes::Calls;
 use gw_outside::push_all;
-use plan_feed::{Fed, Piece, Wrong, push_wrong, read_line};
+use plan_feed::{Fed, Piece, Standing, Wrong, place_among, push_wrong, read_line};
 use sbe_value::Bytes;
 use std::alloc::{AllocError, Global};
 
@@ -37,13 +39,28 @@ pub fn fed_line(alloc: Global, words: &str) -> Result<String, AllocError> {
     let senders = small(senders);
     let line = text(alloc, parts)?;
     match read_line(alloc, senders, line.as_slice())? {
-        Fed::Payload { sender, payload } if payload.len() > 20 => {
-            format!(in alloc; "fed {sender} of {} bytes", payload.len())
-        }
-        Fed::Payload { sender, payload } => {
+        Fed::Payload {
+            sender,
+            payload,
+            ..
+        } if payload.len() > 20 => { format!(in alloc; "fed {sender} of {} bytes", payload.len()) }
+        Fed::Payload {
+            sender,
+            own_number: None,
+            payload,
+        } => {
             let payload = digits(alloc, payload.as_slice())?;
             format!(in alloc; "fed {sender} {payload}")
         }
+        Fed::Payload {
+            sender,
+            own_number: Some(own_number),
+            payload,
+        } => {
+            let payload = digits(alloc, payload.as_slice())?;
+            format!(in alloc; "fed {sender} at {own_number} {payload}")
+        }
+        Fed::Finish => String::from_str(alloc, "nothing more comes"),
         Fed::Wrong(wrong) => {
             let mut lines = Vec::new(alloc);
             push_wrong(&mut lines, senders, wrong)?;
@@ -118,10 +135,36 @@ pub fn accepted_line(alloc: Global, words: &str) -> Result<String, AllocError> {
     shown(alloc, lines.as_slice())
 }
 
+/// The mark that nothing more comes.
+pub fn finished_line(alloc: Global) -> Result<String, AllocError> {
+    let mut lines = Vec::new(alloc);
+    push_finished_line(&mut lines)?;
+    shown(alloc, lines.as_slice())
+}
+
+/// Where a message of a number, or of none, stands where its sender has so many.
+pub fn standing_line(alloc: Global, words: &str) -> Result<String, AllocError> {
+    let (count, own_number) = halves(words);
+    let own_number = if own_number == "-" {
+        None
+    } else {
+        Some(number(own_number))
+    };
+    let standing = match place_among(number(count), own_number) {
+        Standing::Next => "next",
+        Standing::Made => "made",
+        Standing::Gap => "gap",
+    };
+    String::from_str(alloc, standing)
+}
+
 /// Why a line was not sent, by a name.
 fn why_named(name: &str) -> Why {
     match name {
         "long" => Why::TooLong,
+        "cut" => Why::Cut,
+        "differs" => Why::Differs,
+        "gap" => Why::Gap,
         "full" => Why::Full,
         "closed" => Why::Closed,
         "failed" => Why::Failed,

@@ -9,15 +9,16 @@ use Rattle.plan_outbox.proofs.Agreeing.{written}
 use Rattle.plan_outbox.proofs.Entries.{all_entries, one_more, read_on}
 use Rattle.plan_outbox.proofs.fronts.fronts_of.Goals as goal
 
-pub returns-in_err-sender-clause-read : goal.returns-in_err-sender-clause-read
-returns-in_err-sender-clause-read g c =
+pub returns-in_err-sent-clause-read : goal.returns-in_err-sent-clause-read
+returns-in_err-sent-clause-read g c =
     let e = c.entry.ensures in
     read_on c.args.outbox.now c.loop-at.outbox c.entry.new.self c.loop-at.invariant.read
     (record { content = e.content; holds = e.holds; told = e.told; moment = e.moment; limits = e.limits; never_falls = e.never_falls })
 
 pub loop-at-preserved : goal.loop-at-preserved
 loop-at-preserved g c =
-    let e = c.in_ok-sender.ensures in
+    let e = c.in_ok-sent.ensures in
+    let sent = c.in_ok-sent.sent in
     let fronts = c.loop-at.fronts in
     let new = c.take_entry.new.fronts in
     let at = c.loop-at.at in
@@ -33,12 +34,12 @@ loop-at-preserved g c =
           let now = (inv.read.content.stands h).0 stands in
           let found = e.entry (inv.read.told told) h now in
           let place : (at + 1) - 1 ≡ at = omega arith in
-          let here : slice_get (records_of_history h) at ≡ Some (kinds.Entry c.in_ok-sender.sender found.0 c.in_ok-sender.payload) = ap (slice_get (records_of_history h)) (sym place) ∙ found.1 in
+          let here : slice_get (records_of_history h) at ≡ Some (kinds.Entry sent.sender sent.own_number sent.payload) = ap (slice_get (records_of_history h)) (sym place) ∙ found in
           let before = subst (λ (fs : List Front). AreFronts c.args.plans.now (take at (records_of_history h)) fs) (sym c.as_mut_slice.ensures.value) (inv.fronts told h stands) in
-          let after = c.take_entry.ensures.fronts (take at (records_of_history h)) found.0 before in
+          let after = c.take_entry.ensures.fronts (take at (records_of_history h)) sent.own_number before in
           subst (λ (rs : List Record). AreFronts c.args.plans.now rs (take fronts.len (new ++ drop (length new) fronts.items))) (sym (one_more (records_of_history h) at _ here))
-          (subst (λ (fs : List Front). AreFronts c.args.plans.now (take at (records_of_history h) ++ kinds.Entry c.in_ok-sender.sender found.0 c.in_ok-sender.payload ∷ []) fs) (sym (written fronts.len new (drop (length new) fronts.items) long))
-          (subst (λ (p : List _). AreFronts c.args.plans.now (take at (records_of_history h) ++ kinds.Entry c.in_ok-sender.sender found.0 p ∷ []) new) c.as_slice.ensures after));
+          (subst (λ (fs : List Front). AreFronts c.args.plans.now (take at (records_of_history h) ++ kinds.Entry sent.sender sent.own_number sent.payload ∷ []) fs) (sym (written fronts.len new (drop (length new) fronts.items) long))
+          (subst (λ (p : List _). AreFronts c.args.plans.now (take at (records_of_history h) ++ kinds.Entry sent.sender sent.own_number p ∷ []) new) c.as_slice.ensures after));
     }
 
 pub returns-clause-fronts : goal.returns-clause-fronts

@@ -21,7 +21,7 @@ invariant_of-self g c =
     }
 
 pub returns-in-Some-clause-sender : goal.returns-in-Some-clause-sender
-returns-in-Some-clause-sender g c = (subst IsRecord c.in-Some.ensures.found.2 c.in_ok-r.ensures.legal.0).0
+returns-in-Some-clause-sender g c = (subst IsRecord c.in-Some.ensures.found.1 c.in_ok-r.ensures.legal.0).0
 
 pub returns-in-Some-clause-entry : goal.returns-in-Some-clause-entry
 returns-in-Some-clause-entry g c tells h stands =
@@ -29,7 +29,7 @@ returns-in-Some-clause-entry g c tells h stands =
     let sound = read_sound (g.J.Journal.is_broken old.journal) (g.J.Journal.is_broken c.read.new.self) c.read.result c.read.ensures.broken.1 c.read.ensures.breaks c.in_ok-r.ensures.breaks in
     let read = read_told g.J.Journal.stands old.journal stands.dated (c.args.number - 1) (stamped c.in_ok-r._moment c.in_ok-r.r)
     (λ k is_k. g.met.J.Journal.one old.journal k stands.dated tells sound is_k stands.journal) c.in_ok-r.ensures.found in
-    (c.in-Some.ensures.found.1, subst (λ (rs : List Record). slice_get rs (c.args.number - 1) ≡ Some c.in_ok-r.r) stands.bare read ∙ ap (λ (r : Record). Some r) c.in-Some.ensures.found.2)
+    subst (λ (rs : List Record). slice_get rs (c.args.number - 1) ≡ Some c.in_ok-r.r) stands.bare read ∙ ap (λ (r : Record). Some r) c.in-Some.ensures.found.1
 
 pub returns-in-Some-clause-holds : goal.returns-in-Some-clause-holds
 returns-in-Some-clause-holds g c h refused held = held_same g.J.Journal.stands g.J.Journal.leaves c.args.self.now.journal c.read.new.self c.read.ensures.unchanged c.args.self.now.tally h refused held

@@ -1,0 +1,3 @@
+mod Owns
+pub mod Following
+mod Reviewing
