@@ -1,5 +1,5 @@
 -- What a run of a rehearsal gives, and what its outcome says of the script (this project's profile).
-use Rattle.std.specs.Prelude.{◌≡◌, ◌⊎◌, ℕ, List, Option, Result, Err, IsOk}
+use Rattle.std.specs.Prelude.{◌≡◌, ◌⊎◌, ℕ, List, Option, Result, Err, IsOk, codes}
 use Rattle.std.specs.Io.KnownBytes.{Appends, Keeps}
 use Rattle.gw_outside.specs.Faults.{TakesFront}
 use Rattle.schema_toml.specs.declared.fault.ConfigFault.{ConfigFault}
@@ -21,6 +21,15 @@ code_of outcomes.InputFault = 3
 code_of outcomes.OutputFault = 4
 code_of (outcomes.Undrained initiator acceptor) = 13
 code_of outcomes.Memory = 14
+
+-- its word on the status line
+abbrev pub name_of : Outcome → List ℕ
+name_of outcomes.Done = codes "done"
+name_of (outcomes.Config fault) = codes "config"
+name_of outcomes.InputFault = codes "input-fault"
+name_of outcomes.OutputFault = codes "output-fault"
+name_of (outcomes.Undrained initiator acceptor) = codes "undrained"
+name_of outcomes.Memory = codes "memory"
 
 -- the text is refused with its fault exactly where it has one, unless a device or memory failed before
 abbrev pub Judges : Outcome → Result Script ConfigFault → Type 0

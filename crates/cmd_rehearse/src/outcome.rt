@@ -32,7 +32,7 @@ pub enum Outcome {
 }
 
 impl Outcome {
-    ghost use Rattle.cmd_rehearse.specs.Promise.{code_of};
+    ghost use Rattle.cmd_rehearse.specs.Promise.{code_of, name_of};
 
     /// The number that the program exits with.
     pub fn code(&self) -> u8
@@ -49,7 +49,9 @@ impl Outcome {
     }
 
     /// The word that the status line gives.
-    pub fn name(&self) -> &'static str {
+    pub fn name(&self) -> &'static str
+        ensures { result.now ≡ name_of self.now }
+    {
         match self {
             Outcome::Done => "done",
             Outcome::Config(_) => "config",

@@ -62,7 +62,7 @@ module _ (risen : Type 0) (eager : Bool) (clock after : ℕ) (e m n o : DrivenEn
   whole : WasTurn ⊤ eager clock after (live_end told carried (known e.pass).seen (line_of e.conn) e.inbox []) (live_end told' carried' (known m.pass).seen (line_of m.conn) m.inbox news)
   whole = both.0
 
-  pub made_its : MadeIts risen eager clock e o told told' carried carried'
+  pub made_its : MadeIts risen eager clock e o (record { told = told; carried = carried }) (record { told = told'; carried = carried' })
   unfolding whole both
   made_its = record {
     turn = whole.turn;

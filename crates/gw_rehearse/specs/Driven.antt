@@ -110,13 +110,18 @@ pub record TurnsOn (old new : DrivenEnd) (told told' : Option LinkTold) : Type 0
   pub goes : (b : Beginning) (past : List TurnedLeg) (leg : TurnedLeg) → Awaits b → RunsOver b past leg old → is_given new.standing ≡ false
       → TurnedOn b past leg new told told'
 
+-- what a link tells at a moment: of what is under way, and of what it has carried
+pub record LinkNow : Type 0 where
+  pub told : Option LinkTold
+  pub carried : Option Carried
+
 -- A whole turn of an end at this moment, as it was made over a link that told this before and that behind it, and that failed only where this is so: all that it wrote
 -- was sent, and what its pass has seen since begins with what it had seen then
-pub record MadeIts (risen : Type 0) (eager : Bool) (clock : ℕ) (old new : DrivenEnd) (told told' : Option LinkTold) (carried carried' : Option Carried) : Type 0 where
+pub record MadeIts (risen : Type 0) (eager : Bool) (clock : ℕ) (old new : DrivenEnd) (before after : LinkNow) : Type 0 where
   pub turn : Turn
   pub seen : History
-  pub made : MadeTurn eager (record { told = told; carried = carried; seen = (known old.pass).seen; clock = clock; line = line_of old.conn })
-      (record { told = told'; carried = carried'; seen = seen; clock = clock; line = line_of new.conn }) turn
+  pub made : MadeTurn eager (record { told = before.told; carried = before.carried; seen = (known old.pass).seen; clock = clock; line = line_of old.conn })
+      (record { told = after.told; carried = after.carried; seen = seen; clock = clock; line = line_of new.conn }) turn
   pub sound : is_lost turn ≡ true → risen
   pub faithful : IsFaithful turn
   pub timely : IsTimelyTurn turn

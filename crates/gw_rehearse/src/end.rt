@@ -470,7 +470,7 @@ impl DrivenEnd {
         ensures flow { flow_of self.new.inbox ≡ flow_of self.old.inbox }
         ensures sound { is_given self.new.standing ≡ false → is_given self.old.standing ≡ false }
         ensures turned { TurnsOn self.old self.new (L.told link.old) (L.told link.new) }
-        ensures made { self.old.standing ≡ standings.Open → is_given self.new.standing ≡ false → is_failed self.new.standing ≡ false → MadeIts (HasRisen (L.faults link.old) (L.faults link.new)) L.eager clock.old self.old self.new (L.told link.old) (L.told link.new) (L.carried link.old) (L.carried link.new) }
+        ensures made { self.old.standing ≡ standings.Open → is_given self.new.standing ≡ false → is_failed self.new.standing ≡ false → MadeIts (HasRisen (L.faults link.old) (L.faults link.new)) L.eager clock.old self.old self.new (record { told = L.told link.old; carried = L.carried link.old }) (record { told = L.told link.new; carried = L.carried link.new }) }
         ensures rests { (self.old.standing ≡ standings.Open → ⊥) → (self.new ≡ self.old) × (L.told link.new ≡ L.told link.old) }
         ensures finished { is_given self.new.standing ≡ false → self.old.standing ≡ standings.Open → self.new.finished ≡ (self.old.finished || is_finished (line_of self.new.conn).machine.ending) }
         ensures clock { clock.new ≡ clock.old }
