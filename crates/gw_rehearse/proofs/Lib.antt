@@ -12,3 +12,4 @@ mod Stopping
 mod Staying
 mod Coming
 mod Finishing
+mod Comparing

@@ -1,7 +1,8 @@
 -- What the senders of a rehearsal send: orders, by the layout of NewOrder in the order schema (this project's profile). All numbers stand with
 -- their least byte first.
-use Rattle.std.specs.Prelude.{ℕ, ◌+◌, ◌-◌, ◌*◌, ◌%◌, ◌^◌, nat_le, if◌then◌else◌, List, [], ◌∷◌, ◌++◌}
+use Rattle.std.specs.Prelude.{ℕ, ◌+◌, ◌-◌, ◌*◌, ◌%◌, ◌^◌, nat_le, if◌then◌else◌, List, [], ◌∷◌, ◌++◌, map}
 use Rattle.std.specs.Int.{w16, w32, w64, to_le_bytes}
+use Rattle.session_model.specs.Journal.{counts_from}
 
 -- the encoding type; block length, template 1, schema 100, and the version
 abbrev pub head_of : ℕ → List ℕ
@@ -32,3 +33,7 @@ parties_of version sender number =
 -- message k of sender s: the order of identifier s * 2^32 + k
 abbrev pub message_of : (version sender number : ℕ) → List ℕ
 message_of version sender number = head_of version ++ root_of version sender number ++ parties_of version sender number
+
+-- the messages of a sender from its first on, so many
+abbrev pub messages_of : (version sender count : ℕ) → List (List ℕ)
+messages_of version sender count = map (message_of version sender) (counts_from 1 count)

@@ -7,6 +7,8 @@ use Rattle.jr_dated.specs.declared.journal.Journal.{Ghosts}
 use Rattle.jr_kept.specs.declared.outbox.Outbox.{Outbox}
 use Rattle.jr_kept.specs.Outbox.{mine_of}
 use Rattle.jr_kept.specs.Inbox.{count_of, next_of}
+use Rattle.jr_kept.specs.Outbox as outboxes
+use Rattle.jr_kept.specs.Inbox as inboxes
 use Rattle.gw_rehearse.specs.declared.journals.Journals.{Journals}
 use Rattle.gw_rehearse.specs.declared.rehearsal.Rehearsal.{Rehearsal}
 use Rattle.gw_rehearse.specs.declared.summary.EndSummary.{EndSummary}
@@ -52,3 +54,9 @@ pub record IsSummaryOf (h : History) (i : List InboxRecord) (senders : ℕ) (s :
 -- what the journals of an end come to, as they count it themselves
 abbrev pub summary_of : Journals → EndSummary
 summary_of j = record { entries = counts_to j.outbox j.senders; delivered = count_of j.inbox; skipped = next_of j.inbox - 1 - count_of j.inbox }
+
+-- the journals of an end hold what they held: they were read, and no more
+pub record SameJournals (old new : Journals) : Type 0 where
+  pub outbox : outboxes.SameContent old.outbox new.outbox
+  pub inbox : inboxes.SameContent old.inbox new.inbox
+  pub senders : new.senders ≡ old.senders

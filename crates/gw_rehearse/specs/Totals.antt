@@ -1,21 +1,25 @@
 -- What a script comes to, where all that it sends arrives, and what is told of both ends behind a rehearsal (this project's profile).
-use Rattle.std.specs.Prelude.{◌≡◌, ℕ, ◌+◌, ◌-◌, ◌*◌, ◌==◌, if◌then◌else◌, true, false, List, [], ◌∷◌}
+use Rattle.std.specs.Prelude.{◌≡◌, ℕ, ◌+◌, ◌-◌, ◌*◌, ◌<◌, ◌==◌, if◌then◌else◌, pos, true, false, List, [], ◌∷◌, length, slice_index_or}
 use Rattle.session_model.specs.Journal.{History}
-use Rattle.session_model.specs.Inbox.{InboxRecord, has_peer_finished}
+use Rattle.session_model.specs.Inbox.{InboxRecord, applied, payloads_of, has_peer_finished}
+use Rattle.session_model.specs.Plans.{sent_by}
 use Rattle.fixp_msgs.specs.declared.flow.Flow.{Flow}
 use Rattle.fixp_msgs.specs.declared.flow.Flow.TheVariants as flows
 use Rattle.fixp_shake.specs.Flows.{is_absent}
 use Rattle.jr_dated.specs.declared.journal.Journal.{Ghosts}
 use Rattle.jr_kept.specs.declared.inbox.Inbox.{Inbox}
+use Rattle.jr_kept.specs.declared.outbox.Outbox.{Outbox}
 use Rattle.jr_kept.specs.Inbox.{count_of, next_of}
 use Rattle.jr_kept.specs.Inbox as inboxes
 use Rattle.jr_kept.specs.Outbox as outboxes
+use Rattle.order_desk.specs.Plans.{desk_plan}
 use Rattle.cmd_config.specs.declared.configuration.Link.{Link}
 use Rattle.cmd_script.specs.declared.script.Load.{Load}
 use Rattle.cmd_script.specs.declared.script.Script.{Script}
 use Rattle.gw_rehearse.specs.declared.journals.Journals.{Journals}
 use Rattle.gw_rehearse.specs.declared.rehearsal.Rehearsal.{Rehearsal}
 use Rattle.gw_rehearse.specs.declared.summary.EndSummary.{EndSummary}
+use Rattle.gw_rehearse.specs.Payloads.{messages_of}
 use Rattle.gw_rehearse.specs.Summaries.{HasReported, reports_to, sent_in, summary_of}
 use Rattle.gw_rehearse.specs.Together.{Arrives, KeepsSession}
 
@@ -59,11 +63,23 @@ pub record HasFinished (own peer : Flow) (j : Journals) : Type 0 where
   pub finish : is_absent own ≡ false → (h : History) → outboxes.StandsFor j.outbox h → h.finished ≡ true
   pub heard : is_absent peer ≡ false → (i : List InboxRecord) → inboxes.StandsFor j.inbox i → has_peer_finished i ≡ true
 
--- Behind a rehearsal of a script its senders have sent what it says; each inbox holds of the other end's outbox what the kind of that flow promises, all of
--- it where that is recoverable; each desk has reported on its share; both ends have finished; and where both flows are recoverable the summaries are what the
--- script comes to
+-- The entries of each sender in an outbox are its messages from the first on, in order: as many as a load says, and no others
+abbrev pub HasSent : {J : Type 0} {G : Ghosts J} → Load → Outbox J G → Type 0
+HasSent load outbox = (h : History) → outboxes.StandsFor outbox h → (place : ℕ) → place < length load.messages
+    → sent_by h.made (place + 1) ≡ messages_of load.initiator_version (place + 1) (slice_index_or load.messages place 0)
+
+-- The entries of each desk in an outbox are all reports that one thread would make on its share of what an inbox has applied, in order, and no others
+abbrev pub HasAnswered : {J : Type 0} {G : Ghosts J} → Load → Outbox J G → Inbox J G → Type 0
+HasAnswered load outbox inbox = (h : History) → outboxes.StandsFor outbox h → (i : List InboxRecord) → inboxes.StandsFor inbox i → (place : ℕ) → place < load.desks
+    → sent_by h.made (place + 1) ≡ desk_plan load.desks load.desk_version (pos load.reference) (place + 1) (payloads_of (applied i))
+
+-- Behind a rehearsal of a script its senders have sent what it says, message by message; each inbox holds of the other end's outbox what the kind of that flow
+-- promises, all of it where that is recoverable; each desk has sent its reports on its share of what was applied; both ends have finished; and where both flows
+-- are recoverable the summaries are what the script comes to
 pub record IsRehearsed (script : Script) (r : Rehearsal) : Type 0 where
   pub sent : sent_in r ≡ script.load.messages
+  pub messages : HasSent script.load r.initiator.outbox
+  pub answers : HasAnswered script.load r.acceptor.outbox r.acceptor.inbox
   pub keeps : ∥ KeepsSession script.link.client_flow script.link.server_flow r.initiator r.acceptor ∥₁
   pub outward : Arrives script.link.client_flow r.initiator r.acceptor
   pub homeward : Arrives script.link.server_flow r.acceptor r.initiator

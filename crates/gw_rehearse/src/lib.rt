@@ -3,6 +3,7 @@
 //! disks, links and clock in memory of `gw_fakes` and `gw_link_fakes`.
 #![tactic(auto)]
 
+mod compared;
 mod configs;
 mod disks;
 mod end;

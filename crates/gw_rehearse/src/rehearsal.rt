@@ -9,9 +9,10 @@ ghost use Rattle.jr_kept.specs.Inbox as inboxes;
 ghost use Rattle.jr_kept.specs.Outbox as outboxes;
 ghost use Rattle.gw_rehearse.specs.Together.{Arrives, CountsAll, IsPairOf, KeepsSession, StaysSound, StoppedAt};
 ghost use Rattle.gw_rehearse.specs.Summaries.{HasReported, counts_to, sent_in};
-ghost use Rattle.gw_rehearse.specs.Totals.{AreRecoverable, HasFinished, HaveTotals};
+ghost use Rattle.gw_rehearse.specs.Totals.{AreRecoverable, HasAnswered, HasFinished, HasSent, HaveTotals};
 ghost use Rattle.gw_rehearse.specs.declared.rehearsal.RehearseFault.TheVariants as faults;
 
+use crate::compared::are_as_planned;
 use crate::journals::Journals;
 use crate::pair::{Pair, Spent};
 use crate::totals::{has_come, rounds_behind};
@@ -26,7 +27,7 @@ use std::thread::Threads;
 #[derive(Clone, Copy)]
 pub enum RehearseFault {
     /// Both finishes were not exchanged within the rounds behind the last step, with all messages sent, those of a recoverable flow applied, and all
-    /// that were applied reported on; the inboxes wait for these numbers.
+    /// that were applied reported on, each entry of both outboxes being the one that was to be sent; the inboxes wait for these numbers.
     Undrained {
         initiator_next: u64,
         acceptor_next: u64,
@@ -113,7 +114,7 @@ fn has_finished(own: Flow, peer: Flow, journals: &Journals) -> bool
     has_finish(own, journals) && has_heard(peer, journals)
 }
 
-/// What a rehearsal came to that was not given up: its journals, where all is done and has arrived, and both ends have finished.
+/// What a rehearsal came to that was not given up: its journals, where all is done as it was planned and has arrived, and both ends have finished.
 ///
 /// # Errors
 /// `Undrained` in any other case.
@@ -121,13 +122,18 @@ fn has_finished(own: Flow, peer: Flow, journals: &Journals) -> bool
 fn judged(
     script: &Script,
     done: bool,
+    planned: bool,
     initiator: Journals,
     acceptor: Journals,
 ) -> Result<Rehearsal, RehearseFault>
     requires script { IsScript script.now }
     requires keeps { ∥ KeepsSession script.now.link.client_flow script.now.link.server_flow initiator acceptor ∥₁ }
     requires sent { IsTrue done → counts_to initiator.outbox initiator.senders ≡ script.now.load.messages }
+    requires messages { IsTrue planned → HasSent script.now.load initiator.outbox }
+    requires answers { IsTrue planned → HasAnswered script.now.load acceptor.outbox acceptor.inbox }
     ensures sent { IfOk result (λ r. sent_in r ≡ script.now.load.messages) }
+    ensures messages { IfOk result (λ r. HasSent script.now.load r.initiator.outbox) }
+    ensures answers { IfOk result (λ r. HasAnswered script.now.load r.acceptor.outbox r.acceptor.inbox) }
     ensures keeps { IfOk result (λ r. ∥ KeepsSession script.now.link.client_flow script.now.link.server_flow r.initiator r.acceptor ∥₁) }
     ensures outward { IfOk result (λ r. Arrives script.now.link.client_flow r.initiator r.acceptor) }
     ensures homeward { IfOk result (λ r. Arrives script.now.link.server_flow r.acceptor r.initiator) }
@@ -143,7 +149,7 @@ fn judged(
     let reported = has_come(script, &initiator, &acceptor);
     let initiator_finished = has_finished(client, server, &initiator);
     let acceptor_finished = has_finished(server, client, &acceptor);
-    if done && outward && homeward && reported && initiator_finished && acceptor_finished {
+    if done && planned && outward && homeward && reported && initiator_finished && acceptor_finished {
         return Ok(Rehearsal {
             initiator,
             acceptor,
@@ -156,7 +162,8 @@ fn judged(
 }
 
 /// Runs a script over two new ends, and behind its last step rounds until both have finished: 64, and 16 for each message, at most, reports among
-/// them. The watch is told how far it is, and once nothing more runs that it is over.
+/// them. The watch is told how far it is, and once nothing more runs that it is over. Then each entry of both outboxes is read, and compared with what
+/// was to be sent there: the messages of the script, and the reports that one thread would make on what was applied.
 ///
 /// # Errors
 /// `Undrained` where they have not finished then, with all messages sent, those of a recoverable flow applied, and all that were applied reported
@@ -169,6 +176,8 @@ pub fn rehearse<W: Watch, R: Threads + Wait + Sync>(
 ) -> Result<Rehearsal, RehearseFault>
     requires script { IsScript script.now }
     ensures sent { IfOk result (λ r. sent_in r ≡ script.now.load.messages) }
+    ensures messages { IfOk result (λ r. HasSent script.now.load r.initiator.outbox) }
+    ensures answers { IfOk result (λ r. HasAnswered script.now.load r.acceptor.outbox r.acceptor.inbox) }
     ensures keeps { IfOk result (λ r. ∥ KeepsSession script.now.link.client_flow script.now.link.server_flow r.initiator r.acceptor ∥₁) }
     ensures outward { IfOk result (λ r. Arrives script.now.link.client_flow r.initiator r.acceptor) }
     ensures homeward { IfOk result (λ r. Arrives script.now.link.server_flow r.acceptor r.initiator) }
@@ -186,6 +195,10 @@ pub fn rehearse<W: Watch, R: Threads + Wait + Sync>(
     let Ok((pair, done)) = ran else {
         return Err(RehearseFault::Memory);
     };
-    let (initiator, acceptor) = pair.close();
-    judged(script, done, initiator, acceptor)
+    let (mut initiator, mut acceptor) = pair.close();
+    let compared = are_as_planned(alloc, &script.load, &mut initiator, &mut acceptor);
+    let Ok(planned) = compared else {
+        return Err(RehearseFault::Memory);
+    };
+    judged(script, done, planned, initiator, acceptor)
 }
