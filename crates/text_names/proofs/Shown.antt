@@ -22,6 +22,7 @@ use Rattle.sbe_text.specs.Held.{is_word}
 use Rattle.sbe_text.specs.Tokens.{natural_of, raw_of}
 use Rattle.sbe_text.specs.Written.{raw_text}
 use Rattle.text_names.specs.Bare.{trimmed}
+use Rattle.text_names.specs.Called.{uncalled}
 use Rattle.text_names.specs.Lines.{Line, Narrowed, by_line, line_of, with_line, with_told}
 use Rattle.text_names.specs.Named.{bits_in, choices_in, is_in, joined, named_by, named_by_line, named_choices, named_datum, named_number, named_value, short}
 use Rattle.text_names.specs.Paths.{meaning_of}
@@ -273,7 +274,7 @@ enum_back listings prim at value t s (inl e) = same_back listings (meaning.Item 
 enum_back listings prim at value t s (inr n) = record {
   quiet = wordy_quiet t n.wordy;
   word = wordy_word t n.wordy;
-  back = ap (λ (u : Bool). if u then listed (slice_get listings at) t else (if is_char prim then character t else Ok t)) n.named ∙ n.listed;
+  back = ap (λ (u : Bool). if u then listed (slice_get listings at) t else (if is_char prim then character (uncalled (slice_get listings at) t) else Ok (uncalled (slice_get listings at) t))) n.named ∙ n.listed;
 }
 
 set_back : (listings : List Listing) (prim : Primitive) (at : ℕ) (value t : List ℕ) → Stays listings (meaning.Item (Set prim at)) value → Renames (slice_get listings at) value t → Back listings (meaning.Item (Set prim at)) value t
@@ -281,7 +282,7 @@ set_back listings prim at value t s (inl e) = same_back listings (meaning.Item (
 set_back listings prim at value t s (inr n) = record {
   quiet = wordy_quiet t n.wordy;
   word = wordy_word t n.wordy;
-  back = ap (λ (u : Bool). if u then listed (slice_get listings at) t else Ok t) n.named ∙ n.listed;
+  back = ap (λ (u : Bool). if u then listed (slice_get listings at) t else Ok (uncalled (slice_get listings at) t)) n.named ∙ n.listed;
 }
 
 datum_back : (listings : List Listing) (value : List ℕ) → Stays listings meaning.Datum value → (o : Option (List ℕ)) → Back listings meaning.Datum value (named_datum value o)

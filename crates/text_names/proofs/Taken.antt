@@ -29,14 +29,15 @@ use Rattle.sbe_text.specs.Written as written
 use Rattle.sbe_text.specs.Tokens.{also, are_digits, at_most, behind, count_of, datum_of, decoded, either_of, exactly, held, in_front, is_digit, natural_of, negative, number_of, plain, positive, present_of, quoted_of, raw_of, value_of}
 use Rattle.text_names.specs.Bare.{uncommented}
 use Rattle.text_names.specs.declared.bare.Quote.TheVariants.{Outside, Inside, Escaped}
+use Rattle.text_names.specs.Called.{number_before, uncalled}
 use Rattle.text_names.specs.Quotes.{characters, ended, escape, led_by, unquoted}
 use Rattle.text_names.specs.Values.{array, begins_name, by_quotes, character, is_named, item_value, listed, listed_number, strict_value}
 use Rattle.text_names.specs.declared.path.Meaning.{Meaning}
 use Rattle.text_names.specs.declared.path.Meaning.TheVariants as meaning
 use Rattle.text_names.specs.Plain.{is_name_byte}
-use Rattle.text_names.proofs.Bytes.{both, both_left, both_right, either_left, either_right, is_plain, are_plain, not_false, other_byte, plain_other}
+use Rattle.text_names.proofs.Bytes.{both, both_left, both_right, either_left, either_right, is_plain, are_plain, lacks, not_false, other_byte, plain_lacks, plain_other}
 use Rattle.text_names.proofs.Contexts.{digits_plain}
-use Rattle.text_names.proofs.Lined.{IsQuiet, plain_begins, plain_ends, plain_kept}
+use Rattle.text_names.proofs.Lined.{IsQuiet, cut_none, plain_begins, plain_ends, plain_kept}
 use Rattle.text_names.proofs.Passing.{Takes, behind_is}
 
 -- ---- values without quotes
@@ -384,8 +385,15 @@ number_stays listings prim length null low high presence size value i e = by_kin
     by_kind false f c g true k e = wordy false f c g (number_taken (is_optional presence) value i e).wordy
     by_kind false f c g false k e = wordy false f c g (raw_taken size value i e)
 
+-- a value without a blank has no names behind it
+pub wordy_uncalled : (listing : Option Listing) (value : List ℕ) → IsWordy value → uncalled listing value ≡ value
+wordy_uncalled listing value w =
+    let lacking : lacks 32 value ≡ true = subst (λ (v : List ℕ). lacks 32 v ≡ true) (sym w.split) (plain_lacks 32 refl (w.first ∷ w.rest) w.plain) in
+    ap (number_before listing value) (cut_none 32 value lacking)
+
 numeric_listed : (listing : Option Listing) (value : List ℕ) → IsNumeric value → listed_number listing value ≡ Ok value
-numeric_listed listing value n = ap (λ (t : Bool). if t then listed listing value else Ok value) n.unnamed
+numeric_listed listing value n =
+    ap (λ (t : Bool). if t then listed listing value else Ok (uncalled listing value)) n.unnamed ∙ ap (λ (v : List ℕ). Ok v) (wordy_uncalled listing value n.wordy)
 
 either_same : (c : Bool) (value : List ℕ) → character value ≡ Ok value → (if c then character value else Ok value) ≡ Ok value
 either_same true value e = e
@@ -393,7 +401,8 @@ either_same false value e = refl
 
 numeric_enum : (listings : List Listing) (prim : Primitive) (at : ℕ) (value : List ℕ) → IsNumeric value → item_value listings (Enum prim at) value ≡ Ok value
 numeric_enum listings prim at value n =
-    ap (λ (t : Bool). if t then listed (slice_get listings at) value else (if is_char prim then character value else Ok value)) n.unnamed
+    ap (λ (t : Bool). if t then listed (slice_get listings at) value else (if is_char prim then character (uncalled (slice_get listings at) value) else Ok (uncalled (slice_get listings at) value))) n.unnamed
+    ∙ ap (λ (v : List ℕ). if is_char prim then character v else Ok v) (wordy_uncalled (slice_get listings at) value n.wordy)
     ∙ either_same (is_char prim) value (wordy_character value n.wordy)
 
 pub value_stays : (listings : List Listing) (m : Meaning) (value : List ℕ) → Takes m value → Stays listings m value

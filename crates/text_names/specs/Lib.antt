@@ -1,6 +1,7 @@
 pub mod Bare
 pub mod Quotes
 pub mod Paths
+pub mod Called
 pub mod Values
 pub mod Lines
 pub mod Fronts

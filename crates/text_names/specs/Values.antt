@@ -13,6 +13,7 @@ use Rattle.sbe_layout.specs.declared.listings.Listing.{Listing}
 use Rattle.sbe_layout.specs.declared.listings.Listing.TheVariants.{Nothing, Values, Bits}
 use Rattle.sbe_text.specs.Written.{raw_text, value_text}
 use Rattle.text_names.specs.Bare.{trimmed}
+use Rattle.text_names.specs.Called.{uncalled}
 use Rattle.text_names.specs.Quotes.{Unquoted, unquoted}
 use Rattle.text_names.specs.declared.mistake.Wrong.{Wrong}
 use Rattle.text_names.specs.declared.mistake.Wrong.TheVariants as wrong
@@ -84,7 +85,7 @@ listed (Some (Values values)) text = number_named values text
 listed (Some (Bits bits)) text = number_of_choices bits text
 
 abbrev pub listed_number : Option Listing → List ℕ → Told (List ℕ)
-listed_number listing text = if is_named text then listed listing text else Ok text
+listed_number listing text = if is_named text then listed listing text else Ok (uncalled listing text)
 
 -- ---- text in quotes
 
@@ -116,7 +117,8 @@ abbrev pub item_value : List Listing → ItemKind → List ℕ → Told (List �
 item_value listings (Number prim length null low high) text =
     if is_char prim then (if nat_le 2 length then array text else character text) else Ok text
 item_value listings (Enum prim at) text =
-    if is_named text then listed (slice_get listings at) text else (if is_char prim then character text else Ok text)
+    if is_named text then listed (slice_get listings at) text
+    else (if is_char prim then character (uncalled (slice_get listings at) text) else Ok (uncalled (slice_get listings at) text))
 item_value listings (Set prim at) text = listed_number (slice_get listings at) text
 
 abbrev pub strict_value : List Listing → Meaning → List ℕ → Told (List ℕ)

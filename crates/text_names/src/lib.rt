@@ -4,6 +4,7 @@
 #![tactic(auto)]
 
 mod bare;
+mod called;
 mod front;
 mod laws;
 mod mistake;

@@ -21,8 +21,8 @@ use sbe_schema::{BitDef, ValueDef};
 use std::alloc::{AllocError, Global};
 use text_words::{first_line, number};
 
-// Whether a number is written so.
-fn is_number(number: i128, text: &[u8]) -> bool
+/// Whether a number is written so.
+pub(crate) fn is_number(number: i128, text: &[u8]) -> bool
     ensures { result ≡ bytes_eq (signed_decimal number) text.now }
 {
     Buffer::new().format(number).as_bytes() == text

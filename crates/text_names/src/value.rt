@@ -7,8 +7,9 @@ ghost use Rattle.sbe_schema.specs.Kinds.{is_char};
 ghost use Rattle.sbe_text.specs.Written.{are_plain, raw_text, value_text};
 ghost use Rattle.sbe_value.specs.declared.item.Item.TheVariants.{Text};
 ghost use Rattle.text_names.specs.Steps.{Tells, text_of};
-ghost use Rattle.text_names.specs.Values.{array, character, datum, item_value, listed, strict_value};
+ghost use Rattle.text_names.specs.Values.{array, character, datum, item_value, listed, listed_number, strict_value};
 
+use crate::called::uncalled;
 use crate::mistake::{Slip, Wrong};
 use crate::names::{is_named, number_named, number_of_choices};
 use crate::path::Meaning;
@@ -117,10 +118,26 @@ fn enum_value<'a>(
     if is_named(text) {
         return listed(listings, at, text);
     }
+    let number = uncalled(listings, at, text, room)?;
     if is_char(prim) {
-        return character(text, room);
+        return character(number, room);
     }
-    Ok(Strict::Same(text))
+    Ok(Strict::Same(number))
+}
+
+// The number of choices of a set.
+fn set_value<'a>(
+    listings: &[Listing],
+    at: u64,
+    text: &'a [u8],
+    room: &mut Vec<u8>,
+) -> Result<Strict<'a>, Slip<'a>>
+    ensures { Tells (text_of room.new.items) result (listed_number (slice_get listings.now at) text.now) }
+{
+    if is_named(text) {
+        return listed(listings, at, text);
+    }
+    Ok(Strict::Same(uncalled(listings, at, text, room)?))
 }
 
 // The value of an item of this type.
@@ -143,8 +160,8 @@ fn item_value<'a>(
             ..
         } => character(text, room),
         ItemKind::Enum { prim, at } => enum_value(listings, prim, at, text, room),
-        ItemKind::Set { at, .. } if is_named(text) => listed(listings, at, text),
-        ItemKind::Number { .. } | ItemKind::Set { .. } => Ok(Strict::Same(text)),
+        ItemKind::Set { at, .. } => set_value(listings, at, text, room),
+        ItemKind::Number { .. } => Ok(Strict::Same(text)),
     }
 }
 
