@@ -1,12 +1,12 @@
 //! The text of one message: where it ends, the bytes that its lines spell, and the line that gives them to a sender.
 
-ghost use Rattle.std.specs.Prelude.{◌≡◌, ◌≤◌, ◌^◌, ◌↔◌, ◌++◌, Err, IfOk, IsTrue, OnOk, codes, length};
+ghost use Rattle.std.specs.Prelude.{◌≡◌, ◌==◌, ◌||◌, ◌≤◌, ◌^◌, ◌↔◌, ◌++◌, Err, IfOk, IsTrue, OnOk, codes, length};
 ghost use Rattle.hex.specs.Hex.{encode_lower};
 ghost use Rattle.sofh_frame.specs.Framing.{encoding_of};
 ghost use Rattle.fixp_msgs.specs.Numbering.{payload_of};
 ghost use Rattle.text_words.specs.Lines.{lines_in};
 ghost use Rattle.sbe_text.specs.Reading.{read_message};
-ghost use Rattle.text_names.specs.Bare.{bare};
+ghost use Rattle.text_names.specs.Bare.{bare, is_blank};
 ghost use Rattle.plan_text.specs.Plans.{Gift};
 ghost use Rattle.plan_lines.specs.Lines.{gift_line, number_part};
 ghost use Rattle.plan_lines.specs.Progress.{MakesBytes, ReadsAll, RefusesIn, TellsEnd};
@@ -20,11 +20,22 @@ use std::alloc::{AllocError, Global};
 use text_names::{Narrow, bare_line, front_message};
 use text_words::{first_line, push_decimal, push_hex};
 
-/// Whether a line says `end`, with what a person may write around it.
+/// Whether a line that begins with this byte may say `end`: behind blanks, or at once.
+fn may_begin_end(byte: u8) -> bool
+    ensures { result ≡ (byte == 101 || is_blank byte) }
+{
+    byte == b'e' || byte == b' ' || byte == b'\t' || byte == b'\r'
+}
+
+/// Whether a line says `end`, with what a person may write around it. Most lines do not by their first byte, so that they are not read through.
+#[tactic(auto, using(crate::proofs::Ending::no_end, crate::proofs::Ending::other_beginning))]
 fn says_end(line: &[u8]) -> bool
     ensures { IsTrue result ↔ (bare line.now ≡ codes "end") }
 {
-    bare_line(line) == b"end".as_slice()
+    match line.first() {
+        Some(first) if may_begin_end(*first) => bare_line(line) == b"end".as_slice(),
+        _ => false,
+    }
 }
 
 /// Whether the strict form asks for more lines behind these.
