@@ -8,7 +8,7 @@ use say_words::quoted;
 use session_files::{are_both_standard, named, role_of};
 use std::alloc::{AllocError, Global};
 
-pub const VERSION: &str = "fixpgw 0.10.0";
+pub const VERSION: &str = "fixpgw 0.11.0";
 
 const USAGE: &str =
     "fixpgw: an order gateway for sessions of the FIX Performance Session Layer (FIXP) 1.1

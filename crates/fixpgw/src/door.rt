@@ -8,15 +8,14 @@ use gw_links::{Dialer, Next};
 use gw_outside::{Bytes, Failed, Source};
 use gw_porch::{PortGuests, PortLink};
 use gw_real::Named;
-use gw_sockets::{SocketReason, SocketWaker};
+use gw_sockets::SocketWaker;
 use gw_watch::{Approach, Approaches};
 use say_live::Teller;
-use say_session::SaysWhy;
+use say_session::{SaysWhy, push_dial};
 use schema_toml::TEXT_LIMIT;
-use session_files::{Session, push_place};
+use session_files::Session;
 use std::alloc::{AllocError, Global};
 use std::fs::File;
-use std::io::ErrorKind;
 use std::net::{Net, TcpListener, TcpStream};
 use std::rt::Files;
 use std::sync::atomic::AtomicBool;
@@ -209,26 +208,12 @@ impl<
     }
 }
 
-/// What to look at where an address cannot be listened at.
-fn advice(kind: ErrorKind) -> &'static str {
-    match kind {
-        ErrorKind::AddrInUse => ": another process has it (tried for a second)",
-        ErrorKind::AddrNotAvailable => ": it is no address of this machine",
-        _ => "",
-    }
-}
-
 impl<R> SaysWhy for DoorDialer<'_, R> {
     fn push_why(&self, line: &mut String, name: Named<'_>) -> Result<bool, AllocError> {
         let Some(reason) = self.inner.guests().reason() else {
             return Ok(false);
         };
-        push_place(line, name)?;
-        let advice = match &reason {
-            SocketReason::System(error) => advice(error.kind()),
-            _ => "",
-        };
-        write!(line, "{reason}{advice}")?;
+        push_dial(line, name, reason)?;
         Ok(true)
     }
 }

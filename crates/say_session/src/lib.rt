@@ -13,4 +13,4 @@ pub use ended::{Said, line_of};
 pub use fed::{FedSaid, fed_line_of};
 pub use lines::{push_disk, push_full, push_input, push_journal, push_sink, push_source};
 pub use missing::{push_made, push_other};
-pub use said::{SaysWhy, push_unwritten};
+pub use said::{SaysWhy, push_dial, push_unwritten};

@@ -142,8 +142,12 @@ fn advice(kind: ErrorKind) -> &'static str {
     }
 }
 
-/// Adds why a connection was not to be had.
-fn push_dial(line: &mut String, name: Named<'_>, reason: SocketReason) -> Result<(), AllocError> {
+/// Adds why a connection was not to be had, at the name of the address, and what to look at.
+pub fn push_dial(
+    line: &mut String,
+    name: Named<'_>,
+    reason: SocketReason,
+) -> Result<(), AllocError> {
     push_place(line, name)?;
     let advice = match &reason {
         SocketReason::System(error) => advice(error.kind()),
