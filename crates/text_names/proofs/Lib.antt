@@ -2,6 +2,7 @@ pub mod AtFront
 pub mod Bits
 pub mod Blanks
 pub mod Bytes
+pub mod CalledBack
 pub mod Calling
 pub mod Choosing
 pub mod Contexts

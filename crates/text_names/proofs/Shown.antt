@@ -233,11 +233,11 @@ set_renames bits value named apart = by_number (short (natural_of value)) refl
 
 -- ---- what types list
 
-abbrev IsPlainOne : Option Listing → Type 0
+abbrev pub IsPlainOne : Option Listing → Type 0
 IsPlainOne None = ⊤
 IsPlainOne (Some listing) = IsPlainListing listing
 
-plain_at : (listings : List Listing) (at : ℕ) → AllByRecursion IsPlainListing listings → IsPlainOne (slice_get listings at)
+pub plain_at : (listings : List Listing) (at : ℕ) → AllByRecursion IsPlainListing listings → IsPlainOne (slice_get listings at)
 plain_at [] zero all = tt
 plain_at [] (suc at) all = tt
 plain_at (l ∷ ls) zero all = all.0

@@ -78,10 +78,10 @@ wordy_unquoted value w =
 
 -- ---- numbers
 
-digit_no_name : (d : ℕ) → is_digit d ≡ true → begins_name d ≡ false
+pub digit_no_name : (d : ℕ) → is_digit d ≡ true → begins_name d ≡ false
 digit_no_name d h = grind (arith, nat_tests)
 
-natural_digits : (value : List ℕ) (n : ℕ) → natural_of value ≡ Some n → are_digits value ≡ true
+pub natural_digits : (value : List ℕ) (n : ℕ) → natural_of value ≡ Some n → are_digits value ≡ true
 natural_digits [] n e = absurd (cc)
 natural_digits (b ∷ bs) n e = by_test _ refl e
   where
@@ -347,7 +347,7 @@ pub record Stays (listings : List Listing) (m : Meaning) (value : List ℕ) : Ty
   pub quiet : IsQuiet value
   pub word : is_word value ≡ true
 
-wordy_character : (value : List ℕ) → IsWordy value → character value ≡ Ok value
+pub wordy_character : (value : List ℕ) → IsWordy value → character value ≡ Ok value
 wordy_character value w = ap (by_quotes _ value) (wordy_unquoted value w)
 
 wordy_array : (value : List ℕ) → IsWordy value → array value ≡ Ok value
@@ -395,7 +395,7 @@ numeric_listed : (listing : Option Listing) (value : List ℕ) → IsNumeric val
 numeric_listed listing value n =
     ap (λ (t : Bool). if t then listed listing value else Ok (uncalled listing value)) n.unnamed ∙ ap (λ (v : List ℕ). Ok v) (wordy_uncalled listing value n.wordy)
 
-either_same : (c : Bool) (value : List ℕ) → character value ≡ Ok value → (if c then character value else Ok value) ≡ Ok value
+pub either_same : (c : Bool) (value : List ℕ) → character value ≡ Ok value → (if c then character value else Ok value) ≡ Ok value
 either_same true value e = e
 either_same false value e = refl
 

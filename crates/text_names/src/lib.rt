@@ -18,7 +18,7 @@ mod value;
 
 pub use bare::bare_line;
 pub use front::front_message;
-pub use laws::{shown_reads_back, shown_stands_at_front, strict_stays};
+pub use laws::{called_stays, shown_reads_back, shown_stands_at_front, strict_stays};
 pub use mistake::{NarrowError, Wrong};
 pub use narrow::{Narrow, narrow_message};
 pub use rows::worked_rows;
