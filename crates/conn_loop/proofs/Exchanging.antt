@@ -26,7 +26,7 @@ use Rattle.gate_turn.specs.Views.{Part}
 use Rattle.conn_turns.specs.declared.answer.TurnFault.TheVariants as faults
 use Rattle.conn_steps.specs.Agreeing.{Agrees}
 use Rattle.conn_loop.specs.Conn.{answer_of, GoesOn, HasSeen, HasLooked, KeepsAll, MayServe}
-use Rattle.conn_loop.specs.Moving.{ReceivedOnce, SentOnce, IsLossOf}
+use Rattle.conn_loop.specs.Moving.{ReceivedOnce, SentOnce, IsLossOf, link_at}
 use Rattle.conn_loop.proofs.Working.{seen_same}
 use Rattle.conn_loop.specs.Turned.{received_by, ServedFrames, DidWork, Exchanged, CutWork, DidTurn, CutTurn, Leaves}
 use Rattle.conn_steps.specs.Ends.{taking_end}
@@ -123,7 +123,7 @@ module _ {J : Type 0} {G : Ghosts J} where
   pub did_work : (tells : Type 0) (losses between losses' : ℕ) (now : ℕ) (eager : Bool) (old new : EndAt J G) (told_between : Option LinkTold) (carried_between : Option Carried) (r mid : Line) (result : Result TurnEnd TurnFault) (got : Option Got)
       → ReceivedOnce eager old.told told_between old.carried carried_between old.line r got
       → ServedFrames tells now old.seen new.seen (taking_end r old.box old.news) (taking_end mid new.box new.news)
-      → losses ≤ between → SentOnce between losses' told_between new.told carried_between new.carried mid new.line result
+      → losses ≤ between → SentOnce (link_at between told_between carried_between) (link_at losses' new.told new.carried) mid new.line result
       → DidWork tells losses losses' now eager old new result
   did_work tells losses between losses' now eager old new told_between carried_between r mid result got x y few z =
       let w : Work = record y.work { got = got; received = x.received; sent = z.sent; lost = z.lost } in
@@ -188,13 +188,13 @@ module _ {J : Type 0} {G : Ghosts J} where
       inl (refl, λ i. record { told = told i; carried = carried i; seen = seen i; line = line i; box = box i; news = news i })
 
   pub only_sent : (tells : Type 0) (losses losses' : ℕ) (now n : ℕ) (eager : Bool) (old new : EndAt J G) (l : Line) (result : Result TurnEnd TurnFault) → now ≡ n → l ≡ line_ticked old.line now
-      → (receives old.line ≡ false) ⊎ IsSome l.machine.ending → SentOnce losses losses' old.told new.told old.carried new.carried l new.line result
+      → (receives old.line ≡ false) ⊎ IsSome l.machine.ending → SentOnce (link_at losses old.told old.carried) (link_at losses' new.told new.carried) l new.line result
       → new.box ≡ old.box → new.news ≡ old.news → new.seen ≡ old.seen → DidTurn tells losses losses' n eager old new result
   only_sent tells losses losses' now n eager old new l result is ticks why sent box news seen = inl (record {
     why = subst (λ (k : ℕ). (receives old.line ≡ false) ⊎ IsSome (line_ticked old.line k).machine.ending) is
         (subst (λ (x : Line). (receives old.line ≡ false) ⊎ IsSome x.machine.ending) ticks why);
-    sent = subst (λ (k : ℕ). SentOnce losses losses' old.told new.told old.carried new.carried (line_ticked old.line k) new.line result) is
-        (subst (λ (x : Line). SentOnce losses losses' old.told new.told old.carried new.carried x new.line result) ticks sent);
+    sent = subst (λ (k : ℕ). SentOnce (link_at losses old.told old.carried) (link_at losses' new.told new.carried) (line_ticked old.line k) new.line result) is
+        (subst (λ (x : Line). SentOnce (link_at losses old.told old.carried) (link_at losses' new.told new.carried) x new.line result) ticks sent);
     same_box = box;
     same_news = news;
     same_seen = seen;

@@ -46,16 +46,25 @@ abbrev pub IsLossOf : State → State → Result TurnEnd TurnFault → Type 0
 IsLossOf old new (Ok end) = (end ≡ answer_of new.ending) × (old.ending ≡ None → new.ending ≡ Some endings.LinkEnded → ⊥)
 IsLossOf old new (Err fault) = (fault ≡ faults.Link) × (old.ending ≡ None) × (new.ending ≡ Some endings.LinkEnded)
 
+-- what a link shows at a moment: how often its calls have failed, what it tells, and what it tells that it had carried
+pub record LinkAt : Type 0 where
+  pub faults : ℕ
+  pub told : Option LinkTold
+  pub carried : Option Carried
+
+abbrev pub link_at : (faults : ℕ) → Option LinkTold → Option Carried → LinkAt
+link_at faults told carried = record { faults = faults; told = told; carried = carried }
+
 -- a front of what was unsent was sent: as much as the link took, or, where it failed, some front. Where it failed, its count of faults rose, and the
 -- answer is that of a loss; and else it is how the connection then stands
-pub record SentOnce (losses losses' : ℕ) (told told' : Option LinkTold) (carried carried' : Option Carried) (old new : Line) (result : Result TurnEnd TurnFault) : Type 0 where
+pub record SentOnce (before behind : LinkAt) (old new : Line) (result : Result TurnEnd TurnFault) : Type 0 where
   pub sent : List ℕ
   pub lost : Bool
   pub front : IsPrefix sent old.machine.unsent
   pub line : new ≡ line_sent old sent lost
   pub whole : lost ≡ false → old.machine.unsent ≡ sent ++ new.machine.unsent
-  pub full : lost ≡ false → 0 < length new.machine.unsent → IfSome told' (λ t. t.room ≡ 0)
+  pub full : lost ≡ false → 0 < length new.machine.unsent → IfSome behind.told (λ t. t.room ≡ 0)
   pub answer : lost ≡ true → IsLossOf old.machine new.machine result
-  pub cause : lost ≡ true → HasRisen losses losses'
+  pub cause : lost ≡ true → HasRisen before.faults behind.faults
   pub kept : lost ≡ false → result ≡ Ok (answer_of new.machine.ending)
-  pub moved : Moved told told' carried carried' [] sent
+  pub moved : Moved before.told behind.told before.carried behind.carried [] sent

@@ -27,7 +27,7 @@ use Rattle.gate_turn.specs.Views.{Part}
 use Rattle.conn_steps.specs.Agreeing.{Agrees}
 use Rattle.conn_loop.specs.Conn.{HasSeen, answer_of}
 use Rattle.conn_loop.specs.Live.{EndAt}
-use Rattle.conn_loop.specs.Moving.{ReceivedOnce, SentOnce, IsLossOf}
+use Rattle.conn_loop.specs.Moving.{ReceivedOnce, SentOnce, IsLossOf, link_at}
 
 -- the line with these bytes received behind those held, and whether its link has given its end
 abbrev pub received_on : Line → List ℕ → (over : Bool) → Line
@@ -114,7 +114,7 @@ module _ {J : Type 0} {G : Ghosts J} where
   -- they were, and it answers as what it sent says
   pub record OnlySent (losses losses' : ℕ) (now : ℕ) (old new : EndAt J G) (result : Result TurnEnd TurnFault) : Type 0 where
     pub why : (receives old.line ≡ false) ⊎ IsSome (run old.line.machine (first_calls now)).ending
-    pub sent : SentOnce losses losses' old.told new.told old.carried new.carried (line_ticked old.line now) new.line result
+    pub sent : SentOnce (link_at losses old.told old.carried) (link_at losses' new.told new.carried) (line_ticked old.line now) new.line result
     pub same_box : new.box ≡ old.box
     pub same_news : new.news ≡ old.news
     pub same_seen : new.seen ≡ old.seen

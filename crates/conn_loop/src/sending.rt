@@ -11,7 +11,7 @@ use gw_links::{Link, send_front};
 
 impl Conn {
     ghost use Rattle.conn_loop.specs.Conn.{line_of, answer_of, KeepsAll};
-    ghost use Rattle.conn_loop.specs.Moving.{SentOnce, IsLossOf};
+    ghost use Rattle.conn_loop.specs.Moving.{SentOnce, IsLossOf, link_at};
 
     /// How the turn ends that did not fail.
     pub(crate) fn answer(&self) -> TurnEnd
@@ -53,7 +53,7 @@ impl Conn {
     #[tactic(auto, using(crate::proofs::Machine::taken_drained))]
     pub(crate) fn send<L: Link>(&mut self, link: &mut L) -> Result<TurnEnd, TurnFault>
         requires { (line_of self.old).machine.begun ≡ true }
-        ensures sent { SentOnce (L.faults link.old) (L.faults link.new) (L.told link.old) (L.told link.new) (L.carried link.old) (L.carried link.new) (line_of self.old) (line_of self.new) result }
+        ensures sent { SentOnce (link_at (L.faults link.old) (L.told link.old) (L.carried link.old)) (link_at (L.faults link.new) (L.told link.new) (L.carried link.new)) (line_of self.old) (line_of self.new) result }
         ensures answer { IsLossOf (line_of self.old).machine (line_of self.new).machine result }
         ensures keeps { KeepsAll (line_of self.old).machine (line_of self.new).machine (line_of self.old).machine.moment }
         ensures facts { (line_of self.new).machine.facts ≡ (line_of self.old).machine.facts }
