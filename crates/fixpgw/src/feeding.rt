@@ -4,7 +4,7 @@
 ghost use Rattle.std.specs.Prelude.{◌≡◌, false, None};
 
 use crate::door::dialer_of;
-use crate::sessions::{Read, SessionFiles, config_of, hold_stream, out_of, outlook_of, pauses_of};
+use crate::sessions::{Read, SessionFiles, config_of, hold_stream, outlook_of, pauses_of};
 use cmd_feed::{FeedOutside, Role, run_feeding};
 use cmd_files::Report;
 use cmd_run::Status;
@@ -17,7 +17,7 @@ use gw_sockets::{ConnectDialer, MachineClock};
 use gw_watch::{Approaches, HasPeer, WatchedDialer, WatchedSink};
 use say_live::Teller;
 use say_session::{FedSaid, SaysWhy, fed_line_of};
-use session_files::Session;
+use session_files::{Session, out_of};
 use std::alloc::{AllocError, Global};
 use std::fs::File;
 use std::io::{self, Printer};

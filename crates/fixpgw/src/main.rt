@@ -2,36 +2,22 @@
 //! the command run over them, prints its status and exits with it. What is between is the crate `cmd_run`.
 #![tactic(auto)]
 
-mod datagrams;
 mod door;
-mod dumping;
-mod extending;
 mod feeding;
-mod following;
-mod muxes;
-mod piped;
-mod planning;
 mod progress;
 mod rehearsals;
 mod sessions;
-mod showing;
 mod soaks;
-mod telling;
 
 use cmd_files::{Report, VERSION, asked, finish, run_over_files, usage_fault};
+use cmd_piped::run_piped;
 use cmd_run::{Status, command_of};
-use datagrams::{DatagramFiles, deliver_over_files};
-use dumping::{DumpFiles, dump_over_files};
-use extending::{ExtendsFiles, extends_over_files};
 use feeding::{AcceptedFile, Feeds, feed_over_sockets};
 use gw_fed_files::ComingFile;
 use gw_real::{FileDisk, Opening};
-use muxes::{MuxFiles, answer_over_files};
-use planning::{PlanFiles, plan_over_files};
 use rehearsals::{RehearsalFiles, rehearse_over_files};
 use session_files::Session;
 use sessions::{SessionFiles, hold_stream, run_over_sockets};
-use showing::{ShowFiles, show_over_files};
 use soaks::{SoakFile, soak_over_file};
 use std::fs::File;
 use std::io::{self, IsTerminal};
@@ -41,7 +27,6 @@ use std::sync::Wait;
 use std::sync::atomic::AtomicBool;
 use std::thread::Threads;
 use std::time::Clock;
-use telling::{DeliveredFiles, tell_over_files};
 
 /// The words behind the program's name.
 fn words_of<R: Env + AllocGlobal>(rt: &R) -> io::Result<Vec<String>> {
@@ -90,32 +75,14 @@ fn run_words<R: Threads + Wait + Sync + Clock + Files<File = File> + Print + Epr
     words: &[String],
     shows_progress: bool,
 ) -> ExitCode {
-    if let Some(files) = DatagramFiles::of(words) {
-        return deliver_over_files(rt, files);
-    }
     if let Some(files) = RehearsalFiles::of(words) {
         return rehearse_over_files(rt, files, shows_progress);
     }
     if let Some(file) = SoakFile::of(words) {
         return soak_over_file(rt, file, shows_progress);
     }
-    if let Some(files) = ExtendsFiles::of(words) {
-        return extends_over_files(rt, files);
-    }
-    if let Some(files) = PlanFiles::of(words) {
-        return plan_over_files(rt, files);
-    }
-    if let Some(files) = DeliveredFiles::of(words) {
-        return tell_over_files(rt, files);
-    }
-    if let Some(files) = MuxFiles::of(words) {
-        return answer_over_files(rt, files);
-    }
-    if let Some(files) = DumpFiles::of(words) {
-        return dump_over_files(rt, files);
-    }
-    if let Some(files) = ShowFiles::of(words) {
-        return show_over_files(rt, files);
+    if let Some(code) = run_piped(rt, words) {
+        return code;
     }
     let report = if command_of(words).is_some() {
         run_over_files(rt, words)

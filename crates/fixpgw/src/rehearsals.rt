@@ -1,7 +1,6 @@
 //! A rehearsal over the files that its words name.
 
 use crate::progress::Progress;
-use crate::sessions::out_of;
 use cmd_rehearse::{Outcome, RehearseDevices, run_rehearsal};
 use gw_outside::{Sink, Source};
 use gw_real::{FileSink, FileSource, Named, STANDARD_OUTPUT};
@@ -9,7 +8,7 @@ use gw_rehearse::Watch;
 use say_config::{Wanted, push_config_fault};
 use say_session::push_unwritten;
 use schema_toml::TEXT_LIMIT;
-use session_files::push_place;
+use session_files::{out_of, push_place};
 use std::alloc::{AllocError, Global};
 use std::fs::File;
 use std::io::{self, Printer};

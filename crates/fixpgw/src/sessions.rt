@@ -15,8 +15,7 @@ use gw_watch::{Approaches, HasPeer, Pauses, WatchedDialer, WatchedSink, WatchedS
 use say_live::Teller;
 use say_session::{Said, SaysWhy, line_of};
 use schema_toml::TEXT_LIMIT;
-pub use session_files::out_of;
-use session_files::{Outlook, Session};
+use session_files::{Outlook, Session, out_of};
 use std::alloc::Global;
 use std::fs::File;
 use std::io::{self, Printer};

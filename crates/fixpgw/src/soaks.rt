@@ -4,12 +4,12 @@ ghost use Rattle.std.specs.Prelude.{◌≤◌, IfSome};
 
 use crate::progress::Progress;
 use crate::rehearsals::{RehearsalReport, print_report};
-use crate::sessions::out_of;
 use cmd_rehearse::{Outcome, SOAK, run_soak};
 use gw_outside::Sink;
 use gw_real::{FileSink, Named, STANDARD_OUTPUT};
 use gw_rehearse::Watch;
 use say_session::push_unwritten;
+use session_files::out_of;
 use std::alloc::{AllocError, Global};
 use std::fs::File;
 use std::io::Printer;

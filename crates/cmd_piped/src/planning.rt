@@ -3,7 +3,6 @@
 ghost use Rattle.std.specs.Prelude.{◌<◌, IfSome};
 
 use crate::piped::{Ended, finish_piped, input_path, is_closed, named, push_unread, said};
-use crate::sessions::out_of;
 use cmd_by_schema::{Outcome, Text};
 use cmd_plan::{PlanDevices, run_plan};
 use gw_outside::{Sink, Source};
@@ -14,7 +13,7 @@ use say_faults::push_unplanned;
 use say_session::push_unwritten;
 use schema_load::load;
 use schema_toml::TEXT_LIMIT;
-use session_files::{push_place, text_of_file};
+use session_files::{out_of, push_place, text_of_file};
 use std::alloc::{AllocError, Global};
 use std::fs::File;
 use std::io::Printer;
@@ -28,7 +27,7 @@ type Devices<'a, R> = PlanDevices<FileSource<'a, R, File>, FileSink<'a, R, File,
 
 /// What the words name.
 #[derive(Clone, Copy)]
-pub struct PlanFiles<'a> {
+pub(crate) struct PlanFiles<'a> {
     schema: Named<'a>,
     text: Named<'a>,
     out: Named<'a>,
@@ -202,7 +201,7 @@ fn ended_of<R: Wait + Files<File = File> + Print + AllocGlobal>(
 }
 
 /// Prints the lines of the messages in these files, and how it ended.
-pub fn plan_over_files<R: Wait + Files<File = File> + Print + Eprint + AllocGlobal>(
+pub(crate) fn plan_over_files<R: Wait + Files<File = File> + Print + Eprint + AllocGlobal>(
     rt: &R,
     files: PlanFiles<'_>,
 ) -> ExitCode {

@@ -1,6 +1,5 @@
 //! A recorded client of several sessions, answered over the files that its words name.
 
-use crate::sessions::out_of;
 use cmd_muxanswer::{MuxDevices, Outcome, Unrouted, run_muxanswer};
 use fixp_mux::{Saying, read_saying};
 use gw_outside::{Sink, Source};
@@ -9,7 +8,7 @@ use say_config::{Wanted, push_config_fault};
 use say_faults::push_malformed;
 use say_session::{push_sink, push_source};
 use schema_toml::TEXT_LIMIT;
-use session_files::{TWO_INPUTS, are_both_standard, push_place};
+use session_files::{TWO_INPUTS, are_both_standard, out_of, push_place};
 use sofh_frame::{FirstFrame, ROOM, next};
 use std::alloc::{AllocError, Global};
 use std::fs::File;
@@ -24,7 +23,7 @@ type Devices<'a, R> = MuxDevices<FileSource<'a, R, File>, FileSink<'a, R, File, 
 
 /// What the words name.
 #[derive(Clone, Copy)]
-pub struct MuxFiles<'a> {
+pub(crate) struct MuxFiles<'a> {
     config: Named<'a>,
     input: Named<'a>,
     wire: Named<'a>,
@@ -237,7 +236,7 @@ fn print_line<R: Eprint>(rt: &R, report: &MuxReport) {
 }
 
 /// Answers the recorded client in these files, and prints the status on standard output, and what is wrong on standard error.
-pub fn answer_over_files<R: Wait + Files<File = File> + Print + Eprint + AllocGlobal>(
+pub(crate) fn answer_over_files<R: Wait + Files<File = File> + Print + Eprint + AllocGlobal>(
     rt: &R,
     files: MuxFiles<'_>,
 ) -> ExitCode {

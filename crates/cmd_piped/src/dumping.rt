@@ -1,7 +1,6 @@
 //! A dump of recorded frames over the files that its words name.
 
 use crate::piped::{Ended, finish_piped, input_path, is_closed, named, push_unread, said};
-use crate::sessions::out_of;
 use cmd_base::Bad;
 use cmd_dump::{DumpDevices, Origin, Outcome, run_dump};
 use gw_outside::{Sink, Source};
@@ -9,7 +8,7 @@ use gw_real::{FileSink, FileSource, Named, STANDARD_OUTPUT};
 use say_config::{Wanted, push_config_fault};
 use say_session::{push_input, push_unwritten};
 use schema_toml::TEXT_LIMIT;
-use session_files::push_place;
+use session_files::{out_of, push_place};
 use sofh_frame::ROOM;
 use std::alloc::{AllocError, Global};
 use std::fs::File;
@@ -23,7 +22,7 @@ type Devices<'a, R> = DumpDevices<FileSource<'a, R, File>, FileSink<'a, R, File,
 
 /// What the words of a dump name.
 #[derive(Clone, Copy)]
-pub struct DumpFiles<'a> {
+pub(crate) struct DumpFiles<'a> {
     schema: Named<'a>,
     input: Named<'a>,
     out: Named<'a>,
@@ -139,7 +138,7 @@ fn ended_of<R: Wait + Files<File = File> + Print + AllocGlobal>(
 }
 
 /// Runs a dump over these files, and prints how it ended.
-pub fn dump_over_files<R: Wait + Files<File = File> + Print + Eprint + AllocGlobal>(
+pub(crate) fn dump_over_files<R: Wait + Files<File = File> + Print + Eprint + AllocGlobal>(
     rt: &R,
     files: DumpFiles<'_>,
 ) -> ExitCode {

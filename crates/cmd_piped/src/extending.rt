@@ -1,7 +1,6 @@
 //! A comparison of two schemas over the files that its words name.
 
 use crate::piped::{Ended, finish_piped, input_path, is_closed, named, push_unread, said};
-use crate::sessions::out_of;
 use cmd_extends::{ExtendsDevices, Outcome, Text, run_extends};
 use gw_outside::{Sink, Source};
 use gw_real::{FileSink, FileSource, Named, STANDARD_OUTPUT};
@@ -10,7 +9,7 @@ use say_session::push_unwritten;
 use say_words::push_path;
 use sbe_value::Path;
 use schema_toml::TEXT_LIMIT;
-use session_files::push_place;
+use session_files::{out_of, push_place};
 use std::alloc::{AllocError, Global};
 use std::fs::File;
 use std::io::Printer;
@@ -25,7 +24,7 @@ type Devices<'a, R> = ExtendsDevices<
 
 /// What the words of a comparison name.
 #[derive(Clone, Copy)]
-pub struct ExtendsFiles<'a> {
+pub(crate) struct ExtendsFiles<'a> {
     newer: Named<'a>,
     older: Named<'a>,
     out: Named<'a>,
@@ -145,7 +144,7 @@ fn ended_of<R: Files<File = File> + Print + AllocGlobal>(rt: &R, files: ExtendsF
 }
 
 /// Runs a comparison over these files, and prints how it ended.
-pub fn extends_over_files<R: Files<File = File> + Print + Eprint + AllocGlobal>(
+pub(crate) fn extends_over_files<R: Files<File = File> + Print + Eprint + AllocGlobal>(
     rt: &R,
     files: ExtendsFiles<'_>,
 ) -> ExitCode {

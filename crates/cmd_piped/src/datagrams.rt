@@ -1,13 +1,12 @@
 //! Datagrams that are delivered by a script, over the files that its words name.
 
-use crate::sessions::out_of;
 use cmd_datagram::{DatagramDevices, Outcome, run_datagram};
 use gw_outside::{Sink, Source};
 use gw_real::{FileSink, FileSource, Named, STANDARD_OUTPUT};
 use say_config::{Wanted, push_config_fault};
 use say_session::push_unwritten;
 use schema_toml::TEXT_LIMIT;
-use session_files::push_place;
+use session_files::{out_of, push_place};
 use std::alloc::{AllocError, Global};
 use std::fs::File;
 use std::io::{self, Printer};
@@ -22,7 +21,7 @@ type Devices<'a, R> = DatagramDevices<
 
 /// What the words name.
 #[derive(Clone, Copy)]
-pub struct DatagramFiles<'a> {
+pub(crate) struct DatagramFiles<'a> {
     config: Named<'a>,
     out: Named<'a>,
 }
@@ -133,7 +132,7 @@ fn print_line<R: Eprint>(rt: &R, report: &DatagramReport) {
 }
 
 /// Delivers datagrams by the script in these files, and prints the status on standard output, and what is wrong on standard error.
-pub fn deliver_over_files<R: Files<File = File> + Print + Eprint + AllocGlobal>(
+pub(crate) fn deliver_over_files<R: Files<File = File> + Print + Eprint + AllocGlobal>(
     rt: &R,
     files: DatagramFiles<'_>,
 ) -> ExitCode {

@@ -2,7 +2,6 @@
 
 use crate::following::ended_following;
 use crate::piped::{Ended, finish_piped, input_path, is_closed, named, push_unread, said};
-use crate::sessions::out_of;
 use cmd_show::{Origin, Outcome, ShowDevices, run_show};
 use gw_outside::{Sink, Source};
 use gw_real::{FileSink, FileSource, Named, Reason, STANDARD_OUTPUT};
@@ -10,7 +9,7 @@ use jr_shown::{Begin, Choice, Style, begin_of};
 use say_config::{Wanted, push_config_fault};
 use say_session::push_unwritten;
 use schema_toml::TEXT_LIMIT;
-use session_files::push_place;
+use session_files::{out_of, push_place};
 use std::alloc::{AllocError, Global};
 use std::fs::File;
 use std::io::{self, Printer};
@@ -25,7 +24,7 @@ type Devices<'a, R> = ShowDevices<FileSource<'a, R, File>, FileSink<'a, R, File,
 
 /// Whether a showing ends with the records that stand.
 #[derive(Clone, Copy)]
-pub enum Manner {
+pub(crate) enum Manner {
     /// It does.
     Once,
     /// It goes on as records come.
@@ -34,7 +33,7 @@ pub enum Manner {
 
 /// What the words name.
 #[derive(Clone, Copy)]
-pub struct ShowFiles<'a> {
+pub(crate) struct ShowFiles<'a> {
     pub schema: Named<'a>,
     pub journal: Named<'a>,
     pub out: Named<'a>,
@@ -44,7 +43,7 @@ pub struct ShowFiles<'a> {
 
 /// Why the devices of a run failed last, if one has, and the text of SCHEMA that was read.
 #[derive(Clone, Copy)]
-pub struct Reasons<'a, 't> {
+pub(crate) struct Reasons<'a, 't> {
     pub schema: Option<io::Error>,
     pub ahead: Option<io::Error>,
     pub journal: Option<io::Error>,
@@ -231,7 +230,7 @@ fn ended_once<R: Wait + Files<File = File> + Print + AllocGlobal>(
 }
 
 /// Shows the records of a journal in a file, and prints how it ended.
-pub fn show_over_files<R: Wait + Clock + Files<File = File> + Print + Eprint + AllocGlobal>(
+pub(crate) fn show_over_files<R: Wait + Clock + Files<File = File> + Print + Eprint + AllocGlobal>(
     rt: &R,
     files: ShowFiles<'_>,
 ) -> ExitCode {

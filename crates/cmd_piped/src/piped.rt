@@ -10,7 +10,7 @@ use std::process::ExitCode;
 
 /// How a run ended.
 #[derive(Drop)]
-pub struct Ended {
+pub(crate) struct Ended {
     /// The number that the program exits with.
     pub code: u8,
     /// The word that the status line gives.
@@ -22,7 +22,7 @@ pub struct Ended {
 }
 
 /// The file that a word names.
-pub fn named<'a>(role: &'static str, word: &'a String) -> Named<'a> {
+pub(crate) fn named<'a>(role: &'static str, word: &'a String) -> Named<'a> {
     Named {
         role,
         path: word.as_str(),
@@ -30,12 +30,12 @@ pub fn named<'a>(role: &'static str, word: &'a String) -> Named<'a> {
 }
 
 /// The path of an input; `-` is standard input.
-pub fn input_path<'a>(input: Named<'a>) -> &'a str {
+pub(crate) fn input_path<'a>(input: Named<'a>) -> &'a str {
     input.read_path()
 }
 
 /// Adds why an input could not be read.
-pub fn push_unread(
+pub(crate) fn push_unread(
     line: &mut String,
     name: Named<'_>,
     reason: Option<io::Error>,
@@ -48,7 +48,7 @@ pub fn push_unread(
 }
 
 /// The line that was said, if it was.
-pub fn said(line: String, outcome: Result<(), AllocError>) -> Option<String> {
+pub(crate) fn said(line: String, outcome: Result<(), AllocError>) -> Option<String> {
     match outcome {
         Ok(()) if !line.is_empty() => Some(line),
         _ => None,
@@ -56,7 +56,7 @@ pub fn said(line: String, outcome: Result<(), AllocError>) -> Option<String> {
 }
 
 /// Whether a sink failed since whoever was to read it is gone.
-pub fn is_closed(reason: Option<Reason<'_>>) -> bool {
+pub(crate) fn is_closed(reason: Option<Reason<'_>>) -> bool {
     match reason {
         Some(Reason::System(error)) => error.kind() == ErrorKind::BrokenPipe,
         _ => false,
@@ -74,7 +74,7 @@ fn print_line<R: Eprint>(rt: &R, ended: &Ended) {
 
 /// Prints the status of a run, on standard error where OUT is standard output, and what is wrong on standard error. A pipe that was closed ends it
 /// quietly.
-pub fn finish_piped<R: Print + Eprint>(rt: &R, out: Named<'_>, ended: &Ended) -> ExitCode {
+pub(crate) fn finish_piped<R: Print + Eprint>(rt: &R, out: Named<'_>, ended: &Ended) -> ExitCode {
     if ended.is_closed {
         return ExitCode::from(0);
     }

@@ -1,7 +1,6 @@
 //! The messages that lines of OUT tell of, over the files that its words name.
 
 use crate::piped::{Ended, finish_piped, input_path, is_closed, named, push_unread, said};
-use crate::sessions::out_of;
 use cmd_by_schema::{Outcome, Text};
 use cmd_delivered::{DeliveredDevices, run_delivered};
 use conn_told::Wrong;
@@ -12,7 +11,7 @@ use say_faults::push_told_fault;
 use say_session::push_unwritten;
 use schema_load::load;
 use schema_toml::TEXT_LIMIT;
-use session_files::{push_place, text_of_file};
+use session_files::{out_of, push_place, text_of_file};
 use std::alloc::{AllocError, Global};
 use std::fs::File;
 use std::io::Printer;
@@ -28,7 +27,7 @@ type Devices<'a, R> = DeliveredDevices<
 
 /// What the words name.
 #[derive(Clone, Copy)]
-pub struct DeliveredFiles<'a> {
+pub(crate) struct DeliveredFiles<'a> {
     schema: Named<'a>,
     lines: Named<'a>,
     out: Named<'a>,
@@ -133,7 +132,7 @@ fn ended_of<R: Wait + Files<File = File> + Print + AllocGlobal>(
 }
 
 /// Prints the messages that the lines in these files tell of, and how it ended.
-pub fn tell_over_files<R: Wait + Files<File = File> + Print + Eprint + AllocGlobal>(
+pub(crate) fn tell_over_files<R: Wait + Files<File = File> + Print + Eprint + AllocGlobal>(
     rt: &R,
     files: DeliveredFiles<'_>,
 ) -> ExitCode {

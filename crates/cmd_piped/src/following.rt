@@ -1,7 +1,6 @@
 //! The records of a journal as text as they come, over the files that the words of `show --follow` name.
 
 use crate::piped::{Ended, input_path};
-use crate::sessions::out_of;
 use crate::showing::{Reasons, ShowFiles};
 use cmd_show::{FollowDevices, Outcome, run_follow};
 use gw_growing::Growing;
@@ -10,6 +9,7 @@ use gw_outside::{Sink, Source};
 use gw_real::{FileSink, FileSource};
 use jr_shown::Choice;
 use schema_toml::TEXT_LIMIT;
+use session_files::out_of;
 use std::alloc::Global;
 use std::fs::File;
 use std::io::Printer;
@@ -35,7 +35,7 @@ fn run_over<R: Wait, S: Source, G: Growing, K: Sink>(
 }
 
 /// Runs it. The files are closed when it returns, before anything is printed.
-pub fn ended_following<R: Wait + Clock + Files<File = File> + Print + AllocGlobal>(
+pub(crate) fn ended_following<R: Wait + Clock + Files<File = File> + Print + AllocGlobal>(
     rt: &R,
     files: ShowFiles<'_>,
 ) -> Ended {
