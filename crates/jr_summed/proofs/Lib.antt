@@ -1,0 +1,2 @@
+mod Changes
+pub mod Finding
