@@ -4,4 +4,4 @@ use Rattle.crc32c.proofs.laws.published_sums.Goals as goal
 
 pub returns : goal.returns
 unfolding stepped eight_steps with_byte crc_from
-returns c = record { law = record { digits = refl; zeros = refl; ones = refl; rising = refl; falling = refl } }
+returns c = record { law = record { digits = refl; zeros = refl; ones = refl; rising = refl; falling = refl; command = refl } }

@@ -5,6 +5,6 @@ use Rattle.crc32c.proofs.sum.take_in.Goals as goal
 
 pub returns : goal.returns
 returns c =
-    let low : c.eight_steps.result ≡ eight_steps (bit_and (bit_xor c.args.register c.args.byte) 255) =
-    c.eight_steps.ensures.value ∙ ap (λ (n : ℕ). eight_steps (bit_and (bit_xor c.args.register n) 255)) c.from.ensures in
+    let low : c.steps_on.result ≡ eight_steps (bit_and (bit_xor c.args.register c.args.byte) 255) =
+    c.steps_on.ensures.value ∙ ap (λ (n : ℕ). eight_steps (bit_and (bit_xor c.args.register n) 255)) c.from.ensures in
     record { value = ap (bit_xor (c.args.register / 256)) low ∙ taken_in c.args.register c.args.byte (omega arith) }

@@ -1,6 +1,0 @@
-use Rattle.std.proofs.Common.{arith}
-use Rattle.crc32c.proofs.Tables.{table_entry}
-use Rattle.crc32c.proofs.table.eight_steps.Goals as goal
-
-pub returns : goal.returns
-returns c = record { value = table_entry c.args.byte (omega arith) }
