@@ -70,7 +70,7 @@ unfinished x f before quiet =
     both_false false false true d e k = absurd (true≢false k)
 
 -- an announcement that is refused is no matter of time
-fault_not_of_time : (x : Around) (f : Facts) (t : ℕ) (next : Option ℕ) (v : Violation) → announcement_fault x f t next ≡ Some v → IsOfTime v → ⊥
+pub fault_not_of_time : (x : Around) (f : Facts) (t : ℕ) (next : Option ℕ) (v : Violation) → announcement_fault x f t next ≡ Some v → IsOfTime v → ⊥
 fault_not_of_time x f t next v e of_time =
     by_tests (is_sequenced x.config.peer_flow) (is_none next) (nat_lt (x.most + 1) (unwrap_or next 0)) (nat_lt (unwrap_or next 0) (expected_number x f)) e
   where

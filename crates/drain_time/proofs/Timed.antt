@@ -10,8 +10,10 @@ use Rattle.fixp_shake.specs.declared.config.EndConfig.{EndConfig}
 use Rattle.fixp_shake.specs.declared.config.Role.{Role}
 use Rattle.fixp_shake.specs.declared.phase.Phase.{Phase}
 use Rattle.fixp_shake.specs.declared.violation.Violation.TheVariants.{Silent, HandshakeLate}
+use Rattle.fixp_shake.specs.Flows.{is_absent}
 use Rattle.fixp_shake.specs.Phases.{is_established, is_closing, is_shaken}
 use Rattle.fixp_replies.specs.declared.act.Ending.{Ending}
+use Rattle.fixp_replies.specs.declared.act.Ending.TheVariants as endings
 use Rattle.fixp_replies.specs.declared.facts.Facts.{Facts}
 use Rattle.fixp_replies.specs.Facts.{is_initiator}
 use Rattle.fixp_replies.specs.Events.{begun, lateness, handshake_limit}
@@ -41,7 +43,9 @@ use Rattle.drain_beats.proofs.Calling.{Passes}
 use Rattle.drain_beats.proofs.Holding.{beats_hold, drain_follows}
 use Rattle.drain_opening.specs.Opening.{AllInTime, reads_in, Awaited, by_acceptor, by_initiator, Opening, Opened}
 use Rattle.drain_opening.proofs.Opened.{acceptor_first, opening_holds, opened_stays}
-use Rattle.drain_time.specs.Times.{AreRounds, BeginsAt, StaysInTime, AreSeen, DrainFinishes}
+use Rattle.drain_finish.specs.Finishing.{GoesOrFinished}
+use Rattle.drain_finish.proofs.Sealed.{ends_finished}
+use Rattle.drain_time.specs.Times.{AreRounds, BeginsAt, StaysInTime, AreSeen, DrainFinishes, AreFinished, RoundsFinish}
 use Rattle.drain_time.proofs.Speaking.{late_at, Times, turn_times, turn_passes, timely_append, reads_append, timely_turned, reads_turned}
 
 -- the steps behind the beginning of the connection are in time, and so many messages were read in them
@@ -887,7 +891,7 @@ as_drain s now j (k ∷ later) r t = (
   as_drain s (now + 1) k later r.1 t.1,
 )
 
-seen_rounds : (s : Session) (now : ℕ) (j : Joint) (rounds : List Joint) → AreSeen s now j rounds → AreRounds s now j rounds
+pub seen_rounds : (s : Session) (now : ℕ) (j : Joint) (rounds : List Joint) → AreSeen s now j rounds → AreRounds s now j rounds
 seen_rounds s now j [] r = tt
 seen_rounds s now j (k ∷ later) r = (r.0.0, seen_rounds s (now + 1) k later r.1)
 
@@ -934,3 +938,50 @@ drain_finishes = record { within = within; ends = ends; begins = begins }
         (later_times now j (k ∷ later) drain (in_rounds s now j w ((k ∷ later) ++ drain) b
         (both_rounds s now j (k ∷ later) drain r (subst (λ (n : ℕ). AreRounds s n (last_of k later) drain) (sym (at_last_is (now + 1) later)) (seen_rounds s (now + 1 + length later) (last_of k later) drain seen)))))))
         enough
+
+-- ---- how they end
+
+-- where some rounds lead the ends are still timed
+timed_last : (s : Session) (first now : ℕ) (j : Joint) (w : World) (rounds : List Joint) → first ≤ now → Timed s first now j w → AreRounds s now j rounds → (v : World) × Timed s first (at_last now rounds) (last_of j rounds) v
+timed_last s first now j w [] since t r = (w, t)
+timed_last s first now j w (k ∷ later) since t r =
+    let x = round_timed s first now j k w r.0 since t in
+    timed_last s first (now + 1) k x.world later (next since) x.timed r.1
+  where
+    next : first ≤ now → first ≤ now + 1
+    next e = omega (arith, e)
+
+-- a machine that is one of the world's but for the room ends as that does
+ends_alike : (m n : State) → step m reserve ≡ step n reserve → GoesOrFinished m → GoesOrFinished n
+ends_alike m n alike (inl none) = inl (sym (ap (λ (k : State). k.ending) alike) ∙ none)
+ends_alike m n alike (inr finished) = inr (sym (ap (λ (k : State). k.ending) alike) ∙ finished)
+
+each_finishes : (s : Session) (first now : ℕ) (j : Joint) (w : World) → is_absent s.start.initiator.config.own_flow ≡ false → Timed s first now j w → GoesOrFinished j.initiator.line.machine × GoesOrFinished j.acceptor.line.machine
+each_finishes s first now j w sends t =
+    let sh = t.shows in
+    let k = ends_finished s.outbox_i.made s.outbox_a.made s.start sh.now_i sh.now_a sh.later sh.known sh.agreed sends sh.may sh.keeps t.timely in (
+      ends_alike w.initiator j.initiator.line.machine sh.initiator.goes.alike (subst (λ (v : World). GoesOrFinished v.initiator) sh.there k.0),
+      ends_alike w.acceptor j.acceptor.line.machine sh.acceptor.goes.alike (subst (λ (v : World). GoesOrFinished v.acceptor) sh.there k.1),
+    )
+
+finished_over : (m : State) → GoesOrFinished m → IsSome m.ending → m.ending ≡ Some endings.Finished
+finished_over m (inl none) some = absurd (true≢false (sym some ∙ ap (λ (e : Option Ending). is_some e) none))
+finished_over m (inr finished) some = finished
+
+pub rounds_finish : RoundsFinish
+rounds_finish = record { each = each; both = both }
+  where
+    since : (n : ℕ) → n ≤ n
+    since n = omega arith
+
+    each : (s : Session) (now : ℕ) (j : Joint) (w : World) (rounds : List Joint) → BeginsAt s now j w → is_absent s.start.initiator.config.own_flow ≡ false → AreRounds s now j rounds
+        → GoesOrFinished (last_of j rounds).initiator.line.machine × GoesOrFinished (last_of j rounds).acceptor.line.machine
+    each s now j w rounds b sends r =
+        let x = timed_last s now now j w rounds (since now) (begins_timed s now j w b) r in
+        each_finishes s now (at_last now rounds) (last_of j rounds) x.0 sends x.1
+
+    both : (s : Session) (now : ℕ) (j : Joint) (w : World) (rounds : List Joint) → BeginsAt s now j w → is_absent s.start.initiator.config.own_flow ≡ false → AreRounds s now j rounds
+        → IsOver (last_of j rounds) → AreFinished (last_of j rounds)
+    both s now j w rounds b sends r over =
+        let k = each s now j w rounds b sends r in
+        record { initiator = finished_over (last_of j rounds).initiator.line.machine k.0 over.initiator; acceptor = finished_over (last_of j rounds).acceptor.line.machine k.1 over.acceptor }

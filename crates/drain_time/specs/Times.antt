@@ -1,9 +1,12 @@
 -- That two ends of one session stay in time on a connection, as a rehearsal makes it, and that a drain finishes it (this project's profile).
-use Rattle.std.specs.Prelude.{◌≡◌, ⊤, ℕ, ◌+◌, ◌≤◌, List, [], ◌∷◌, length}
+use Rattle.std.specs.Prelude.{◌≡◌, ⊤, ℕ, ◌+◌, ◌≤◌, false, List, [], ◌∷◌, length, Some}
+use Rattle.fixp_shake.specs.Flows.{is_absent}
+use Rattle.fixp_replies.specs.declared.act.Ending.TheVariants as endings
 use Rattle.honest_ends.specs.Worlds.{World}
 use Rattle.drain_turns.specs.Joints.{Joint, Session}
 use Rattle.drain_rounds.specs.Rounds.{Round, Sees, Begun, IsOver, last_of, entries_of, rounds_for}
 use Rattle.drain_beats.specs.Beats.{AreTimely, IsWithin}
+use Rattle.drain_finish.specs.Finishing.{GoesOrFinished}
 
 -- rounds, a millisecond one behind another
 abbrev pub AreRounds : (s : Session) → (now : ℕ) → Joint → List Joint → Type 0
@@ -35,3 +38,15 @@ pub record DrainFinishes : Type 0 where
       → AreSeen s (now + 1 + length later) (last_of k later) drain → rounds_for (entries_of s) ≤ length drain → IsOver (last_of (last_of k later) drain)
   pub begins : (s : Session) (now : ℕ) (j : Joint) (w : World) (drain : List Joint) → BeginsAt s now j w → AreSeen s now j drain → rounds_for (entries_of s) ≤ length drain
       → IsOver (last_of j drain)
+
+-- both connections have ended as finished
+pub record AreFinished (j : Joint) : Type 0 where
+  pub initiator : j.initiator.line.machine.ending ≡ Some endings.Finished
+  pub acceptor : j.acceptor.line.machine.ending ≡ Some endings.Finished
+
+-- Behind any rounds with which they begin a connection, where the initiator sends, each of the two goes on or has ended as finished; so where both have ended, both have so
+pub record RoundsFinish : Type 0 where
+  pub each : (s : Session) (now : ℕ) (j : Joint) (w : World) (rounds : List Joint) → BeginsAt s now j w → is_absent s.start.initiator.config.own_flow ≡ false → AreRounds s now j rounds
+      → GoesOrFinished (last_of j rounds).initiator.line.machine × GoesOrFinished (last_of j rounds).acceptor.line.machine
+  pub both : (s : Session) (now : ℕ) (j : Joint) (w : World) (rounds : List Joint) → BeginsAt s now j w → is_absent s.start.initiator.config.own_flow ≡ false → AreRounds s now j rounds
+      → IsOver (last_of j rounds) → AreFinished (last_of j rounds)

@@ -4,4 +4,4 @@
 
 mod times;
 
-pub use times::{drain_finishes, stays_in_time};
+pub use times::{drain_finishes, rounds_finish, stays_in_time};

@@ -1,0 +1,3 @@
+mod Ended
+mod Calls
+pub mod Sealed
