@@ -1,7 +1,5 @@
 -- What senders of plans leave behind a run, and two runs of them that are one.
-use Rattle.std.proofs.Common.{◌≡◌, ◌≢◌, ◌⊎◌, inl, inr, ⊎_elim, ℕ, zero, suc, ◌+◌, ◌<◌, ◌≤◌, Bool, true, false, is_none, ◌||◌, List, [], ◌∷◌, length, map, slice_get, slice_index_or, All, Option, Some, None, refl, sym, ap, subst, ◌∙◌, arith}
-use Rattle.std.proofs.lemmas.Bool.{false≢true}
-use Rattle.std.proofs.lemmas.Option.{none-some, same_Some}
+use Rattle.std.proofs.Common.{◌≡◌, ◌≢◌, ◌⊎◌, inl, inr, ⊎_elim, ℕ, zero, suc, ◌<◌, Bool, true, false, is_none, ◌||◌, List, [], ◌∷◌, length, slice_get, slice_index_or, All, Option, Some, None, refl, sym, ap, subst, ◌∙◌, arith}
 use Rattle.std.proofs.lemmas.List.{get_or-map}
 use Rattle.std.proofs.lemmas.List.Elements.{All-cons, All-nil, All-head, All-tail}
 use Rattle.jr_dated.specs.declared.journal.Journal.{Ghosts}
@@ -15,7 +13,7 @@ use Rattle.atomic_table.specs.Seated.{TableId}
 use Rattle.gate_senders.specs.Gate.{senders_of}
 use Rattle.gate_senders.specs.Kept.{next_entry, IsFullAt}
 use Rattle.gate_senders.specs.declared.gate.Gate.{Gate}
-use Rattle.gate_staff.specs.Runs.{plan_of, IsReady, IsAdmitted, HasNone, IsThrough, may_go_on, Ran, RanEach, Resumed}
+use Rattle.gate_staff.specs.Runs.{plan_of, IsReady, IsAdmitted, HasNone, IsThrough, may_go_on, Ran, Resumed}
 use Rattle.gate_staff.specs.Made.{IsAllMade, SeesMark, SeesFailed, MetFull}
 use Rattle.gate_staff.specs.Business.{lock_of, AllMadeOf, GrewOf, WholeOf}
 use Rattle.gate_staff.specs.Hands.{WorkedEach}
@@ -233,12 +231,18 @@ module _ {J : Type 0} {G : Ghosts J} where
           subst (λ (xs : List (Sender J G)). Produced (plan_in xs) (length given) (part_in given) (part_in xs) b.done b.why (All IsAdmitted xs)) (sym is) (record {
             grew = grew_ran (length given) (plan_in ran) (part_in given) (part_in ran) (step_at (plan_in ran) plans) b.done;
             whole = λ none admitted. whole none admitted;
+            marked = λ none admitted many. marked none admitted (omega (arith, many, ran_long));
             journal = λ e. journal_ran (plan_in ran) plans (subst (IsRefusal same_fault ran) e refused);
             full = λ entries bytes e. full_ran (plan_in ran) plans entries bytes (subst (IsRefusal same_fault ran) e refused);
           })
         where
           plans : (i : ℕ) (d : Sender J G) → i < length given → plan_in ran (suc i) ≡ plan_of (slice_index_or given i d)
           plans i d lt = plan_there ran i (omega (arith, lt, ran_long)) d ∙ (ran_at i d lt).plan
+
+          -- one met that the outbox is closed
+          marked : b.why ≡ None → All IsAdmitted ran → 0 < length ran → SeesMark (length given) (part_in ran)
+          marked none admitted many =
+              closed_ran (plan_in ran) plans (find_closed same_fault ran (subst (IsRefusal same_fault ran) none refused) (λ all. some many (λ i d lt. (all i d lt, admitted i d lt))))
 
           whole : b.why ≡ None → All IsAdmitted ran → WholeOf (numbers (part_in given)) (plan_in ran) (length given) (part_in given) (part_in ran) b.done
           whole none admitted = of (length ran) refl
@@ -249,9 +253,7 @@ module _ {J : Type 0} {G : Ghosts J} where
                 finish = λ many _. absurd (omega (arith, many, e, ran_long));
               }
               of (suc k) e =
-                  let many : 0 < length ran = omega (arith, e) in
-                  let found = find_closed same_fault ran (subst (IsRefusal same_fault ran) none refused) (λ all. some many (λ i d lt. (all i d lt, admitted i d lt))) in
-                  let mark = closed_ran (plan_in ran) plans found in
+                  let mark = marked none admitted (omega (arith, e)) in
                   record { all = inl mark; finish = λ _ _. mark }
 
       -- all were through, and the Finish came
@@ -260,6 +262,7 @@ module _ {J : Type 0} {G : Ghosts J} where
           subst (λ (x : Bool). Produced (plan_in bs) (length given) (part_in given) (part_in bs) x b.why (All IsAdmitted bs)) (sym (did.done through)) (record {
             grew = grown;
             whole = λ none _. record { all = inr all_made; finish = λ _ _. record { number = 1; inside = one; marked = first.marked none } };
+            marked = λ none _ _. record { number = 1; inside = one; marked = first.marked none };
             journal = λ e. record { number = 1; inside = one; failed = failed (first.journal e) };
             full = λ entries bytes e. absurd (never entries bytes (first.few (faults.Full entries bytes) e));
           })

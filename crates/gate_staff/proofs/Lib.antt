@@ -8,3 +8,5 @@ pub mod Parting
 pub mod Seeing
 pub mod Stepping
 pub mod Leaving
+pub mod Beginning
+pub mod Staffing

@@ -1,13 +1,14 @@
 -- Passes that go from the list to senders, and back.
-use Rattle.std.proofs.Common.{◌≡◌, ◌≢◌, ⊎_elim, ℕ, ◌+◌, ◌<◌, ◌≤◌, List, [], ◌∷◌, ◌++◌, length, map, reverse, slice_index_or, All, Option, Some, None, refl, sym, ap, ◌∙◌, subst, arith, le_refl, length-append, append_assoc}
+use Rattle.std.proofs.Common.{◌≡◌, ◌≢◌, ◌⊎◌, inl, inr, ⊎_elim, ℕ, zero, suc, ◌+◌, ◌-◌, ◌<◌, ◌≤◌, List, [], ◌∷◌, ◌++◌, length, map, reverse, slice_index_or, All, Option, Some, None, refl, sym, ap, ◌∙◌, subst, arith, le_refl, length-append, append_assoc}
 use Rattle.std.proofs.lemmas.Option.{none-some, same_Some}
-use Rattle.std.proofs.lemmas.List.{get_or_append_left, get_or_push, map-append, reverse-append}
+use Rattle.std.proofs.lemmas.List.{get_or_append_left, get_or_push, get_or-map, map-append, reverse-append}
 use Rattle.std.proofs.lemmas.List.Elements.{All-push}
 use mathlib.Core.Logic.{dite}
 use Rattle.std.proofs.lemmas.Bool.{cases_lt}
 use native.Mathlib.Decide.{ℕ_discrete}
 use Rattle.jr_dated.specs.declared.journal.Journal.{Ghosts}
-use Rattle.gate_turn.specs.Views.{Part}
+use Rattle.atomic_table.specs.Seated.{TableId}
+use Rattle.gate_turn.specs.Views.{Part, new_part, nothing}
 use Rattle.gate_turn.specs.Rule.{In}
 use Rattle.gate_turn.specs.Places.{known}
 use Rattle.gate_turn.specs.Listed.{pass_at, known_if, known_at}
@@ -18,9 +19,17 @@ use Rattle.gate_senders.specs.Gate.{IsPassAt, HasBackAt, MadeAt, AllBackAt}
 use Rattle.gate_senders.specs.declared.gate.Gate.{Gate}
 use Rattle.gate_senders.specs.declared.kept.Kept.{Kept}
 use Rattle.plan_values.specs.declared.plan.Plan.{Plan}
+use Rattle.gate_staff.specs.Business.{lock_of, HasThese}
+use Rattle.gate_staff.specs.Plans.{part_in}
 use Rattle.gate_staff.specs.Runs.{IsReady, RanEach, CountedEach}
 use Rattle.gate_staff.specs.declared.sender.Sender.{Sender}
-use Rattle.gate_staff.specs.Seats.{IsBehind, Seated, HasBehind}
+use Rattle.gate_staff.specs.Seats.{AreNext, IsBehind, Seated, HasBehind}
+
+-- the element of a list at a place that it has
+pub at_place : {X : Type 0} (xs : List X) (i : ℕ) → i < length xs → X
+at_place [] i lt = absurd (omega (arith, lt))
+at_place (x ∷ xs) zero lt = x
+at_place (x ∷ xs) (suc i) lt = at_place xs i (omega (arith, lt))
 
 module _ {J : Type 0} {G : Ghosts J} (gate : Gate J G) (made : ℕ) where
   -- all are in the list
@@ -162,3 +171,75 @@ module _ {J : Type 0} {G : Ghosts J} where
       (λ ne.
       let within : i < place = omega (arith, lt, ne) in
       before i d within ∙ ap (λ (t : Sender J G). Some t.pass) (sym (get_or_append_left senders (s ∷ []) d i (omega (arith, within, long)))))
+
+-- senders whose passes have the numbers behind so many
+module _ {J : Type 0} {G : Ghosts J} (senders : List (Sender J G)) (count : ℕ) (long : length senders ≡ count) where
+  part_there : (i : ℕ) (d : Sender J G) → i < count → part_in senders (suc i) ≡ known (slice_index_or senders i d).pass
+  part_there i d lt = get_or-map (λ (s : Sender J G). known s.pass) senders i d (new_part 0 0 nothing) (omega (arith, lt, long))
+
+  pub number_next : {T : Type 0} (lock : TableId) (old : Passes T) (before : ℕ) → AreNext lock old before count (part_in senders) → (i : ℕ) (d : Sender J G) → i < count
+      → (known (slice_index_or senders i d).pass).number ≡ before + suc i
+  number_next lock old before next i d lt = ap (λ (p : Part). p.number) (sym (part_there i d lt)) ∙ next.numbers (suc i) (record { from_one = omega arith; up_to = omega (arith, lt) })
+
+  -- they were given back to a list, each to the place of its number, and nothing else changed
+  module _ (gate : Gate J G) (old new : Passes (Kept J G)) (ready : All (IsReady gate) senders)
+      (given : (i : ℕ) (d : Sender J G) → i < count → pass_at new (known (slice_index_or senders i d).pass).number ≡ Some (slice_index_or senders i d).pass)
+      (kept : (n : ℕ) → ((i : ℕ) (d : Sender J G) → i < count → n ≢ (known (slice_index_or senders i d).pass).number) → pass_at new n ≡ pass_at old n)
+      (before : ℕ) (next : AreNext (lock_of gate) old before count (part_in senders)) where
+    given_at : (i : ℕ) (d : Sender J G) → i < count → pass_at new (before + suc i) ≡ Some (slice_index_or senders i d).pass
+    given_at i d lt = ap (λ (n : ℕ). pass_at new n) (sym (number_next (lock_of gate) old before next i d lt)) ∙ given i d lt
+
+    not_given : (n : ℕ) → (n ≤ before) ⊎ (before + count < n) → pass_at new n ≡ pass_at old n
+    not_given n out = kept n (λ i d lt e. ⊎_elim
+        (λ few. omega (arith, few, e, number_next (lock_of gate) old before next i d lt))
+        (λ far. omega (arith, far, e, number_next (lock_of gate) old before next i d lt, lt))
+        out)
+
+    place_behind : (n : ℕ) → before < n → (i : ℕ) × (n ≡ before + suc i)
+    place_behind zero far = absurd (omega (arith, far))
+    place_behind (suc n) far = (n - before, omega (arith, far))
+
+    each_behind : (n : ℕ) → n ≤ before + count → (i : ℕ) × (n ≡ before + suc i) → (p : Pass (Kept J G)) × (pass_at new n ≡ Some p) × (p.seat.table_id ≡ lock_of gate) × IsFree p
+    each_behind n up found =
+        let i = found.0 in
+        let e = found.1 in
+        let lt : i < count = omega (arith, e, up) in
+        let within : i < length senders = omega (arith, lt, long) in
+        let d = at_place senders i within in
+        let s = slice_index_or senders i d in
+        let r = ready i d within in
+        (s.pass, ap (λ (m : ℕ). pass_at new m) e ∙ given_at i d lt, r.own.own, r.free)
+
+    each_back : (n : ℕ) → In (before + count) n → (p : Pass (Kept J G)) × (pass_at new n ≡ Some p) × (p.seat.table_id ≡ lock_of gate) × IsFree p
+    each_back n i = ⊎_elim
+        (λ far. each_behind n i.up_to (place_behind n far))
+        (λ near. let t = next.these.each n (record { from_one = i.from_one; up_to = near }) in (t.0, not_given n (inl near) ∙ t.1, t.2, t.3))
+        (cases_lt before n)
+
+    low : (n : ℕ) → ¬ In (before + count) n → n ≤ before + count → n ≤ before
+    low zero out near = omega arith
+    low (suc n) out near = absurd (out (record { from_one = omega arith; up_to = near }))
+
+    pub these_back : HasThese (lock_of gate) new (before + count)
+    these_back = record {
+      each = each_back;
+      others = λ n out. ⊎_elim
+          (λ far. not_given n (inr far) ∙ next.these.others n (λ i. let up_to = i.up_to in omega (arith, far, up_to)))
+          (λ near. not_given n (inl (low n out near)) ∙ next.these.others n (λ i. let from_one = i.from_one in out (record { from_one = from_one; up_to = near })))
+          (cases_lt (before + count) n);
+    }
+
+    pub known_back : (n : ℕ) → In count n → known_at new (before + n) ≡ part_in senders n
+    known_back zero i = let from_one = i.from_one in absurd (omega (arith, from_one))
+    known_back (suc k) i =
+        let up_to = i.up_to in
+        let lt : k < count = omega (arith, up_to) in
+        let d = at_place senders k (omega (arith, lt, long)) in
+        ap (λ (o : Option (Pass (Kept J G))). known_if o) (given_at k d lt) ∙ sym (part_there k d lt)
+
+    pub others_back : (n : ℕ) → In before n → known_at new n ≡ known_at old n
+    others_back n i = ap (λ (o : Option (Pass (Kept J G))). known_if o) (not_given n (inl i.up_to))
+
+-- as many passes, counted otherwise, and what they know, said otherwise
+pub next_as : {T : Type 0} (lock : TableId) (passes : Passes T) (before n m : ℕ) (p q : ℕ → Part) → n ≡ m → p ≡ q → AreNext lock passes before m q → AreNext lock passes before n p
+next_as lock passes before n m p q many same next = subst (λ k. AreNext lock passes before k p) (sym many) (subst (λ f. AreNext lock passes before m f) (sym same) next)

@@ -8,3 +8,4 @@ pub mod Faults
 pub mod Submitted
 pub mod Producers
 pub mod Plans
+pub mod Staff

@@ -6,9 +6,9 @@ use Rattle.gate_turn.specs.Places.{known}
 use Rattle.atomic_table.specs.Seated.{TableId}
 use Rattle.gate_senders.specs.Gate.{senders_of}
 use Rattle.gate_senders.specs.declared.gate.Gate.{Gate}
-use Rattle.gate_staff.specs.Runs.{plan_of, IsReady, IsCounted, Resumed, HasNone, IsThrough}
+use Rattle.gate_staff.specs.Runs.{plan_of, IsReady, IsCounted, Counted, Resumed, HasNone, IsAdmitted, IsThrough}
 use Rattle.gate_staff.specs.Business.{lock_of}
-use Rattle.gate_staff.specs.Submitted.{Submitted, WentOn}
+use Rattle.gate_staff.specs.Submitted.{WentOn}
 use Rattle.gate_staff.specs.declared.sender.Sender.{Sender}
 use Rattle.gate_staff.specs.declared.plans.Plans.{Plans}
 
@@ -24,6 +24,17 @@ module _ {J : Type 0} {G : Ghosts J} where
   -- it counts the entries of its pass, and met no refusal yet
   abbrev pub IsFresh : Sender J G → Type 0
   IsFresh s = IsCounted s × HasNone s
+
+  -- it forgot what it met in a run, counts the messages that the outbox has of it as done, and its pass sent nothing
+  pub record Begun (gate : Gate J G) (s t : Sender J G) : Type 0 where
+    pub counted : Counted gate s t
+    pub none : HasNone t
+    pub admitted : IsAdmitted t
+
+  -- so did each, in its place
+  pub record BegunEach (gate : Gate J G) (before after : List (Sender J G)) : Type 0 where
+    pub long : length after ≡ length before
+    pub each : (i : ℕ) (d : Sender J G) → i < length before → Begun gate (slice_index_or before i d) (slice_index_or after i d)
 
   -- each forgot a refusal that it had met, so that it goes on
   pub record SetOut (before after : List (Sender J G)) : Type 0 where

@@ -1,6 +1,9 @@
 -- Where the passes of a gate are while senders have them: so many with the senders, the others in the list.
 use Rattle.std.specs.Prelude.{◌≡◌, ℕ, ◌+◌, ◌<◌, ◌≤◌, List, length, map, reverse, slice_index_or, All, Some, None}
 use Rattle.jr_dated.specs.declared.journal.Journal.{Ghosts}
+use Rattle.atomic_table.specs.Seated.{TableId}
+use Rattle.gate_turn.specs.Views.{Part}
+use Rattle.gate_turn.specs.Rule.{In}
 use Rattle.gate_turn.specs.Places.{known}
 use Rattle.gate_turn.specs.Listed.{pass_at, known_at}
 use Rattle.gate_turn.specs.declared.passes.Passes.{Passes}
@@ -8,8 +11,14 @@ use Rattle.gate_senders.specs.Gate.{HasBackAt}
 use Rattle.gate_senders.specs.declared.gate.Gate.{Gate}
 use Rattle.gate_senders.specs.declared.kept.Kept.{Kept}
 use Rattle.plan_values.specs.declared.plan.Plan.{Plan}
+use Rattle.gate_staff.specs.Business.{HasThese}
 use Rattle.gate_staff.specs.Runs.{IsReady}
 use Rattle.gate_staff.specs.declared.sender.Sender.{Sender}
+
+-- a list has the passes of so many numbers, from 1 on, and those of which this is known have the next
+pub record AreNext {T : Type 0} (lock : TableId) (passes : Passes T) (before count : ℕ) (part : ℕ → Part) : Type 0 where
+  pub these : HasThese lock passes before
+  pub numbers : (n : ℕ) → In count n → (part n).number ≡ before + n
 
 -- n lies behind k, and is at most `made`
 pub record IsBehind (k made n : ℕ) : Type 0 where

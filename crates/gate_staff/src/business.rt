@@ -1,5 +1,5 @@
 //! The trait of a business: it answers the messages of the peer that its own end has applied.
-ghost use Rattle.std.specs.Prelude.{◌≡◌, ◌≢◌, ◌↔◌, ℕ, ◌≤◌, Bool, true, false, List, [], ◌++◌, length, Option, Some, Err, All};
+ghost use Rattle.std.specs.Prelude.{◌≡◌, ◌≢◌, ◌↔◌, ℕ, ◌<◌, ◌≤◌, Bool, true, false, List, [], ◌++◌, length, Option, Some, Err, All, IsTrue, IsFalse};
 ghost use Rattle.gw_outside.specs.Faults.{HasRisen};
 ghost use Rattle.session_model.specs.Inbox.{InboxRecord, applied, payloads_of, has_peer_finished};
 ghost use Rattle.session_model.specs.Plans.{GoesOn};
@@ -85,6 +85,11 @@ pub trait Business<J: Journal + Send> {
 
     /// What a hand becomes as it does its part of these messages, at such a gate.
     ghost worked: { TableId → ℕ → List (List ℕ) → Self.Hand → Self.Hand → Type 0 };
+
+    /// Whether it has no passes: there is nothing that it could send, and it need not look at any message.
+    fn is_empty(&self) -> bool
+        ensures none { IsTrue result → count self.now ≡ 0 }
+        ensures some { IsFalse result → 0 < count self.now };
 
     /// Counts the entries that the outbox has of its senders. It stands behind no message then.
     fn begin<R: Wait>(&mut self, gate: &Gate<J>, rt: &R)

@@ -1,5 +1,5 @@
-//! Who sends through a gate: senders that submit plans, all at once, and a business, which answers what its end applies. Relies on
-//! `gate_senders` for what a call on the gate does and tells, on `jr_kept` for the inbox, and on std's threads.
+//! Who sends through a gate: a business, which answers what its end applies, and producers beside the connections, as senders that submit plans,
+//! all at once. Relies on `gate_senders` for what a call on the gate does and tells, on `jr_kept` for the inbox, and on std's threads.
 #![tactic(auto)]
 
 mod business;
@@ -14,6 +14,7 @@ mod resume;
 mod run;
 mod seats;
 mod sender;
+mod staff;
 
 pub use business::{Business, ResumeFault};
 pub use door::{Door, OpenDoor};
@@ -29,3 +30,4 @@ pub use seats::{
     count_done, give_connection, give_last, run_seated, seat, take_connection, take_last, unseat,
 };
 pub use sender::{PIECE_BYTES, PIECE_MESSAGES, Sender};
+pub use staff::Staff;

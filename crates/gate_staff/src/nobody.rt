@@ -1,11 +1,16 @@
 //! The producers of an end where nobody puts messages in beside the connections.
-ghost use Rattle.std.specs.Prelude.{⊤, true, [], None};
+ghost use Rattle.std.specs.Prelude.{⊤, ◌≡◌, ℕ, ◌+◌, true, [], None};
 ghost use Rattle.gate_turn.specs.Views.{new_part, nothing};
+ghost use Rattle.gate_turn.specs.Rule.{In};
+ghost use Rattle.gate_turn.specs.Listed.{known_at};
+ghost use Rattle.gate_staff.specs.Business.{lock_of, HasThese};
+ghost use Rattle.gate_staff.specs.Seats.{AreNext};
 
 use crate::door::Door;
 use crate::fault::StaffFault;
 use crate::producers::Producers;
-use gate_senders::Gate;
+use gate_senders::{Gate, Kept};
+use gate_turn::Passes;
 use jr_dated::Journal;
 use std::alloc::Global;
 use std::sync::Wait;
@@ -17,6 +22,8 @@ pub struct Nobody {
 }
 
 impl<J: Journal + Send> Producers<J> for Nobody {
+    type Held = Kept<J>;
+
     type Producer = ();
 
     ghost count = { λ _. 0 };
@@ -45,6 +52,8 @@ impl<J: Journal + Send> Producers<J> for Nobody {
 
     ghost let_in = { λ producer. ⊤ };
 
+    fn begin<R: Wait>(&mut self, _gate: &Gate<J>, _rt: &R) {}
+
     fn give(&mut self) -> Vec<()> {
         Vec::new(self.alloc)
     }
@@ -59,5 +68,15 @@ impl<J: Journal + Send> Producers<J> for Nobody {
 
     fn fault(&self) -> Option<StaffFault> {
         None
+    }
+
+    fn end(self, gate: &Gate<J>, passes: &mut Passes<Kept<J>>)
+        requires next { (before : ℕ) × AreNext (lock_of gate.now) passes.old before 0 (λ n. new_part n 0 nothing) }
+        ensures these { (before : ℕ) → AreNext (lock_of gate.now) passes.old before 0 (λ n. new_part n 0 nothing) → HasThese (lock_of gate.now) passes.new (before + 0) }
+        ensures known { (before : ℕ) → AreNext (lock_of gate.now) passes.old before 0 (λ n. new_part n 0 nothing) → (n : ℕ) → In 0 n → known_at passes.new (before + n) ≡ new_part n 0 nothing }
+        ensures others { (before : ℕ) → AreNext (lock_of gate.now) passes.old before 0 (λ n. new_part n 0 nothing) → (n : ℕ) → In before n → known_at passes.new n ≡ known_at passes.old n }
+    {
+        let _ = gate;
+        let _ = passes;
     }
 }

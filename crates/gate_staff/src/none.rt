@@ -50,6 +50,10 @@ impl<J: Journal + Send> Business<J> for NoBusiness {
 
     ghost worked = { λ lock senders payloads before after. ⊤ };
 
+    fn is_empty(&self) -> bool {
+        true
+    }
+
     fn begin<R: Wait>(&mut self, _gate: &Gate<J>, _rt: &R) {}
 
     fn give_hands(&mut self) -> Option<List<()>> {

@@ -1,19 +1,24 @@
 //! Senders that submit plans, as producers: each submits its own, and behind them all comes the Finish.
-ghost use Rattle.std.specs.Prelude.{◌≡◌, ℕ, ◌<◌, ◌≤◌, true, List, All, length, vec_len, None, Some, IsTrue, IsFalse};
+ghost use Rattle.std.specs.Prelude.{◌≡◌, ℕ, ◌+◌, ◌<◌, ◌≤◌, true, List, All, length, vec_len, None, Some, IsTrue, IsFalse};
 ghost use Rattle.gate_turn.specs.Places.{known};
 ghost use Rattle.gate_turn.specs.Calls.{IsFree};
-ghost use Rattle.gate_senders.specs.Gate.{IsPassAt};
+ghost use Rattle.gate_turn.specs.Rule.{In};
+ghost use Rattle.gate_turn.specs.Listed.{known_at};
+ghost use Rattle.gate_senders.specs.Gate.{IsPassAt, senders_of};
+ghost use Rattle.gate_staff.specs.Business.{lock_of, HasThese};
 ghost use Rattle.gate_staff.specs.Runs.{IsReady, IsAdmitted, IsThrough};
+ghost use Rattle.gate_staff.specs.Seats.{AreNext};
 ghost use Rattle.gate_staff.specs.Submitted.{Finishes, refusal_of, IsRefusal, FinishedFirst, IsFinished};
-ghost use Rattle.gate_staff.specs.Plans.{SetOut};
+ghost use Rattle.gate_staff.specs.Plans.{SetOut, BegunEach};
 ghost use Rattle.gate_staff.specs.declared.sender.Sender.{Sender};
 
 use crate::door::Door;
 use crate::fault::{StaffFault, refused_finish, refused_submit};
 use crate::producers::Producers;
+use crate::seats::give_back;
 use crate::sender::Sender;
 use gate_senders::{Gate, Kept};
-use gate_turn::Pass;
+use gate_turn::{Pass, Passes};
 use jr_dated::Journal;
 use std::alloc::Global;
 use std::sync::Wait;
@@ -61,6 +66,18 @@ impl<J: Journal> Plans<J> {
             why: _,
         } = self;
         senders
+    }
+}
+
+/// Has each sender forget what it met in a run, and count the messages that the outbox has of it as done.
+fn begin_each<J: Journal, R: Wait>(gate: &Gate<J>, senders: &mut Vec<Sender<J>>, rt: &R)
+    requires ready { All (λ s. IsReady gate.now s) senders.old.items }
+    ensures begun { BegunEach gate.now senders.old.items senders.new.items }
+{
+    for place in 0..senders.len() {
+        senders[place].count_done(gate, rt);
+        senders[place].refused = None;
+        senders[place].turned = false;
     }
 }
 
@@ -178,6 +195,8 @@ fn settle<J: Journal, R: Wait>(
 impl<J: Journal + Send> Producers<J> for Plans<J> {
     ghost use Rattle.gate_staff.specs.Plans.{part_in, plan_in, IsFresh, HasPasses, GaveOut, IsAble, Worked, Did};
 
+    type Held = Kept<J>;
+
     type Producer = Sender<J>;
 
     ghost count = { λ p. length p.senders.items };
@@ -206,6 +225,12 @@ impl<J: Journal + Send> Producers<J> for Plans<J> {
 
     ghost let_in = { λ s. IsAdmitted s };
 
+    fn begin<R: Wait>(&mut self, gate: &Gate<J>, rt: &R) {
+        begin_each(gate, &mut self.senders, rt);
+        self.done = false;
+        self.why = None;
+    }
+
     fn give(&mut self) -> Vec<Sender<J>> {
         std::mem::replace(&mut self.senders, Vec::new(self.alloc))
     }
@@ -227,5 +252,15 @@ impl<J: Journal + Send> Producers<J> for Plans<J> {
 
     fn fault(&self) -> Option<StaffFault> {
         self.why
+    }
+
+    fn end(self, gate: &Gate<J>, passes: &mut Passes<Kept<J>>)
+        requires own { HasPasses (lock_of gate.now) (senders_of gate.now) self }
+        requires next { (before : ℕ) × AreNext (lock_of gate.now) passes.old before (length self.senders.items) (part_in self.senders.items) }
+        ensures these { (before : ℕ) → AreNext (lock_of gate.now) passes.old before (length self.senders.items) (part_in self.senders.items) → HasThese (lock_of gate.now) passes.new (before + length self.senders.items) }
+        ensures known { (before : ℕ) → AreNext (lock_of gate.now) passes.old before (length self.senders.items) (part_in self.senders.items) → (n : ℕ) → In (length self.senders.items) n → known_at passes.new (before + n) ≡ part_in self.senders.items n }
+        ensures others { (before : ℕ) → AreNext (lock_of gate.now) passes.old before (length self.senders.items) (part_in self.senders.items) → (n : ℕ) → In before n → known_at passes.new n ≡ known_at passes.old n }
+    {
+        give_back(gate, self.into_senders(), passes);
     }
 }

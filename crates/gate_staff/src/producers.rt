@@ -1,16 +1,20 @@
 //! The trait of producers: they put messages into an outbox beside the connections of a life, each in a thread of its own where one can be made.
-ghost use Rattle.std.specs.Prelude.{◌≡◌, ℕ, Bool, false, List, All, Option, IsTrue, IsFalse};
+ghost use Rattle.std.specs.Prelude.{◌≡◌, ℕ, ◌+◌, Bool, false, List, All, Option, None, IsTrue, IsFalse};
 ghost use Rattle.gate_turn.specs.Views.{Part};
+ghost use Rattle.gate_turn.specs.Rule.{In};
+ghost use Rattle.gate_turn.specs.Listed.{known_at};
 ghost use Rattle.atomic_table.specs.Seated.{TableId};
 ghost use Rattle.gate_senders.specs.Gate.{senders_of};
-ghost use Rattle.gate_staff.specs.Business.{lock_of};
+ghost use Rattle.gate_staff.specs.Business.{lock_of, HasThese, SendNothing};
 ghost use Rattle.gate_staff.specs.Hands.{WorkedEach};
 ghost use Rattle.gate_staff.specs.Producers.{AreBack, Produced};
+ghost use Rattle.gate_staff.specs.Seats.{AreNext};
 ghost use Rattle.gate_staff.specs.declared.fault.StaffFault.{StaffFault};
 
 use crate::door::Door;
 use crate::fault::StaffFault;
 use gate_senders::Gate;
+use gate_turn::Passes;
 use jr_dated::Journal;
 use std::sync::Wait;
 use std::thread;
@@ -19,6 +23,9 @@ use std::thread::Threads;
 /// Those who put messages into an outbox beside the connections of a life, by passes of a gate, each of which has a plan. For a run they are given
 /// out, each does its part, and then they are taken back and the mark that nothing more comes is added, where all is done.
 pub trait Producers<J: Journal + Send> {
+    /// What the passes are of: the outbox of `J` that the gate keeps.
+    type Held;
+
     /// One who does its part in a thread.
     type Producer: Drop + Send;
 
@@ -61,6 +68,14 @@ pub trait Producers<J: Journal + Send> {
     /// No door turned this one away.
     ghost let_in: { Self.Producer → Type 0 };
 
+    /// Counts what the outbox has of each pass: what is to come goes on behind that.
+    fn begin<R: Wait>(&mut self, gate: &Gate<J>, rt: &R)
+        requires own { has (lock_of gate.now) (senders_of gate.now) self.old }
+        ensures own { has (lock_of gate.now) (senders_of gate.now) self.new }
+        ensures same { (count self.new ≡ count self.old) × ((n : ℕ) → plan self.new n ≡ plan self.old n) }
+        ensures stands { stands self.new × (why self.new ≡ None) }
+        ensures silent { SendNothing (count self.old) (part self.old) (part self.new) };
+
     /// Gives them out for a run.
     fn give(&mut self) -> Vec<Self::Producer>
         ensures gave { gave self.old self.new result.items }
@@ -91,6 +106,14 @@ pub trait Producers<J: Journal + Send> {
     /// Why they ended before all was done, but for a door.
     fn fault(&self) -> Option<StaffFault>
         ensures { result ≡ why self.now };
+
+    /// Gives their passes back for good, to a list that has those before theirs.
+    fn end(self, gate: &Gate<J>, passes: &mut Passes<Self::Held>)
+        requires own { has (lock_of gate.now) (senders_of gate.now) self }
+        requires next { (before : ℕ) × AreNext (lock_of gate.now) passes.old before (count self) (part self) }
+        ensures these { (before : ℕ) → AreNext (lock_of gate.now) passes.old before (count self) (part self) → HasThese (lock_of gate.now) passes.new (before + count self) }
+        ensures known { (before : ℕ) → AreNext (lock_of gate.now) passes.old before (count self) (part self) → (n : ℕ) → In (count self) n → known_at passes.new (before + n) ≡ part self n }
+        ensures others { (before : ℕ) → AreNext (lock_of gate.now) passes.old before (count self) (part self) → (n : ℕ) → In before n → known_at passes.new n ≡ known_at passes.old n };
 
     /// One run: each does its part, all at once, in threads where these can be made; and then the mark is added, where all is done.
     final fn produce_all<D: Door + Sync, R: Threads + Wait + Sync>(

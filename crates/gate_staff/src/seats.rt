@@ -8,7 +8,8 @@ ghost use Rattle.gate_turn.specs.Calls.{IsFree};
 ghost use Rattle.gate_senders.specs.Gate.{senders_of, IsPassAt, HasBackAt, MadeAt, AllBackAt};
 ghost use Rattle.gate_staff.specs.Business.{lock_of, HasThese};
 ghost use Rattle.gate_staff.specs.Runs.{IsReady, RanEach, IsWhole, IsAdmitted, IsLowest, CountedEach};
-ghost use Rattle.gate_staff.specs.Seats.{Seated, SeatedFrom, HasTheirs, HasBehind};
+ghost use Rattle.gate_staff.specs.Plans.{part_in};
+ghost use Rattle.gate_staff.specs.Seats.{Seated, SeatedFrom, HasTheirs, HasBehind, AreNext};
 
 use crate::door::Door;
 use crate::run::run_senders;
@@ -168,6 +169,34 @@ pub fn unseat<J: Journal>(gate: &Gate<J>, mut senders: Vec<Sender<J>>, passes: &
     requires few { vec_len senders ≤ 16 }
     ensures back { AllBackAt gate.now passes.new }
     ensures theirs { HasTheirs passes.old passes.new senders.items }
+{
+    let _ = gate;
+    for _ in 0..senders.len() {
+        let Some(sender) = senders.pop() else {
+            unreachable!()
+        };
+        let Sender {
+            pass,
+            plan: _,
+            done: _,
+            refused: _,
+            turned: _,
+        } = sender;
+        passes.give(pass);
+    }
+}
+
+/// Gives the passes of senders back to a list that has those before theirs.
+pub(crate) fn give_back<J: Journal>(
+    gate: &Gate<J>,
+    mut senders: Vec<Sender<J>>,
+    passes: &mut Passes<Kept<J>>,
+)
+    requires ready { All (λ s. IsReady gate.now s) senders.items }
+    requires next { (before : ℕ) × AreNext (lock_of gate.now) passes.old before (vec_len senders) (part_in senders.items) }
+    ensures these { (before : ℕ) → AreNext (lock_of gate.now) passes.old before (vec_len senders) (part_in senders.items) → HasThese (lock_of gate.now) passes.new (before + vec_len senders) }
+    ensures known { (before : ℕ) → AreNext (lock_of gate.now) passes.old before (vec_len senders) (part_in senders.items) → (n : ℕ) → In (vec_len senders) n → known_at passes.new (before + n) ≡ part_in senders.items n }
+    ensures others { (before : ℕ) → AreNext (lock_of gate.now) passes.old before (vec_len senders) (part_in senders.items) → (n : ℕ) → In before n → known_at passes.new n ≡ known_at passes.old n }
 {
     let _ = gate;
     for _ in 0..senders.len() {

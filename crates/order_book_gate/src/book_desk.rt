@@ -114,6 +114,10 @@ impl<J: Journal + Send> Business<J> for BookDesk<J> {
 
     ghost worked = { λ lock senders payloads before after. ⊤ };
 
+    fn is_empty(&self) -> bool {
+        false
+    }
+
     fn begin<R: Wait>(&mut self, gate: &Gate<J>, rt: &R) {
         self.desk.count(gate, rt);
         self.book = Book::new(self.alloc);

@@ -145,6 +145,10 @@ impl<J: Journal + Send, D: Door + Send + Drop> Business<J> for Desks<J, D> {
 
     ghost worked = { λ lock senders payloads h k. Worked lock senders payloads h k };
 
+    fn is_empty(&self) -> bool {
+        self.desks == 0
+    }
+
     fn begin<R: Wait>(&mut self, gate: &Gate<J>, rt: &R) {
         count_each(self.hands.as_mut_slice(), gate, rt);
         self.counted = true;
