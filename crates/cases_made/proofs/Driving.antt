@@ -24,7 +24,7 @@ use Rattle.gate_senders.specs.Gate.{IsPassAt, MadeAt, HasBackAt, senders_of, ope
 use Rattle.gate_turn.proofs.Histories.{begins_self}
 use Rattle.gate_senders.specs.declared.gate.Gate.{Gate}
 use Rattle.gate_senders.specs.declared.kept.Kept.{Kept}
-use Rattle.gate_staff.proofs.Seating.{all_behind, all_back}
+use Rattle.gate_staff.proofs.Parting.{made_back}
 use Rattle.conn_turns.specs.Lines.{Line, TakenFrame, AreTaken, size_of, line_after, lines_after}
 use Rattle.conn_turns.specs.Exact.{line_ticked}
 use Rattle.conn_turns.specs.declared.answer.TurnEnd.{TurnEnd}
@@ -48,9 +48,13 @@ module _ {J : Type 0} {G : Ghosts J} where
 
   -- the passes that a gate is made with
   pub passes_made : (gate : Gate J G) (passes : Passes (Kept J G)) (senders : ℕ) → 1 ≤ senders → senders ≤ 16 → MadeAt gate passes (senders + 1) → senders_of gate ≡ senders → HasPasses gate passes senders
-  passes_made gate passes senders some few made count =
-      let behind = all_behind gate (senders + 1) passes (omega (arith, some)) made in
-      record { back = all_back gate (senders + 1) passes (omega (arith, some)) (omega (arith, few)) behind; made = behind.first refl; count = count; some = some; few = few }
+  passes_made gate passes senders some few made count = record {
+    back = made_back gate senders passes passes few made;
+    made = ap (λ (p : Part). p.made) (made.each 1 (record { from_one = omega arith; up_to = omega (arith, some) })).1;
+    count = count;
+    some = some;
+    few = few;
+  }
 
   -- a pass that the list has
   pub pass_back : (gate : Gate J G) (passes : Passes (Kept J G)) (senders n : ℕ) → HasPasses gate passes senders → 1 ≤ n → n ≤ senders + 1 → HasBackAt gate passes n

@@ -1,33 +1,24 @@
 -- What the passes know that senders were seated with, and what the count of a disk's faults is by what the gate tells of its outbox.
 use Rattle.std.proofs.Common.{◌≡◌, ◌==◌, ℕ, suc, ◌+◌, ◌<◌, ◌≤◌, Bool, true, false, List, length, slice_index_or, Option, Some, if◌then◌else◌, refl, sym, ap, subst, ◌∙◌, arith, add-one}
-use Rattle.session_model.specs.Journal.{BeginsHistory}
 use Rattle.jr_dated.specs.declared.journal.Journal.{Ghosts}
 use Rattle.gate_turn.specs.Views.{Account, Part, new_part}
 use Rattle.gate_turn.specs.Rule.{In}
 use Rattle.gate_turn.specs.Places.{known}
-use Rattle.gate_turn.specs.Listed.{pass_at, known_if, known_at}
-use Rattle.gate_turn.specs.Calls.{made_part}
+use Rattle.gate_turn.specs.Listed.{known_if, known_at}
 use Rattle.gate_turn.specs.declared.pass.Pass.{Pass}
 use Rattle.gate_turn.specs.declared.passes.Passes.{Passes}
-use Rattle.gate_turn.proofs.Histories.{begins_self}
 use Rattle.gate_senders.specs.Gate.{opening_of, MadeAt}
 use Rattle.gate_senders.specs.declared.gate.Gate.{Gate}
 use Rattle.gate_senders.specs.declared.kept.Kept.{Kept}
 use Rattle.gate_staff.specs.Seats.{SeatedFrom}
 use Rattle.gate_staff.specs.declared.sender.Sender.{Sender}
 use Rattle.plan_values.specs.declared.plan.Plan.{Plan}
-use Rattle.life_laws.proofs.Passes.{part_at}
 use Rattle.fed_laws.specs.Laws.{IsNew}
 
 -- where the count, and one more once it is broken, did not fall, and rose where it is broken, the count did not fall
 pub never_fell : (old new : ℕ) (was now : Bool) → old + (if was then 1 else 0) ≤ new + (if now then 1 else 0) → (now ≡ true → old + (if was then 1 else 0) < new + (if now then 1 else 0)) → old ≤ new
 never_fell old new was true least more = omega (arith, more refl)
 never_fell old new was false least more = omega (arith, least)
-
--- a pass that was made and took no turn has seen the opening history
-pub seen_at : {T : Type 0} (old at : Passes T) (pass : Pass T) (n made : ℕ) (a : Account) → known_at old n ≡ made_part made a n → pass_at at n ≡ pass_at old n → pass_at at n ≡ Some pass → BeginsHistory a.history (known pass).seen
-seen_at old at pass n made a is same there =
-    subst (λ h. BeginsHistory a.history h) (sym (ap (λ (p : Part). p.seen) (part_at old at pass n (made_part made a n) is same there))) (begins_self a.history)
 
 -- a sender's pass that was seated knows what it was made with
 pub new_seated : {J : Type 0} {G : Ghosts J} (gate : Gate J G) (passes : Passes (Kept J G)) (plans : List Plan) (senders : List (Sender J G)) (many : ℕ) → MadeAt gate passes (many + 1) → length senders ≡ many → SeatedFrom passes plans senders

@@ -7,7 +7,7 @@ use Rattle.conn_door.specs.declared.answer.ServeFault.{ServeFault}
 use Rattle.conn_door.specs.declared.answer.ServeFault.TheVariants as faults
 use Rattle.conn_door.specs.declared.answer.LifeEnd.{LifeEnd}
 use Rattle.conn_door.specs.Answers.{answer_of, yields, IsOfSender, IsUnrefused}
-use Rattle.conn_door.proofs.Marking.{unanswered}
+use Rattle.conn_door.proofs.Yielding.{unanswered}
 use Rattle.gate_turn.specs.Views.{Part}
 use Rattle.conn_fed.specs.Fed.{IsMarked}
 use Rattle.conn_feed.specs.declared.end.FeedEnd.{FeedEnd}

@@ -28,7 +28,7 @@ use conn_feed::{FeedEnd, Feeder};
 use conn_serve::{Lent, Opening, ServeFault};
 use fixp_shake::EndConfig;
 use gate_senders::{Gate, Kept};
-use gate_staff::{Plan, Sender, give_last, seat, take_last, unseat};
+use gate_staff::{Plan, Sender, give_connection, seat, take_connection, unseat};
 use gate_turn::Passes;
 use gw_links::{Clock, Dialer};
 use gw_outside::{Disk, Sink, Source};
@@ -147,8 +147,8 @@ fn serve_seated<
 {
     let (plans, seats) = places;
     let count = plans.len() as u16;
+    let pass = take_connection(gate, passes, count);
     let senders = seat(gate, passes, plans, seats);
-    let pass = take_last(gate, passes, count);
     let mut feeder = Feeder::new(alloc, gate, senders, accepted, rt);
     let opening = Opening {
         alloc,
@@ -173,8 +173,8 @@ fn serve_seated<
         pass,
         inbox,
     } = lent;
-    give_last(gate, passes, count, pass);
-    unseat(gate, senders, passes);
+    *passes = unseat(gate, senders);
+    give_connection(gate, passes, count, pass);
     FedLife {
         fed,
         devices: Live { out, dialer, clock },

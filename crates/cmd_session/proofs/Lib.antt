@@ -11,4 +11,5 @@ pub mod Histories
 mod Opening
 pub mod Later
 pub mod Parted
+pub mod Staffed
 pub mod Crossing

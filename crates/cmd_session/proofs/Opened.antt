@@ -20,12 +20,9 @@ use Rattle.gate_senders.specs.Gate.{IsPassAt, opening_of}
 use Rattle.gate_senders.specs.declared.gate.Gate.{Gate}
 use Rattle.gate_turn.specs.Views.{Account, Part}
 use Rattle.gate_turn.specs.Places.{known}
-use Rattle.gate_turn.specs.Listed.{pass_at, known_at}
 use Rattle.gate_turn.specs.Calls.{IsFree, made_part}
 use Rattle.gate_turn.specs.declared.pass.Pass.{Pass}
-use Rattle.gate_turn.specs.declared.passes.Passes.{Passes}
 use Rattle.gate_turn.proofs.Histories.{begins_self}
-use Rattle.life_laws.proofs.Passes.{part_at}
 
 -- a record more, which jumps over nothing, moves the next number by one at most
 one_more : (flow : Flow) (before : List InboxRecord) (r : InboxRecord) → (flow ≡ flows.Idempotent → ⊥) → Fits flow before r → next_number before ≤ length before + 1
@@ -51,11 +48,6 @@ module _ {J : Type 0} {G : Ghosts J} where
   few_entries box h held = ∥∥₁_elim held (ℕ_set _ _) (λ s. s.tallied.all)
 
 -- a pass that was made and took no turn has seen the opening history
-pub seen_at : {T : Type 0} (old at : Passes T) (pass : Pass T) (n made : ℕ) (a : Account) → known_at old n ≡ made_part made a n → pass_at at n ≡ pass_at old n → pass_at at n ≡ Some pass → BeginsHistory a.history (known pass).seen
-seen_at old at pass n made a is same there =
-    subst (λ h. BeginsHistory a.history h) (sym (ap (λ (p : Part). p.seen) (part_at old at pass n (made_part made a n) is same there))) (begins_self a.history)
-
--- the same of a pass that has that part
 pub seen_by : {T : Type 0} (pass : Pass T) (n made : ℕ) (a : Account) → known pass ≡ made_part made a n → BeginsHistory a.history (known pass).seen
 seen_by pass n made a is = subst (λ h. BeginsHistory a.history h) (sym (ap (λ (p : Part). p.seen) is)) (begins_self a.history)
 

@@ -4,4 +4,5 @@ pub mod Boxes
 pub mod Answers
 pub mod Outsides
 pub mod Lived
+pub mod Staffed
 pub mod Steps

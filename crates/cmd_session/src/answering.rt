@@ -17,26 +17,29 @@ ghost use Rattle.gate_turn.specs.Places.{known};
 ghost use Rattle.gate_turn.specs.Rule.{In};
 ghost use Rattle.gate_turn.specs.Listed.{known_at};
 ghost use Rattle.gate_turn.specs.Calls.{IsFree, made_part};
-ghost use Rattle.gate_senders.specs.Gate.{opening_of, senders_of, IsPassAt, MadeAt, AllBackAt};
-ghost use Rattle.gate_staff.specs.Business.{lock_of, HasThese};
+ghost use Rattle.gate_senders.specs.Gate.{opening_of, senders_of, IsPassAt, AllBackAt};
+ghost use Rattle.gate_staff.specs.Business.{lock_of};
 ghost use Rattle.conn_door.specs.declared.answer.ServeFault.TheVariants as faults;
+ghost use Rattle.conn_serve.specs.Hears as lives;
+ghost use Rattle.conn_serve.specs.Lives.{MayOpen};
 ghost use Rattle.conn_serve.specs.Moments.{beside};
 ghost use Rattle.life_laws.specs.PlanLives.{clocked, LivesOnceClosed};
 ghost use Rattle.life_laws.specs.Answered.{answering};
 ghost use Rattle.cmd_session.specs.Answers.{desks_of, plan_of, MayAnswer, AreOf};
 ghost use Rattle.cmd_session.specs.Outsides.{hears};
 ghost use Rattle.cmd_session.specs.Lived.{IsOfLife, BeganNone, HasLived};
+ghost use Rattle.cmd_session.specs.Staffed.{AreNew};
 
 use crate::boxes::MOST;
-use crate::life::{Lived, Over, made_gate, status_of};
+use crate::life::{Lived, Over, lent_of, made_gate, serve_staff, status_of};
 use crate::outside::{Live, OverBoxes};
 use cmd_base::Status;
 use cmd_config::Trade;
-use conn_serve::{Answering, Lent, Opening, ServeFault, answer_lent};
+use conn_serve::{Lent, Opening, ServeFault};
 use fixp_shake::EndConfig;
 use gate_senders::{Gate, Kept};
-use gate_staff::{Business, OpenDoor, give_connection, take_connection};
-use gate_turn::{Pass, Passes};
+use gate_staff::{Business, Nobody, OpenDoor, Staff, give_connection, take_connection};
+use gate_turn::Passes;
 use gw_links::{Clock, Dialer};
 use gw_outside::{Disk, Sink};
 use jr_dated::Journal;
@@ -122,92 +125,24 @@ fn desk_sends<O: Journal + Send>()
     sends::<Desk<O>>();
 }
 
-/// All passes of so many desks and of the connection, where there was no memory for those who answer.
-fn none_made<O: Journal>(
+/// What comes of a life where there was no memory for those who answer: all passes of so many desks and of the connection are back.
+fn none_made<K, N, O: Journal, I: Journal, C>(
     gate: &Gate<O>,
+    lent: Lent<K, N, O, I, C>,
     passes: Passes<Kept<O>>,
     desks: u16,
-    pass: Pass<Kept<O>>,
-) -> Passes<Kept<O>>
-    requires few { desks ≤ 16 }
-    requires own { IsPassAt gate.now pass }
-    requires free { IsFree pass }
-    requires number { (known pass).number ≡ desks + 1 }
-    requires alone { desks ≡ 0 → (known pass).made ≡ 1 }
-    requires these { HasThese (lock_of gate.now) passes desks }
-    requires first { 0 < desks → (known_at passes 1).made ≡ desks + 1 }
-    ensures back { AllBackAt gate.now result }
-    ensures parts { (n : ℕ) → In desks n → known_at result n ≡ known_at passes n }
-    ensures last { known_at result (desks + 1) ≡ known pass }
-{
-    let mut passes = passes;
-    give_connection(gate, &mut passes, desks, pass);
-    passes
-}
-
-/// Serves the connections of the dialer, with a business of so many desks that answers what they apply. All passes come back. They are written apart
-/// from what else comes back: a list of one length beside what is generic would have its size proved at each call.
-fn serve_business<
-    O: Journal + Send,
-    K: Sink,
-    I: Journal,
-    N: Dialer,
-    C: Clock,
-    B: Business<O, Held = Kept<O>> + Send,
-    R: Threads + Wait + Sync,
->(
-    rt: &R,
-    alloc: Global,
-    config: EndConfig,
-    business: B,
-    desks: u16,
-    devices: Live<K, N, C>,
-    gate: &Gate<O>,
-    pass: Pass<Kept<O>>,
-    inbox: Inbox<I>,
     back: &mut Passes<Kept<O>>,
 ) -> Lived<K, N, C, I>
-    requires count { B.count business ≡ desks }
-    requires senders { senders_of gate.now ≡ desks }
-    requires some { 0 < desks }
     requires few { desks ≤ 16 }
-    requires has { B.has business (lock_of gate.now) }
-    requires parts { (n : ℕ) → In desks n → B.part business n ≡ made_part (desks + 1) (opening_of gate.now) n }
-    requires last { known pass ≡ made_part (desks + 1) (opening_of gate.now) (desks + 1) }
-    requires own { IsPassAt gate.now pass }
-    requires free { IsFree pass }
-    requires sent { length (opening_of gate.now).history.made < 2 ^ 40 }
-    requires in_sound { inboxes.is_broken inbox ≡ false }
-    requires held { ∥ ((i : List InboxRecord) × inboxes.HoldsBox inbox i []) ∥₁ }
-    requires lent { N.lent devices.dialer ≡ false }
-    requires flow { inboxes.flow_of inbox ≡ config.peer_flow }
-    requires limit { (inboxes.limits_of inbox).entries ≡ 2 ^ 26 }
-    requires numbered { inboxes.flow_of inbox ≡ flows.Recoverable → inboxes.next_of inbox + 1 < 2 ^ 64 }
-    requires config { (100 ≤ config.keepalive) × (config.keepalive ≤ 60000) × (length config.credentials ≤ 2048) }
+    requires own { IsPassAt gate.now lent.pass }
+    requires free { IsFree lent.pass }
+    requires new { AreNew gate.now desks passes lent.pass }
+    ensures answer { result.answer ≡ Err faults.Memory }
+    ensures devices { (result.devices.out ≡ lent.out) × (result.devices.dialer ≡ lent.dialer) × (result.devices.clock ≡ lent.clock) × (result.inbox ≡ lent.inbox) }
     ensures back { AllBackAt gate.now back.new }
-    ensures lived { LivesOnceClosed (clocked O.tells N.Link.Link (C.last devices.clock) (C.last result.devices.clock)) config (answering (B.plan business) (B.count business)) (beside (N.told devices.dialer) (K.taken devices.out) inbox) (beside (N.told result.devices.dialer) (K.taken result.devices.out) result.inbox) gate.now back.new result.answer }
-    ensures output { result.answer ≡ Err faults.Output → HasRisen (K.faults devices.out) (K.faults result.devices.out) }
-    ensures dial { result.answer ≡ Err faults.Dial → HasRisen (N.faults devices.dialer) (N.faults result.devices.dialer) }
-    ensures unlent { N.lent result.devices.dialer ≡ false }
-    ensures never_falls { (inboxes.faults_of inbox ≤ inboxes.faults_of result.inbox) × (K.faults devices.out ≤ K.faults result.devices.out) × (N.faults devices.dialer ≤ N.faults result.devices.dialer) }
+    ensures parts { (n : ℕ) → In desks n → known_at back.new n ≡ known_at passes n }
+    ensures last { known_at back.new (desks + 1) ≡ known lent.pass }
 {
-    let mut answering = Answering::new(alloc, business);
-    let opening = Opening {
-        alloc,
-        gate,
-        config,
-        most: MOST,
-    };
-    let Live { out, dialer, clock } = devices;
-    let lent = Lent {
-        out,
-        dialer,
-        clock,
-        pass,
-        inbox,
-    };
-    let (answer, lent) = answer_lent(opening, lent, &mut answering, rt);
-    let mut passes = answering.end().end();
     let Lent {
         out,
         dialer,
@@ -215,86 +150,99 @@ fn serve_business<
         pass,
         inbox,
     } = lent;
+    let mut passes = passes;
     give_connection(gate, &mut passes, desks, pass);
     *back = passes;
     Lived {
-        answer,
+        answer: Err(ServeFault::Memory),
         devices: Live { out, dialer, clock },
         inbox,
     }
 }
 
+/// A business at the gate, with nobody beside the connections: it answers what they apply. All passes are back behind that.
+fn serve_business<
+    K: Sink,
+    N: Dialer,
+    O: Journal + Send,
+    I: Journal,
+    C: Clock,
+    B: Business<O, Held = Kept<O>> + Send,
+    R: Threads + Wait + Sync,
+>(
+    opening: Opening<'_, O>,
+    lent: Lent<K, N, O, I, C>,
+    business: B,
+    back: &mut Passes<Kept<O>>,
+    rt: &R,
+) -> Lived<K, N, C, I>
+    requires may { MayOpen (lives.hears K.Sink N.Dialer N.Link.Link C.Clock) opening.gate.now opening.config opening.most lent }
+    requires most { opening.most ≡ 2 ^ 26 }
+    requires senders { senders_of opening.gate.now ≡ B.count business }
+    requires some { 0 < B.count business }
+    requires has { B.has business (lock_of opening.gate.now) }
+    requires parts { (n : ℕ) → In (B.count business) n → B.part business n ≡ made_part (B.count business + 1) (opening_of opening.gate.now) n }
+    requires last { known lent.pass ≡ made_part (B.count business + 1) (opening_of opening.gate.now) (B.count business + 1) }
+    requires in_sound { inboxes.is_broken lent.inbox ≡ false }
+    requires held { ∥ ((i : List InboxRecord) × inboxes.HoldsBox lent.inbox i []) ∥₁ }
+    ensures back { AllBackAt opening.entry.gate.now back.new }
+    ensures lived { LivesOnceClosed (clocked O.tells N.Link.Link (C.last lent.clock) (C.last result.devices.clock)) opening.entry.config (answering (B.plan business) (B.count business)) (beside (N.told lent.dialer) (K.taken lent.out) lent.inbox) (beside (N.told result.devices.dialer) (K.taken result.devices.out) result.inbox) opening.entry.gate.now back.new result.answer }
+    ensures output { result.answer ≡ Err faults.Output → HasRisen (K.faults lent.out) (K.faults result.devices.out) }
+    ensures dial { result.answer ≡ Err faults.Dial → HasRisen (N.faults lent.dialer) (N.faults result.devices.dialer) }
+    ensures unlent { N.lent result.devices.dialer ≡ false }
+    ensures never_falls { (inboxes.faults_of lent.inbox ≤ inboxes.faults_of result.inbox) × (K.faults lent.out ≤ K.faults result.devices.out) × (N.faults lent.dialer ≤ N.faults result.devices.dialer) }
+{
+    let alloc = opening.alloc;
+    let staff = Staff {
+        business,
+        producers: Nobody { alloc },
+    };
+    serve_staff(opening, lent, staff, back, rt)
+}
+
 /// Those who answer, made for the passes of so many desks: they serve the connections, and all passes come back, also where there is no
 /// memory for them.
 fn serve_answerer<
-    O: Journal + Send,
     K: Sink,
-    I: Journal,
     N: Dialer,
+    O: Journal + Send,
+    I: Journal,
     C: Clock,
     R: Threads + Wait + Sync,
 >(
-    rt: &R,
-    alloc: Global,
-    config: EndConfig,
+    opening: Opening<'_, O>,
+    lent: Lent<K, N, O, I, C>,
     answerer: Answerer,
-    devices: Live<K, N, C>,
-    gate: &Gate<O>,
     passes: Passes<Kept<O>>,
-    inbox: Inbox<I>,
     back: &mut Passes<Kept<O>>,
+    rt: &R,
 ) -> Lived<K, N, C, I>
     requires able { MayAnswer answerer }
-    requires senders { senders_of gate.now ≡ desks_of answerer }
-    requires made { MadeAt gate.now passes (desks_of answerer + 1) }
-    requires sent { length (opening_of gate.now).history.made < 2 ^ 40 }
-    requires in_sound { inboxes.is_broken inbox ≡ false }
-    requires held { ∥ ((i : List InboxRecord) × inboxes.HoldsBox inbox i []) ∥₁ }
-    requires lent { N.lent devices.dialer ≡ false }
-    requires flow { inboxes.flow_of inbox ≡ config.peer_flow }
-    requires limit { (inboxes.limits_of inbox).entries ≡ 2 ^ 26 }
-    requires numbered { inboxes.flow_of inbox ≡ flows.Recoverable → inboxes.next_of inbox + 1 < 2 ^ 64 }
-    requires config { (100 ≤ config.keepalive) × (config.keepalive ≤ 60000) × (length config.credentials ≤ 2048) }
-    ensures back { AllBackAt gate.now back.new }
-    ensures lived { LivesOnceClosed (clocked O.tells N.Link.Link (C.last devices.clock) (C.last result.devices.clock)) config (answering (plan_of answerer) (desks_of answerer)) (beside (N.told devices.dialer) (K.taken devices.out) inbox) (beside (N.told result.devices.dialer) (K.taken result.devices.out) result.inbox) gate.now back.new result.answer }
-    ensures output { result.answer ≡ Err faults.Output → HasRisen (K.faults devices.out) (K.faults result.devices.out) }
-    ensures dial { result.answer ≡ Err faults.Dial → HasRisen (N.faults devices.dialer) (N.faults result.devices.dialer) }
+    requires may { MayOpen (lives.hears K.Sink N.Dialer N.Link.Link C.Clock) opening.gate.now opening.config opening.most lent }
+    requires most { opening.most ≡ 2 ^ 26 }
+    requires new { AreNew opening.gate.now (desks_of answerer) passes lent.pass }
+    requires in_sound { inboxes.is_broken lent.inbox ≡ false }
+    requires held { ∥ ((i : List InboxRecord) × inboxes.HoldsBox lent.inbox i []) ∥₁ }
+    ensures back { AllBackAt opening.entry.gate.now back.new }
+    ensures lived { LivesOnceClosed (clocked O.tells N.Link.Link (C.last lent.clock) (C.last result.devices.clock)) opening.entry.config (answering (plan_of answerer) (desks_of answerer)) (beside (N.told lent.dialer) (K.taken lent.out) lent.inbox) (beside (N.told result.devices.dialer) (K.taken result.devices.out) result.inbox) opening.entry.gate.now back.new result.answer }
+    ensures output { result.answer ≡ Err faults.Output → HasRisen (K.faults lent.out) (K.faults result.devices.out) }
+    ensures dial { result.answer ≡ Err faults.Dial → HasRisen (N.faults lent.dialer) (N.faults result.devices.dialer) }
     ensures unlent { N.lent result.devices.dialer ≡ false }
-    ensures never_falls { (inboxes.faults_of inbox ≤ inboxes.faults_of result.inbox) × (K.faults devices.out ≤ K.faults result.devices.out) × (N.faults devices.dialer ≤ N.faults result.devices.dialer) }
+    ensures never_falls { (inboxes.faults_of lent.inbox ≤ inboxes.faults_of result.inbox) × (K.faults lent.out ≤ K.faults result.devices.out) × (N.faults lent.dialer ≤ N.faults result.devices.dialer) }
 {
     form_sends();
     book_sends();
     door_sends();
     desk_sends::<O>();
-    let count = answerer.desks();
-    let mut passes = passes;
-    let pass = take_connection(gate, &mut passes, count);
+    let alloc = opening.alloc;
     match answerer {
         Answerer::Desks(terms) => match Desks::new(alloc, passes, terms, OpenDoor) {
-            Ok(desks) => serve_business(
-                rt, alloc, config, desks, count, devices, gate, pass, inbox, back,
-            ),
-            Err(passes) => {
-                *back = none_made(gate, passes, count, pass);
-                Lived {
-                    answer: Err(ServeFault::Memory),
-                    devices,
-                    inbox,
-                }
-            }
+            Ok(desks) => serve_business(opening, lent, desks, back, rt),
+            Err(passes) => none_made(opening.gate, lent, passes, terms.desks, back),
         },
         Answerer::Book { version } => match BookDesk::new(alloc, passes, version) {
-            Ok(book) => serve_business(
-                rt, alloc, config, book, count, devices, gate, pass, inbox, back,
-            ),
-            Err(passes) => {
-                *back = none_made(gate, passes, count, pass);
-                Lived {
-                    answer: Err(ServeFault::Memory),
-                    devices,
-                    inbox,
-                }
-            }
+            Ok(book) => serve_business(opening, lent, book, back, rt),
+            Err(passes) => none_made(opening.gate, lent, passes, 1, back),
         },
     }
 }
@@ -331,7 +279,8 @@ pub fn live_answering<K: Sink, D: Disk + Send, N: Dialer, C: Clock, R: Threads +
         outbox,
         inbox,
     } = over;
-    let (gate, passes) = match made_gate(alloc, outbox, answerer.desks()) {
+    let count = answerer.desks();
+    let (gate, mut passes) = match made_gate(alloc, outbox, count) {
         Ok(made) => made,
         Err(outbox) => {
             let over = OverBoxes {
@@ -342,9 +291,21 @@ pub fn live_answering<K: Sink, D: Disk + Send, N: Dialer, C: Clock, R: Threads +
             return (Status::Memory, over);
         }
     };
+    let pass = take_connection(&gate, &mut passes, count);
+    let opening = Opening {
+        alloc,
+        gate: &gate,
+        config,
+        most: MOST,
+    };
     let mut back = Passes::new();
     let lived = serve_answerer(
-        rt, alloc, config, answerer, live, &gate, passes, inbox, &mut back,
+        opening,
+        lent_of(live, pass, inbox),
+        answerer,
+        passes,
+        &mut back,
+        rt,
     );
     let Lived {
         answer,

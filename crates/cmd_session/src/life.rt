@@ -9,28 +9,33 @@ ghost use Rattle.jr_kept.specs.Inbox as inboxes;
 ghost use Rattle.gate_senders.specs.Gate.{opening_of, senders_of, OpensOn, MadeAt, AllBackAt};
 ghost use Rattle.fixp_machine.specs.Machine.{fresh};
 ghost use Rattle.plan_values.specs.Plans.{payloads_of};
+ghost use Rattle.gate_turn.specs.Places.{known};
+ghost use Rattle.gate_turn.specs.Calls.{made_part};
 ghost use Rattle.gate_turn.specs.Listed.{known_at};
-ghost use Rattle.gate_staff.specs.Seats.{Seated};
+ghost use Rattle.gate_turn.specs.declared.pass.Pass.{Pass};
+ghost use Rattle.gate_senders.specs.declared.kept.Kept.{Kept};
+ghost use Rattle.gate_staff.specs.Staff.{IsStaffed};
 ghost use Rattle.conn_door.specs.declared.answer.ServeFault.TheVariants as faults;
-ghost use Rattle.conn_door.specs.Senders.{SomeMarked};
 ghost use Rattle.conn_serve.specs.Moments.{beside};
 ghost use Rattle.conn_serve.specs.Hears as lives;
-ghost use Rattle.conn_serve.specs.Lives.{serving_with, MayOpen, ComesBack};
-ghost use Rattle.conn_door.specs.Answers.{IsUnrefused};
-ghost use Rattle.conn_serve.specs.Opening.{opened_state, ServedThrough};
+ghost use Rattle.conn_serve.specs.Lives.{MayOpen};
+ghost use Rattle.conn_serve.specs.Opening.{opened_state};
 ghost use Rattle.life_laws.specs.Plans.{submitting};
 ghost use Rattle.life_laws.specs.PlanLives.{clocked, ServedAt};
 ghost use Rattle.cmd_session.specs.Outsides.{hears};
 ghost use Rattle.cmd_session.specs.Lived.{status_of, IsOfLife, BeganNone, HasLived};
+ghost use Rattle.cmd_session.specs.Staffed.{AreNew, back_with, LivedWith};
 
 use crate::boxes::MOST;
 use crate::outside::{Live, OverBoxes};
 use cmd_base::{JournalCause, Status};
-use conn_serve::{Lent, Opening, ServeFault, serve_lent};
+use conn_serve::{Lent, Opening, ServeFault, live_lent};
 use fixp_shake::EndConfig;
 use gate_senders::{Gate, Kept};
-use gate_staff::{Plans, Sender, count_done, give_last, seat, take_last, unseat};
-use gate_turn::Passes;
+use gate_staff::{
+    Business, NoBusiness, Plans, Producers, Sender, Staff, seat, take_connection,
+};
+use gate_turn::{Pass, Passes};
 use gw_links::{Clock, Dialer};
 use gw_outside::{Disk, Sink};
 use jr_dated::Journal;
@@ -72,35 +77,72 @@ pub(crate) struct Lived<K, N, C, I: Journal> {
     pub inbox: Inbox<I>,
 }
 
-/// Serves the connections of the dialer, with the senders that were seated beside them. What was lent to the life comes back.
-fn serve_beside<
+/// What a life is lent of these devices and this inbox, with the connection's pass.
+pub(crate) fn lent_of<K, N, O: Journal, I: Journal, C>(
+    devices: Live<K, N, C>,
+    pass: Pass<Kept<O>>,
+    inbox: Inbox<I>,
+) -> Lent<K, N, O, I, C>
+    ensures { (result.out ≡ devices.out) × (result.dialer ≡ devices.dialer) × (result.clock ≡ devices.clock) × (result.pass ≡ pass) × (result.inbox ≡ inbox) }
+{
+    let Live { out, dialer, clock } = devices;
+    Lent {
+        out,
+        dialer,
+        clock,
+        pass,
+        inbox,
+    }
+}
+
+/// Serves the connections of the dialer, with all who send, and has all passes back. They are written apart from what else comes back: a list of one
+/// length beside what is generic would have its size proved at each call.
+pub(crate) fn serve_staff<
     K: Sink,
     N: Dialer,
     O: Journal + Send,
     I: Journal,
     C: Clock,
+    B: Business<O, Held = Kept<O>> + Send,
+    P: Producers<O, Held = Kept<O>> + Send,
     R: Threads + Wait + Sync,
 >(
     opening: Opening<'_, O>,
     lent: Lent<K, N, O, I, C>,
-    senders: &mut Plans<O>,
+    staff: Staff<B, P>,
+    back: &mut Passes<Kept<O>>,
     rt: &R,
-) -> (Result<(), ServeFault>, Lent<K, N, O, I, C>)
-    requires seated { Seated opening.gate.now senders.old.senders.items (vec_len senders.old.senders + 1) }
+) -> Lived<K, N, C, I>
     requires may { MayOpen (lives.hears K.Sink N.Dialer N.Link.Link C.Clock) opening.gate.now opening.config opening.most lent }
-    ensures seated { Seated opening.entry.gate.now senders.new.senders.items (vec_len senders.new.senders + 1) }
-    ensures count { vec_len senders.new.senders ≡ vec_len senders.old.senders }
-    ensures comes_back { ComesBack (lives.hears K.Sink N.Dialer N.Link.Link C.Clock) opening.entry.gate.now lent result.1 }
-    ensures through { ServedThrough N.Link.Link (C.last lent.clock) (C.last result.1.clock) opening.entry.gate.now (serving_with (lives.hears K.Sink N.Dialer N.Link.Link C.Clock) lent senders.old.senders.items) (serving_with (lives.hears K.Sink N.Dialer N.Link.Link C.Clock) result.1 senders.new.senders.items) (fresh opening.entry.config (opened_state (opening_of opening.entry.gate.now).history lent.inbox) opening.entry.most) result.0 }
-    ensures marked { IsUnrefused result.0 → 0 < vec_len senders.old.senders → SomeMarked senders.new.senders.items }
-    ensures output { result.0 ≡ Err faults.Output → HasRisen (K.faults lent.out) (K.faults result.1.out) }
-    ensures dial { result.0 ≡ Err faults.Dial → HasRisen (N.faults lent.dialer) (N.faults result.1.dialer) }
+    requires staffed { IsStaffed B.Business P.Producers opening.gate.now staff }
+    requires sound { 0 < B.count staff.business → inboxes.is_broken lent.inbox ≡ false }
+    requires last { known lent.pass ≡ made_part (senders_of opening.gate.now + 1) (opening_of opening.gate.now) (senders_of opening.gate.now + 1) }
+    ensures back { AllBackAt opening.entry.gate.now back.new }
+    ensures lived { (pass : Pass (Kept _ _)) × LivedWith B.Business P.Producers (lives.hears K.Sink N.Dialer N.Link.Link C.Clock) O.tells lent (back_with result pass) staff (fresh opening.entry.config (opened_state (opening_of opening.entry.gate.now).history lent.inbox) opening.entry.most) back.new result.answer }
+    ensures output { result.answer ≡ Err faults.Output → HasRisen (K.faults lent.out) (K.faults result.devices.out) }
+    ensures dial { result.answer ≡ Err faults.Dial → HasRisen (N.faults lent.dialer) (N.faults result.devices.dialer) }
+    ensures unlent { N.lent result.devices.dialer ≡ false }
+    ensures limits { inboxes.limits_of result.inbox ≡ inboxes.limits_of lent.inbox }
+    ensures never_falls { (inboxes.faults_of lent.inbox ≤ inboxes.faults_of result.inbox) × (K.faults lent.out ≤ K.faults result.devices.out) × (N.faults lent.dialer ≤ N.faults result.devices.dialer) }
 {
-    serve_lent(opening, lent, senders, rt)
+    let gate = opening.gate;
+    let (answer, lent, staff) = live_lent(opening, lent, staff, rt);
+    let Lent {
+        out,
+        dialer,
+        clock,
+        pass,
+        inbox,
+    } = lent;
+    *back = staff.end(gate, pass);
+    Lived {
+        answer,
+        devices: Live { out, dialer, clock },
+        inbox,
+    }
 }
 
-/// Seats a sender for each plan and counts what the outbox has of each as done, serves the connections beside them, and gives all
-/// passes back.
+/// Seats a sender for each plan and serves the connections beside them. All passes are back behind that.
 fn serve_seated<
     O: Journal + Send,
     K: Sink,
@@ -109,72 +151,34 @@ fn serve_seated<
     C: Clock,
     R: Threads + Wait + Sync,
 >(
-    rt: &R,
-    alloc: Global,
-    config: EndConfig,
+    opening: Opening<'_, O>,
+    lent: Lent<K, N, O, I, C>,
     mut plans: Vec<Plan>,
     seats: Vec<Sender<O>>,
-    devices: Live<K, N, C>,
-    gate: &Gate<O>,
     passes: &mut Passes<Kept<O>>,
-    inbox: Inbox<I>,
+    rt: &R,
 ) -> Lived<K, N, C, I>
-    requires made { MadeAt gate.now passes.old (vec_len plans + 1) }
-    requires count { senders_of gate.now ≡ vec_len plans }
+    requires may { MayOpen (lives.hears K.Sink N.Dialer N.Link.Link C.Clock) opening.gate.now opening.config opening.most lent }
+    requires new { AreNew opening.gate.now (vec_len plans) passes.old lent.pass }
     requires few { vec_len plans ≤ 16 }
     requires empty { seats.items ≡ [] }
     requires room { vec_len plans ≤ vec_capacity seats }
-    requires sent { length (opening_of gate.now).history.made < 2 ^ 40 }
-    requires lent { N.lent devices.dialer ≡ false }
-    requires flow { inboxes.flow_of inbox ≡ config.peer_flow }
-    requires limit { (inboxes.limits_of inbox).entries ≡ 2 ^ 26 }
-    requires numbered { inboxes.flow_of inbox ≡ flows.Recoverable → inboxes.next_of inbox + 1 < 2 ^ 64 }
-    requires least { 100 ≤ config.keepalive }
-    requires greatest { config.keepalive ≤ 60000 }
-    requires credentials { length config.credentials ≤ 2048 }
-    ensures back { AllBackAt gate.now passes.new }
-    ensures served { ServedAt (clocked O.tells N.Link.Link (C.last devices.clock) (C.last result.devices.clock)) (opening_of gate.now) (map payloads_of plans.items) (known_at passes.new) (beside (N.told devices.dialer) (K.taken devices.out) inbox) (beside (N.told result.devices.dialer) (K.taken result.devices.out) result.inbox) (fresh config (opened_state (opening_of gate.now).history inbox) (2 ^ 26)) result.answer }
-    ensures output { result.answer ≡ Err faults.Output → HasRisen (K.faults devices.out) (K.faults result.devices.out) }
-    ensures dial { result.answer ≡ Err faults.Dial → HasRisen (N.faults devices.dialer) (N.faults result.devices.dialer) }
-    ensures lent { N.lent result.devices.dialer ≡ false }
-    ensures never_falls { (inboxes.faults_of inbox ≤ inboxes.faults_of result.inbox) × (K.faults devices.out ≤ K.faults result.devices.out) × (N.faults devices.dialer ≤ N.faults result.devices.dialer) }
+    ensures back { AllBackAt opening.entry.gate.now passes.new }
+    ensures served { ServedAt (clocked O.tells N.Link.Link (C.last lent.clock) (C.last result.devices.clock)) (opening_of opening.entry.gate.now) (map payloads_of plans.items) (known_at passes.new) (beside (N.told lent.dialer) (K.taken lent.out) lent.inbox) (beside (N.told result.devices.dialer) (K.taken result.devices.out) result.inbox) (fresh opening.entry.config (opened_state (opening_of opening.entry.gate.now).history lent.inbox) opening.entry.most) result.answer }
+    ensures output { result.answer ≡ Err faults.Output → HasRisen (K.faults lent.out) (K.faults result.devices.out) }
+    ensures dial { result.answer ≡ Err faults.Dial → HasRisen (N.faults lent.dialer) (N.faults result.devices.dialer) }
+    ensures unlent { N.lent result.devices.dialer ≡ false }
+    ensures never_falls { (inboxes.faults_of lent.inbox ≤ inboxes.faults_of result.inbox) × (K.faults lent.out ≤ K.faults result.devices.out) × (N.faults lent.dialer ≤ N.faults result.devices.dialer) }
 {
-    let count = plans.len() as u16;
+    let alloc = opening.alloc;
     // Seats are given from the last plan on.
     plans.as_mut_slice().reverse();
-    let mut senders = seat(gate, passes, plans, seats);
-    let pass = take_last(gate, passes, count);
-    count_done(gate, &mut senders, rt);
-    let opening = Opening {
-        alloc,
-        gate,
-        config,
-        most: MOST,
+    let senders = seat(opening.gate, passes, plans, seats);
+    let staff = Staff {
+        business: NoBusiness,
+        producers: Plans::new(alloc, senders),
     };
-    let Live { out, dialer, clock } = devices;
-    let lent = Lent {
-        out,
-        dialer,
-        clock,
-        pass,
-        inbox,
-    };
-    let mut senders = Plans::new(alloc, senders);
-    let (answer, lent) = serve_beside(opening, lent, &mut senders, rt);
-    let Lent {
-        out,
-        dialer,
-        clock,
-        pass,
-        inbox,
-    } = lent;
-    give_last(gate, passes, count, pass);
-    unseat(gate, senders.into_senders(), passes);
-    Lived {
-        answer,
-        devices: Live { out, dialer, clock },
-        inbox,
-    }
+    serve_staff(opening, lent, staff, passes, rt)
 }
 
 /// What a life over boxes on one kind of disk is lived on.
@@ -252,16 +256,20 @@ pub fn live<K: Sink, D: Disk + Send, N: Dialer, C: Clock, R: Threads + Wait + Sy
             );
         }
     };
-    let lived = serve_seated(
-        rt,
+    let pass = take_connection(&gate, &mut passes, plans.len() as u16);
+    let opening = Opening {
         alloc,
+        gate: &gate,
         config,
+        most: MOST,
+    };
+    let lived = serve_seated(
+        opening,
+        lent_of(live, pass, inbox),
         plans,
         seats,
-        live,
-        &gate,
         &mut passes,
-        inbox,
+        rt,
     );
     let Lived {
         answer,

@@ -1,2 +1,2 @@
-pub mod Marking
-pub mod Resuming
+pub mod Finishing
+pub mod Yielding

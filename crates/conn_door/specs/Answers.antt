@@ -72,10 +72,10 @@ answer_of (Ok ends.Stopped) (Some refusal) = Err refusal
 answer_of (Err fault) None = Err fault
 answer_of (Err fault) (Some refusal) = if yields_to fault refusal then Err refusal else Err fault
 
--- what is answered behind an answer, where senders that went on were refused so, if they were
-abbrev pub late_answer : Result (Unit {0}) ServeFault → Option ServeFault → Result (Unit {0}) ServeFault
-late_answer answer None = answer
-late_answer answer (Some fault) = Err fault
+-- the refusal of all who send: that of the business, if it was refused, or else that of the producers
+abbrev pub refusal_of : (business : Option ServeFault) (producers : Option StaffFault) → Option ServeFault
+refusal_of None producers = option_map served producers
+refusal_of (Some fault) producers = Some fault
 
 -- no refusal of a sender or of the Finish is answered, and nothing failed
 abbrev pub IsUnrefused : Result (Unit {0}) ServeFault → Type 0

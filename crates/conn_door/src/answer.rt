@@ -1,7 +1,7 @@
 //! How a life of connections ends, and what it answers for them and for the senders beside them.
 
 ghost use Rattle.std.specs.Prelude.{◌≡◌, IsTrue, IsFalse, option_map};
-ghost use Rattle.conn_door.specs.Answers.{served, submit_fault, yields_to, late_answer, answer_of, IsUnrefused};
+ghost use Rattle.conn_door.specs.Answers.{served, submit_fault, yields_to, refusal_of, answer_of, IsUnrefused};
 
 use fixp_shake::Phase;
 use gate_staff::StaffFault;
@@ -96,16 +96,16 @@ pub(crate) fn is_unrefused(answer: Result<(), ServeFault>) -> bool
     )
 }
 
-/// The answer of a life that answered so, behind which senders were refused so, if they were.
-pub(crate) fn late_answer(
-    answer: Result<(), ServeFault>,
-    late: Option<ServeFault>,
-) -> Result<(), ServeFault>
-    ensures { result ≡ late_answer answer late }
+/// The refusal of all who send: that of the business, if it was refused, or else that of the producers.
+pub fn refusal_of(
+    business: Option<ServeFault>,
+    producers: Option<StaffFault>,
+) -> Option<ServeFault>
+    ensures { result ≡ refusal_of business producers }
 {
-    match late {
-        Some(fault) => Err(fault),
-        None => answer,
+    match business {
+        Some(fault) => Some(fault),
+        None => served_if(producers),
     }
 }
 

@@ -1,20 +1,19 @@
-//! The senders of a life: all plans at once, and the Finish behind them.
+//! Those who send beside the connections of a life: through the door that the connections keep, and behind them.
 
-ghost use Rattle.std.specs.Prelude.{◌≡◌, true, All, List, None};
+ghost use Rattle.std.specs.Prelude.{◌≡◌, true};
 ghost use Rattle.gate_turn.specs.Places.{known};
 ghost use Rattle.gate_turn.specs.Calls.{IsFree};
 ghost use Rattle.gate_senders.specs.Gate.{IsPassAt, senders_of};
 ghost use Rattle.gate_staff.specs.Business.{lock_of};
-ghost use Rattle.gate_staff.specs.Plans.{HasPasses, Did};
-ghost use Rattle.gate_staff.specs.Runs.{IsReady, IsAdmitted};
-ghost use Rattle.gate_staff.specs.declared.sender.Sender.{Sender};
+ghost use Rattle.gate_staff.specs.Staff.{Leaves};
+ghost use Rattle.conn_door.specs.Answers.{IsUnrefused};
 ghost use Rattle.conn_door.specs.Doors.{is_open};
-ghost use Rattle.conn_door.specs.Senders.{Finishes, SubmittedAll};
+ghost use Rattle.conn_door.specs.Senders.{Finishes};
 
-use crate::answer::{ServeFault, served_if};
+use crate::answer::{ServeFault, is_unrefused, served_if};
 use crate::entrance::Entrance;
 use gate_senders::{Gate, Kept};
-use gate_staff::{OpenDoor, Plans, Producers};
+use gate_staff::{OpenDoor, Producers};
 use gate_turn::Pass;
 use gw_links::Wake;
 use jr_dated::Journal;
@@ -36,80 +35,63 @@ pub fn finish_by<O: Journal, R: Wait>(
     served_if(gate_staff::finish_by(gate, pass, rt))
 }
 
-/// A run of the senders through the door that the connections keep.
-fn run_plans<O: Journal + Send, W: Wake + Sync, R: Threads + Wait + Sync>(
-    gate: &Gate<O>,
-    senders: &mut Plans<O>,
-    entrance: &Entrance<W>,
-    rt: &R,
-)
-    requires has { HasPasses (lock_of gate.now) (senders_of gate.now) senders.old }
-    ensures did { Did (lock_of gate.now) (senders_of gate.now) senders.old senders.new }
-    ensures admitted { is_open entrance.now ≡ true → All IsAdmitted senders.new.senders.items }
+/// A run of producers through the door that the connections keep.
+fn run_through<
+    O: Journal + Send,
+    P: Producers<O> + Send,
+    W: Wake + Sync,
+    R: Threads + Wait + Sync,
+>(gate: &Gate<O>, producers: &mut P, entrance: &Entrance<W>, rt: &R)
+    requires own { P.has (lock_of gate.now) (senders_of gate.now) producers.old }
+    ensures own { P.has (lock_of gate.now) (senders_of gate.now) producers.new }
+    ensures did { P.did (lock_of gate.now) (senders_of gate.now) producers.old producers.new }
+    ensures leaves { (start : P) → P.did (lock_of gate.now) (senders_of gate.now) start producers.new → Leaves P.Producers start producers.new }
+    ensures admitted { is_open entrance.now ≡ true → P.admitted producers.new }
 {
     match entrance.wide() {
-        Some(door) => senders.produce_all(gate, &door, rt),
-        None => senders.produce_all(gate, entrance, rt),
+        Some(door) => producers.produce_all(gate, &door, rt),
+        None => producers.produce_all(gate, entrance, rt),
     }
 }
 
-/// Has the senders submit all plans, and adds the Finish where all are submitted and there are senders. Answers the refusal that was met, if one
-/// was other than that the outbox is closed.
-fn submit_plans<O: Journal + Send, W: Wake + Sync, R: Threads + Wait + Sync>(
-    gate: &Gate<O>,
-    senders: &mut Plans<O>,
-    entrance: &Entrance<W>,
-    rt: &R,
-) -> Option<ServeFault>
-    requires ready { All (λ s. IsReady gate.now s) senders.old.senders.items }
-    ensures ready { All (λ s. IsReady gate.now s) senders.new.senders.items }
-    ensures submitted { SubmittedAll gate.now senders.old.senders.items senders.new.senders.items result }
-    ensures admitted { is_open entrance.now ≡ true → All IsAdmitted senders.new.senders.items }
+/// Has producers do their parts beside the connections, through the door that these keep, and tells the connections to stop where a fault was met.
+/// Then it wakes them.
+pub fn produce_beside<
+    O: Journal + Send,
+    P: Producers<O> + Send,
+    W: Wake + Sync,
+    R: Threads + Wait + Sync,
+>(gate: &Gate<O>, producers: &mut P, entrance: &Entrance<W>, rt: &R)
+    requires own { P.has (lock_of gate.now) (senders_of gate.now) producers.old }
+    ensures own { P.has (lock_of gate.now) (senders_of gate.now) producers.new }
+    ensures did { P.did (lock_of gate.now) (senders_of gate.now) producers.old producers.new }
+    ensures leaves { (start : P) → P.did (lock_of gate.now) (senders_of gate.now) start producers.new → Leaves P.Producers start producers.new }
+    ensures admitted { is_open entrance.now ≡ true → P.admitted producers.new }
 {
-    senders.set_out();
-    run_plans(gate, senders, entrance, rt);
-    served_if(Producers::<O>::fault(senders))
-}
-
-/// Submits the plans and adds the Finish behind them, and tells the connections to stop where a refusal was met. Then it wakes them.
-/// Answers the refusal that was met, if one was other than that the outbox is closed.
-pub fn submit_all<O: Journal + Send, W: Wake + Sync, R: Threads + Wait + Sync>(
-    gate: &Gate<O>,
-    senders: &mut Plans<O>,
-    entrance: &Entrance<W>,
-    rt: &R,
-) -> Option<ServeFault>
-    requires ready { All (λ s. IsReady gate.now s) senders.old.senders.items }
-    ensures ready { All (λ s. IsReady gate.now s) senders.new.senders.items }
-    ensures submitted { SubmittedAll gate.now senders.old.senders.items senders.new.senders.items result }
-    ensures admitted { is_open entrance.now ≡ true → All IsAdmitted senders.new.senders.items }
-{
-    let refused = submit_plans(gate, senders, entrance, rt);
-    if refused.is_some() {
+    run_through(gate, producers, entrance, rt);
+    if producers.fault().is_some() {
         entrance.stop();
     }
     entrance.wake();
-    refused
 }
 
-/// Behind the connections, has the senders that were turned away submit what is left of their plans, and adds the Finish where all are
-/// submitted. What was refused before is answered, and nothing is done then. Answers the refusal that was met, if one was other than
-/// that the outbox is closed.
-pub(crate) fn submit_turned<O: Journal + Send, R: Threads + Wait + Sync>(
+/// Behind the connections of a life, which answers so for them and the run beside them, has those go on whom the door turned away, where no refusal is
+/// answered, and nothing failed. Both runs are one.
+pub fn produce_behind<O: Journal + Send, P: Producers<O> + Send, R: Threads + Wait + Sync>(
     gate: &Gate<O>,
-    senders: &mut Plans<O>,
-    refused: Option<ServeFault>,
+    producers: &mut P,
+    answer: Result<(), ServeFault>,
     rt: &R,
-) -> Option<ServeFault>
-    requires ready { All (λ s. IsReady gate.now s) senders.old.senders.items }
-    ensures ready { All (λ s. IsReady gate.now s) senders.new.senders.items }
-    ensures one_run { (before : List (Sender _ _)) → SubmittedAll gate.now before senders.old.senders.items refused → SubmittedAll gate.now before senders.new.senders.items result }
-    ensures admitted { result ≡ None → All IsAdmitted senders.new.senders.items }
-    ensures same { All IsAdmitted senders.old.senders.items → senders.new.senders.items ≡ senders.old.senders.items }
+)
+    requires own { P.has (lock_of gate.now) (senders_of gate.now) producers.old }
+    ensures own { P.has (lock_of gate.now) (senders_of gate.now) producers.new }
+    ensures one_run { (start : P) → P.did (lock_of gate.now) (senders_of gate.now) start producers.old → Leaves P.Producers start producers.old
+        → P.did (lock_of gate.now) (senders_of gate.now) start producers.new × Leaves P.Producers start producers.new }
+    ensures same { P.admitted producers.old → producers.new ≡ producers.old }
+    ensures kept { (IsUnrefused answer → ⊥) → producers.new ≡ producers.old }
+    ensures admitted { IsUnrefused answer → P.admitted producers.new }
 {
-    if refused.is_some() || !Producers::<O>::is_kept_back(senders) {
-        return refused;
+    if is_unrefused(answer) && producers.is_kept_back() {
+        producers.produce_all(gate, &OpenDoor, rt);
     }
-    senders.produce_all(gate, &OpenDoor, rt);
-    served_if(Producers::<O>::fault(senders))
 }

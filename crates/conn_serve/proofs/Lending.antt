@@ -7,7 +7,6 @@ use Rattle.jr_dated.specs.declared.journal.Journal.{Ghosts}
 use Rattle.gate_turn.specs.Places.{known}
 use Rattle.gate_turn.specs.Calls.{IsFree}
 use Rattle.gate_senders.specs.declared.gate.Gate.{Gate}
-use Rattle.gate_staff.specs.declared.sender.Sender.{Sender}
 use Rattle.gate_staff.proofs.Resuming.{stays_self}
 use Rattle.conn_loop.specs.Ends.{pass_of}
 use Rattle.conn_loop.proofs.Working.{looks_self}
@@ -20,9 +19,8 @@ use Rattle.conn_serve.specs.declared.life.Lent.{Lent}
 use Rattle.gw_links.specs.declared.link.Link.{Ghosts as LinkGhosts}
 use Rattle.conn_serve.specs.Answering.{AnsweringAt, AnsweredSo, faults_around}
 use Rattle.conn_serve.specs.Hears.{Hears}
-use Rattle.conn_serve.specs.Lives.{lent_in, machine_in, serving_with, MayOpen, IsIdle, Lasts, GoesOn, ServedIn, ServedWith, ComesBack}
+use Rattle.conn_serve.specs.Lives.{lent_in, machine_in, MayOpen, IsIdle, Lasts, GoesOn, ServedIn, ServedWith, ComesBack}
 use Rattle.conn_serve.specs.Moments.{faults_at}
-use Rattle.conn_serve.specs.Opening.{ServedThrough}
 use Rattle.conn_serve.proofs.Living.{nothing_served}
 use Rattle.conn_serve.proofs.Opened.{blamed_none}
 
@@ -84,20 +82,6 @@ module _ {K N C O I : Type 0} {G : Ghosts O} {H : Ghosts I} (hears : Hears K N C
     over = nothing_served hears.links (hears.clock.last lent.clock) _ _ _ m lent.inbox;
     blamed = blamed_none (faults_at _ _ _ lent.inbox) (faults_at _ _ _ lent.inbox);
   }
-
-  pub unserved : (gate : Gate O G) (lent : Lent K N O I C G H) (senders : List (Sender O G)) (m : State)
-      → ServedThrough hears.links (hears.clock.last lent.clock) (hears.clock.last lent.clock) gate (serving_with hears lent senders) (serving_with hears lent senders) m (Err faults.Memory)
-  unserved gate lent senders m =
-      let none = unserved_over G.tells lent m in
-      record {
-        connections = Err faults.Memory;
-        refused = None;
-        life = none.over;
-        blamed = none.blamed;
-        senders = inr (refl, refl, refl);
-        answer = refl;
-        admitted = λ again never. absurd (never refl);
-      }
 
 -- nothing was served, and nothing answered, where there was no memory to begin
 pub none_answered : {J : Type 0} {G : Ghosts J} {L : Type 0} (tells : Type 0) (links : LinkGhosts L) (clock : ℕ) (at : AnsweringAt J G) (m : State) → at.business.refused ≡ None

@@ -6,7 +6,7 @@ pub mod Lasting
 pub mod Living
 pub mod Opened
 pub mod Lending
-pub mod Marking
+pub mod Staffing
 pub mod Following
 pub mod Resuming
 pub mod Upto

@@ -1,29 +1,26 @@
 -- Where a life opens.
-use Rattle.std.proofs.Common.{◌≡◌, ◌≤◌, ℕ, Bool, true, false, length, Some, None, Result, refl, sym, ap, subst, ◌∙◌, arith}
+use Rattle.std.proofs.Common.{◌≡◌, ◌≤◌, ℕ, Bool, true, false, length, Some, None, refl, sym, ap, subst, ◌∙◌, arith}
 use Rattle.std.specs.Prelude.{◌<◌, if◌then◌else◌, IfSome}
 use Rattle.std.proofs.lemmas.Bool.{false≢true}
 use Rattle.session_model.specs.Journal.{History, BeginsHistory}
 use Rattle.session_model.proofs.Lists.{prefix_length}
 use Rattle.fixp_shake.specs.declared.config.EndConfig.{EndConfig}
 use Rattle.fixp_machine.specs.Machine.{State, fresh}
-use Rattle.gw_links.specs.declared.link.Link.{Ghosts as LinkGhosts}
 use Rattle.jr_dated.specs.declared.journal.Journal.{Ghosts}
 use Rattle.jr_kept.specs.declared.inbox.Inbox.{Inbox}
 use Rattle.jr_kept.specs.Inbox.{flow_of, limits_of}
 use Rattle.gate_turn.specs.Views.{Part}
 use Rattle.gate_turn.specs.Places.{known}
 use Rattle.gate_turn.specs.declared.pass.Pass.{Pass}
-use Rattle.gate_senders.specs.declared.gate.Gate.{Gate}
 use Rattle.gate_senders.specs.declared.kept.Kept.{Kept}
 use Rattle.conn_turns.specs.Lines.{Line}
 use Rattle.conn_loop.specs.Ends.{line_in, pass_of, pass_in, box_in}
 use Rattle.conn_loop.specs.declared.live.LiveEnd.{LiveEnd}
-use Rattle.conn_door.specs.declared.answer.ServeFault.{ServeFault}
 use Rattle.conn_door.specs.declared.answer.ServeFault.TheVariants as faults
 use Rattle.conn_serve.specs.Causes.{IsBlamed}
 use Rattle.conn_serve.specs.Turned.{MayBegin}
-use Rattle.conn_serve.specs.Opening.{opened_state, ServedBy, ServedThrough}
-use Rattle.conn_serve.specs.Moments.{FaultsAt, ServingAt}
+use Rattle.conn_serve.specs.Opening.{opened_state}
+use Rattle.conn_serve.specs.Moments.{FaultsAt}
 
 mark : (h s : History) → BeginsHistory h s → (b : Bool) → h.finished ≡ b → IfSome (if b then Some (length h.made) else None) (λ n. (s.finished ≡ true) × (length s.made ≡ n))
 mark h s begins true e = (ap (λ (x : History). x.finished) (sym (begins.alone e)) ∙ e, ap (λ (x : History). length x.made) (sym (begins.alone e)))
@@ -53,21 +50,3 @@ module _ {O I C : Type 0} {G : Ghosts O} {H : Ghosts I} where
       subst (λ (p : Pass (Kept O G)). MayBegin (line_in e).machine (known p) (box_in e)) (sym passes)
       (subst (λ (b : Inbox I H). MayBegin (line_in e).machine (known pass) b) (sym boxes)
       (may_open config most h (line_in e).machine (known pass) box (ap (λ (l : Line). l.machine) lines ∙ is) begins few credentials flow within))
-
-module _ {J : Type 0} {G : Ghosts J} {O : Type 0} {H : Ghosts O} where
-  pub served_at : {L : Type 0} (links : LinkGhosts L) (before behind : ℕ) (gate : Gate O H) (old new : ServingAt J G O H) (m n : State) (result : Result (Unit {0}) ServeFault) → m ≡ n
-      → ServedThrough links before behind gate old new m result → ServedThrough links before behind gate old new n result
-  served_at links before behind gate old new m n result is served = subst (λ (s : State). ServedThrough links before behind gate old new s result) is served
-
-  -- so the life was served, whatever its links and its clock
-  pub served_by : {L : Type 0} (links : LinkGhosts L) (before behind : ℕ) (gate : Gate O H) (old new : ServingAt J G O H) (m : State) (result : Result (Unit {0}) ServeFault)
-      → ServedThrough links before behind gate old new m result → ServedBy gate old new m result
-  served_by links before behind gate old new m result s = record {
-    connections = s.connections;
-    refused = s.refused;
-    life = s.life.life;
-    blamed = s.blamed;
-    senders = s.senders;
-    answer = s.answer;
-    admitted = s.admitted;
-  }

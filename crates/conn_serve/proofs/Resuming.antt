@@ -1,7 +1,8 @@
 -- A life whose business took its place first, which changes nothing of what the inbox holds.
-use Rattle.std.proofs.Common.{◌≡◌, ◌≤◌, ℕ, false, List, [], ◌++◌, Option, Result, Ok, Err, refl, sym, subst, ◌∙◌}
-use Rattle.std.specs.Prelude.{IfErr}
+use Rattle.std.proofs.Common.{◌≡◌, ◌<◌, ◌≤◌, inl, ℕ, zero, suc, true, false, List, [], ◌++◌, Option, None, Result, Ok, Err, refl, sym, subst, ◌∙◌, arith}
+use Rattle.std.specs.Prelude.{IfErr, OnErr}
 use Rattle.std.proofs.lemmas.Bool.{false≢true}
+use Rattle.std.proofs.lemmas.Option.{none-some}
 use Rattle.session_model.specs.Journal.{History}
 use Rattle.session_model.specs.Inbox.{InboxRecord}
 use Rattle.fixp_machine.specs.Machine.{State}
@@ -9,12 +10,18 @@ use Rattle.gw_links.specs.Dialers.{DialerTold}
 use Rattle.gw_links.specs.declared.link.Link.{Ghosts as LinkGhosts}
 use Rattle.jr_dated.specs.declared.journal.Journal.{Ghosts}
 use Rattle.jr_dated.specs.declared.limits.Limits.{Limits}
+use Rattle.jr_dated.specs.declared.faults.FetchFault.TheVariants as fetch
+use Rattle.jr_boxes.specs.declared.faults.SubmitFault.TheVariants as submit
 use Rattle.jr_kept.specs.declared.inbox.Inbox.{Inbox}
 use Rattle.jr_kept.specs.Inbox.{SameContent, limits_of, flow_of, is_broken, size_of, faults_of}
 use Rattle.conn_steps.specs.Settling.{Refuses, HaveRoom, SameKind}
 use Rattle.conn_door.specs.declared.answer.ServeFault.{ServeFault}
 use Rattle.conn_door.specs.declared.answer.LifeEnd.{LifeEnd}
 use Rattle.conn_door.specs.declared.answer.LifeEnd.TheVariants as ends
+use Rattle.gate_staff.specs.Business.{StandsOnResume}
+use Rattle.gate_staff.specs.declared.business.ResumeFault.{ResumeFault}
+use Rattle.gate_staff.specs.declared.business.ResumeFault.TheVariants as resuming
+use Rattle.conn_serve.specs.Answering.{resume_fault}
 use Rattle.conn_serve.specs.Connections.{all_of, adds_of}
 use Rattle.conn_serve.specs.Served.{ServedLife, ServedOver}
 use Rattle.conn_serve.specs.Moments.{LifeAt, FaultsAt, life_at}
@@ -24,7 +31,37 @@ use Rattle.gate_turn.specs.Views.{Part}
 use Rattle.conn_serve.proofs.Making.{blamed_since}
 use Rattle.conn_serve.proofs.Living.{lived_none, over_stopped}
 
+pub some_before : {n m : ℕ} → n ≡ m → 0 < n → 0 < m
+some_before same some = omega (arith, same, some)
+
+pub some_refused : {A : Type 0} {result : Result (Unit {0}) ResumeFault} {f : ResumeFault} → OnErr result A → result ≡ Err f → A
+some_refused {A} some is = subst (λ (r : Result (Unit {0}) ResumeFault). OnErr r A) is some
+
+-- a business that answered, or was told that the outbox is closed, stands
+pub quiet_ok : (result : Result (Unit {0}) ResumeFault) (d : Unit {0}) → result ≡ Ok d → (A : Type 0) → StandsOnResume result A → A
+quiet_ok result d is A s = subst (λ (r : Result (Unit {0}) ResumeFault). StandsOnResume r A) is s
+
+pub quiet_closed : (result : Result (Unit {0}) ResumeFault) (f : ResumeFault) → result ≡ Err f → resume_fault f ≡ None → (A : Type 0) → StandsOnResume result A → A
+quiet_closed result f is none A s = of f none (subst (λ (r : Result (Unit {0}) ResumeFault). StandsOnResume r A) is s)
+  where
+    of : (f : ResumeFault) → resume_fault f ≡ None → StandsOnResume (Err f) A → A
+    of (resuming.Fetch fetch.Broken) e s = absurd (none-some _ (sym e))
+    of (resuming.Fetch fetch.Memory) e s = absurd (none-some _ (sym e))
+    of (resuming.Fetch fetch.Fault) e s = absurd (none-some _ (sym e))
+    of (resuming.Fetch (fetch.Changed at)) e s = absurd (none-some _ (sym e))
+    of (resuming.Submit submit.Broken) e s = absurd (none-some _ (sym e))
+    of (resuming.Submit submit.Closed) e s = s
+    of (resuming.Submit (submit.Full entries bytes)) e s = absurd (none-some _ (sym e))
+    of (resuming.Submit submit.Memory) e s = absurd (none-some _ (sym e))
+    of (resuming.Submit submit.Fault) e s = absurd (none-some _ (sym e))
+
 module _ {J : Type 0} {G : Ghosts J} where
+  -- an inbox that a business looked at, if it has passes, broke with no call of its own
+  pub broken_still : (count : ℕ) (old new : Inbox J G) (result : Result (Unit {0}) ResumeFault) → (count ≡ 0 → new ≡ old) → (0 < count → StandsOnResume result (is_broken new ≡ false))
+      → ((A : Type 0) → StandsOnResume result A → A) → is_broken new ≡ true → is_broken old ≡ true
+  broken_still zero old new result still unbroken quiet broken = subst (λ (b : Inbox J G). is_broken b ≡ true) (still refl) broken
+  broken_still (suc k) old new result still unbroken quiet broken = absurd (false≢true (sym (quiet (is_broken new ≡ false) (unbroken (omega arith))) ∙ broken))
+
   pub refuses_resumed : (box mid new : Inbox J G) (gained refused : List InboxRecord) → SameContent box mid → limits_of mid ≡ limits_of box
       → Refuses mid new gained refused → Refuses box new gained refused
   refuses_resumed box mid new gained refused content limits r = record {
@@ -33,8 +70,8 @@ module _ {J : Type 0} {G : Ghosts J} where
         (subst (λ (l : Limits). HaveRoom l.bytes (size_of mid) (gained ++ refused)) limits r.room);
   }
 
-  pub kind_resumed : (box mid : Inbox J G) → (limits_of mid ≡ limits_of box) × (flow_of mid ≡ flow_of box) → is_broken mid ≡ false → SameKind box mid
-  kind_resumed box mid kind sound = record { flow = kind.1; limits = kind.0; breaks = λ e. absurd (false≢true (sym sound ∙ e)) }
+  pub kind_resumed : (box mid : Inbox J G) → (limits_of mid ≡ limits_of box) × (flow_of mid ≡ flow_of box) → (is_broken mid ≡ true → is_broken box ≡ true) → SameKind box mid
+  kind_resumed box mid kind breaks = record { flow = kind.1; limits = kind.0; breaks = λ e. inl (breaks e) }
 
   pub may_resumed : (m : State) (p : Part) (box mid : Inbox J G) → SameContent box mid → (limits_of mid ≡ limits_of box) × (flow_of mid ≡ flow_of box) → MayBegin m p box → MayBegin m p mid
   may_resumed m p box mid content kind may = record {

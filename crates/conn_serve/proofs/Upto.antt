@@ -1,5 +1,5 @@
 -- How far a business answered: turn by turn, and connection by connection.
-use Rattle.std.proofs.Common.{◌≡◌, ◌≢◌, ◌⊎◌, inl, inr, ℕ, Bool, true, false, true≢false, List, [], ◌∷◌, ◌++◌, length, is_some, Option, Some, None, Result, Ok, Err, refl, sym, ap, subst, ◌∙◌, append-nil, append_assoc}
+use Rattle.std.proofs.Common.{◌≡◌, ◌≢◌, ◌⊎◌, inl, inr, ℕ, ◌<◌, Bool, true, false, true≢false, List, [], ◌∷◌, ◌++◌, length, is_some, Option, Some, None, Result, Ok, Err, refl, sym, ap, subst, ◌∙◌, arith, append-nil, append_assoc}
 use Rattle.std.specs.Bool.{⊤}
 use Rattle.std.proofs.Math.Logic.{∥∥₁_map}
 use Rattle.std.proofs.lemmas.Option.{none-some, same_Some}
@@ -90,71 +90,71 @@ module _ (b c d : BusinessAt) (fault : ServeFault) where
       of (inr h) = inr h
 
   pub refused_later : (unread otherwise : Type 0) → AllStay b.count c.part d.part → RefusedFor unread otherwise b c fault → RefusedFor unread otherwise b d fault
-  refused_later unread otherwise later r = record { of_business = r.of_business; journal = λ e. of (r.journal e); changed = r.changed }
+  refused_later unread otherwise later r = record { some = r.some; of_business = r.of_business; journal = λ e. of (r.journal e); changed = r.changed }
     where
       of : SeesFailed b.count b.part c.part ⊎ unread → SeesFailed b.count b.part d.part ⊎ unread
       of (inl s) = inl (failed_later later s)
       of (inr u) = inr u
 
   pub refused_earlier : (unread otherwise : Type 0) → c.count ≡ b.count → AllStay b.count b.part c.part → RefusedFor ⊥ ⊥ c d fault → RefusedFor unread otherwise b d fault
-  refused_earlier unread otherwise count earlier r = record { of_business = r.of_business; journal = λ e. of (r.journal e); changed = λ at e. absurd (r.changed at e) }
+  refused_earlier unread otherwise count earlier r = record { some = let some = r.some in omega (arith, some, count); of_business = r.of_business; journal = λ e. of (r.journal e); changed = λ at e. absurd (r.changed at e) }
     where
       of : SeesFailed c.count c.part d.part ⊎ ⊥ → SeesFailed b.count b.part d.part ⊎ unread
       of (inl s) = inl (failed_earlier count earlier s)
       of (inr none) = absurd none
 
 pub refused_any : (b c : BusinessAt) (fault : ServeFault) (some any here there : Type 0) → (some → any) → (here → there) → RefusedFor some here b c fault → RefusedFor any there b c fault
-refused_any b c fault some any here there f g r = record { of_business = r.of_business; journal = λ e. of (r.journal e); changed = λ at e. g (r.changed at e) }
+refused_any b c fault some any here there f g r = record { some = r.some; of_business = r.of_business; journal = λ e. of (r.journal e); changed = λ at e. g (r.changed at e) }
   where
     of : SeesFailed b.count b.part c.part ⊎ some → SeesFailed b.count b.part c.part ⊎ any
     of (inl s) = inl s
     of (inr u) = inr (f u)
 
-refused_memory : (unread otherwise : Type 0) (b c : BusinessAt) → RefusedFor unread otherwise b c faults.Memory
-refused_memory unread otherwise b c = record { of_business = tt; journal = λ e. absurd (cc e); changed = λ at e. absurd (cc e) }
+refused_memory : (unread otherwise : Type 0) (b c : BusinessAt) → 0 < b.count → RefusedFor unread otherwise b c faults.Memory
+refused_memory unread otherwise b c some = record { some = some; of_business = tt; journal = λ e. absurd (cc e); changed = λ at e. absurd (cc e) }
 
-refused_full : (unread otherwise : Type 0) (b c : BusinessAt) (entries bytes : ℕ) → RefusedFor unread otherwise b c (faults.Full entries bytes)
-refused_full unread otherwise b c entries bytes = record { of_business = tt; journal = λ e. absurd (cc e); changed = λ at e. absurd (cc e) }
+refused_full : (unread otherwise : Type 0) (b c : BusinessAt) (entries bytes : ℕ) → 0 < b.count → RefusedFor unread otherwise b c (faults.Full entries bytes)
+refused_full unread otherwise b c entries bytes some = record { some = some; of_business = tt; journal = λ e. absurd (cc e); changed = λ at e. absurd (cc e) }
 
 -- a journal is to blame for this, or it was not read
-refused_journal : (unread otherwise : Type 0) (b c : BusinessAt) → SeesFailed b.count b.part c.part ⊎ unread → RefusedFor unread otherwise b c faults.Journal
-refused_journal unread otherwise b c why = record { of_business = tt; journal = λ _. why; changed = λ at e. absurd (cc e) }
+refused_journal : (unread otherwise : Type 0) (b c : BusinessAt) → 0 < b.count → SeesFailed b.count b.part c.part ⊎ unread → RefusedFor unread otherwise b c faults.Journal
+refused_journal unread otherwise b c some why = record { some = some; of_business = tt; journal = λ _. why; changed = λ at e. absurd (cc e) }
 
 -- an answer to a business says why
-module _ (unread otherwise : Type 0) (b c : BusinessAt) (f : SubmitFault) (shown : f ≢ submit.Memory → ShownByOne b.count b.part c.part f) where
+module _ (unread otherwise : Type 0) (b c : BusinessAt) (some : 0 < b.count) (f : SubmitFault) (shown : f ≢ submit.Memory → ShownByOne b.count b.part c.part f) where
   pub refused_submit : (fault : ServeFault) → submit_fault f ≡ Some fault → RefusedFor unread otherwise b c fault
   refused_submit fault e = of f refl e
     where
       of : (g : SubmitFault) → f ≡ g → submit_fault g ≡ Some fault → RefusedFor unread otherwise b c fault
       of submit.Broken is e =
           let s = shown (λ m. let x : submit.Broken ≡ submit.Memory = sym is ∙ m in absurd (cc x)) in
-          subst (λ x. RefusedFor unread otherwise b c x) (same_Some faults.Journal fault e) (refused_journal unread otherwise b c (inl (record { number = s.number; inside = s.inside; failed = inr (s.broken is) })))
+          subst (λ x. RefusedFor unread otherwise b c x) (same_Some faults.Journal fault e) (refused_journal unread otherwise b c some (inl (record { number = s.number; inside = s.inside; failed = inr (s.broken is) })))
       of submit.Fault is e =
           let s = shown (λ m. let x : submit.Fault ≡ submit.Memory = sym is ∙ m in absurd (cc x)) in
-          subst (λ x. RefusedFor unread otherwise b c x) (same_Some faults.Journal fault e) (refused_journal unread otherwise b c (inl (record { number = s.number; inside = s.inside; failed = inl (s.failed is) })))
+          subst (λ x. RefusedFor unread otherwise b c x) (same_Some faults.Journal fault e) (refused_journal unread otherwise b c some (inl (record { number = s.number; inside = s.inside; failed = inl (s.failed is) })))
       of submit.Closed is e = absurd (none-some fault e)
-      of (submit.Full entries bytes) is e = subst (λ x. RefusedFor unread otherwise b c x) (same_Some (faults.Full entries bytes) fault e) (refused_full unread otherwise b c entries bytes)
-      of submit.Memory is e = subst (λ x. RefusedFor unread otherwise b c x) (same_Some faults.Memory fault e) (refused_memory unread otherwise b c)
+      of (submit.Full entries bytes) is e = subst (λ x. RefusedFor unread otherwise b c x) (same_Some (faults.Full entries bytes) fault e) (refused_full unread otherwise b c entries bytes some)
+      of submit.Memory is e = subst (λ x. RefusedFor unread otherwise b c x) (same_Some faults.Memory fault e) (refused_memory unread otherwise b c some)
 
 pub stays_none : (b : BusinessAt) → StaysBusiness b b
 stays_none b = record { count = refl; passes = λ n inside. stays_self (b.part n); refusal = λ fault e. inl e }
 
 -- one that was refused for want of memory
-pub stays_memory : (b : BusinessAt) → StaysBusiness b (record b { refused = Some faults.Memory })
-stays_memory b = record {
+pub stays_memory : (b : BusinessAt) → 0 < b.count → StaysBusiness b (record b { refused = Some faults.Memory })
+stays_memory b some = record {
   count = refl;
   passes = λ n inside. stays_self (b.part n);
-  refusal = λ fault e. inr (subst (λ x. RefusedFor ⊥ ⊥ b (record b { refused = Some faults.Memory }) x) (same_Some faults.Memory fault e) (refused_memory ⊥ ⊥ b (record b { refused = Some faults.Memory })));
+  refusal = λ fault e. inr (subst (λ x. RefusedFor ⊥ ⊥ b (record b { refused = Some faults.Memory }) x) (same_Some faults.Memory fault e) (refused_memory ⊥ ⊥ b (record b { refused = Some faults.Memory }) some));
 }
 
 -- one that was called
-pub stays_called : (b c : BusinessAt) (result : Result (Unit {0}) SubmitFault) → c.count ≡ b.count → AllStay b.count b.part c.part → c.refused ≡ call_fault result
+pub stays_called : (b c : BusinessAt) (result : Result (Unit {0}) SubmitFault) → 0 < b.count → c.count ≡ b.count → AllStay b.count b.part c.part → c.refused ≡ call_fault result
     → ((f : SubmitFault) → result ≡ Err f → f ≢ submit.Memory → ShownByOne b.count b.part c.part f) → StaysBusiness b c
-stays_called b c result count passes refused shown = record { count = count; passes = passes; refusal = λ fault e. inr (of result refl fault (sym refused ∙ e)) }
+stays_called b c result some count passes refused shown = record { count = count; passes = passes; refusal = λ fault e. inr (of result refl fault (sym refused ∙ e)) }
   where
     of : (r : Result (Unit {0}) SubmitFault) → result ≡ r → (fault : ServeFault) → call_fault r ≡ Some fault → RefusedFor ⊥ ⊥ b c fault
     of (Ok _) is fault e = absurd (none-some fault e)
-    of (Err f) is fault e = refused_submit ⊥ ⊥ b c f (shown f is) fault e
+    of (Err f) is fault e = refused_submit ⊥ ⊥ b c some f (shown f is) fault e
 
 pub stays_more : (b c d : BusinessAt) → StaysBusiness b c → StaysBusiness c d → StaysBusiness b d
 stays_more b c d x y = record {
@@ -209,7 +209,7 @@ module _ (p : ℕ → Part) (opening : List InboxRecord) (before : List (List �
     all = λ e none. inl (all (past e none) (a.all tt none));
   }
     where
-      all : has_peer_finished (opening ++ adds) ≡ true → (has_peer_finished (opening ++ a.answered) ≡ true) ⊎ ((a.answered ≡ adds) × b.stands (before ++ messages_of adds)) → has_peer_finished (opening ++ a.answered) ≡ true
+      all : has_peer_finished (opening ++ adds) ≡ true → (has_peer_finished (opening ++ a.answered) ≡ true) ⊎ ((a.answered ≡ adds) × (0 < b.count → b.stands (before ++ messages_of adds))) → has_peer_finished (opening ++ a.answered) ≡ true
       all finished (inl f) = f
       all finished (inr k) = subst (λ l. has_peer_finished (opening ++ l) ≡ true) (sym k.0) finished
 
@@ -231,29 +231,46 @@ module _ (p : ℕ → Part) (opening : List InboxRecord) (before : List (List �
   pub answers_weaker : (each other : Type 0) (b : BusinessAt) (adds : List InboxRecord) → (other → each) → Answers each b p opening before adds → Answers other b p opening before adds
   answers_weaker each other b adds f a = record { answered = a.answered; reached = a.reached; to = a.to; all = λ e none. a.all (f e) none }
 
+  -- one that has no passes
+  pub answers_empty : (b : BusinessAt) (adds more : List InboxRecord) → b.count ≡ 0 → b.refused ≡ None → Answers ⊤ b p opening before (adds ++ more)
+  answers_empty b adds more empty none = record {
+    answered = adds ++ more;
+    reached = prefix_self (adds ++ more);
+    to = record {
+      grew = record { same = λ n i. out n i; each = λ n i. out n i; ended = λ n i e. out n i; lost = λ n i. out n i };
+      whole = λ _. record { all = inr (λ n i. out n i); finish = λ some _. absurd (omega (arith, some, empty)) };
+      unlost = λ _ n i. out n i;
+      full = λ entries bytes e. absurd (none-some _ (sym none ∙ e));
+    };
+    all = λ e n. inr (refl, λ some. absurd (omega (arith, some, empty)));
+  }
+    where
+      out : {A : Type 0} (n : ℕ) → In b.count n → A
+      out n i = let from_one = i.from_one in let up_to = i.up_to in absurd (omega (arith, from_one, up_to, empty))
+
   -- ---- a call
 
   -- what is known where it stands behind all
-  standing : (b : BusinessAt) (adds : List InboxRecord) → has_peer_finished (opening ++ adds) ≡ false → b.refused ≡ None → Answers ⊤ b p opening before adds
+  standing : (b : BusinessAt) (adds : List InboxRecord) → 0 < b.count → has_peer_finished (opening ++ adds) ≡ false → b.refused ≡ None → Answers ⊤ b p opening before adds
       → b.stands (before ++ messages_of adds) × AnsweredTo b p (before ++ messages_of adds) false
-  standing b adds unfinished none a = by (a.all tt none)
+  standing b adds some unfinished none a = by (a.all tt none)
     where
-      by : (has_peer_finished (opening ++ a.answered) ≡ true) ⊎ ((a.answered ≡ adds) × b.stands (before ++ messages_of adds)) → b.stands (before ++ messages_of adds) × AnsweredTo b p (before ++ messages_of adds) false
+      by : (has_peer_finished (opening ++ a.answered) ≡ true) ⊎ ((a.answered ≡ adds) × (0 < b.count → b.stands (before ++ messages_of adds))) → b.stands (before ++ messages_of adds) × AnsweredTo b p (before ++ messages_of adds) false
       by (inl f) = absurd (true≢false (sym (finished_later opening a.answered adds a.reached f) ∙ unfinished))
-      by (inr k) = (k.1, subst (λ f. AnsweredTo b p (before ++ messages_of adds) f) unfinished (subst (λ l. AnsweredTo b p (before ++ messages_of l) (has_peer_finished (opening ++ l))) k.0 a.to))
+      by (inr k) = (k.1 some, subst (λ f. AnsweredTo b p (before ++ messages_of adds) f) unfinished (subst (λ l. AnsweredTo b p (before ++ messages_of l) (has_peer_finished (opening ++ l))) k.0 a.to))
 
-  module _ (b : BusinessAt) (adds more : List InboxRecord) (finished : Bool) (unfinished : has_peer_finished (opening ++ adds) ≡ false) (none : b.refused ≡ None)
+  module _ (b : BusinessAt) (adds more : List InboxRecord) (finished : Bool) (some : 0 < b.count) (unfinished : has_peer_finished (opening ++ adds) ≡ false) (none : b.refused ≡ None)
       (is : finished ≡ has_peer_finished (opening ++ (adds ++ more))) (a : Answers ⊤ b p opening before adds) where
     -- a turn that applied nothing, where there is no peer's finish
     pub answers_nothing : messages_of more ≡ [] → finished ≡ false → Answers ⊤ b p opening before (adds ++ more)
     answers_nothing empty f =
-        let s = standing b adds unfinished none a in
+        let s = standing b adds some unfinished none a in
         let same : before ++ messages_of adds ≡ before ++ messages_of (adds ++ more) = sym (append-nil (before ++ messages_of adds)) ∙ ap (λ l. (before ++ messages_of adds) ++ l) (sym empty) ∙ messages_on before adds more in
         record {
           answered = adds ++ more;
           reached = prefix_self (adds ++ more);
           to = subst (λ l. AnsweredTo b p l (has_peer_finished (opening ++ (adds ++ more)))) same (subst (λ g. AnsweredTo b p (before ++ messages_of adds) g) (sym f ∙ is) s.1);
-          all = λ e n. inr (refl, subst b.stands same s.0);
+          all = λ e n. inr (refl, λ _. subst b.stands same s.0);
         }
 
     -- a call
@@ -284,7 +301,7 @@ module _ (p : ℕ → Part) (opening : List InboxRecord) (before : List (List �
 
       pub answers_called : Answers ⊤ now p opening before (adds ++ more)
       answers_called =
-          let s = standing b adds unfinished none a in
+          let s = standing b adds some unfinished none a in
           let done : List (List ℕ) = before ++ messages_of adds in
           let same : done ++ payloads ≡ before ++ messages_of (adds ++ more) = ap (λ l. done ++ l) are ∙ messages_on before adds more in
           let u : Upto (λ n. b.plan n done) b.count p b.part = record { grew = s.1.grew; unlost = s.1.unlost none } in
@@ -297,7 +314,7 @@ module _ (p : ℕ → Part) (opening : List InboxRecord) (before : List (List �
             answered = adds ++ more;
             reached = prefix_self (adds ++ more);
             to = subst (λ l. AnsweredTo now p l (has_peer_finished (opening ++ (adds ++ more)))) same (subst (λ f. AnsweredTo now p (done ++ payloads) f) is there);
-            all = λ e n. inr (refl, subst now.stands same (stands_of result (now.stands (done ++ payloads)) (sym refused ∙ n) (stands done s.0)));
+            all = λ e n. inr (refl, λ _. subst now.stands same (stands_of result (now.stands (done ++ payloads)) (sym refused ∙ n) (stands done s.0)));
           }
 
 -- ---- the place behind the messages of an inbox
@@ -310,10 +327,10 @@ unread (fetch.Changed at) e = none-some _ e
 
 module _ (now : BusinessAt) (b_plan : ℕ → List (List ℕ) → List (List ℕ)) (b_count : ℕ) (p : ℕ → Part) (result : Result (Unit {0}) ResumeFault) (i : List InboxRecord) (l : List (List ℕ))
     (count : now.count ≡ b_count) (plan : now.plan ≡ b_plan) (quiet : (d : Unit {0}) → result ≡ Ok d → now.refused ≡ None) (refused : (f : ResumeFault) → result ≡ Err f → now.refused ≡ resume_fault f)
-    (stands : StandsOnResume result (now.stands l)) (resumed : Resumed (λ n. b_plan n l) b_count p now.part (has_peer_finished i) result)
+    (stands : 0 < now.count → StandsOnResume result (now.stands l)) (resumed : Resumed (λ n. b_plan n l) b_count p now.part (has_peer_finished i) result)
     (shown : (f : SubmitFault) → result ≡ Err (resuming.Submit f) → f ≢ submit.Memory → ShownByOne b_count p now.part f) where
-  resumed_to : (r : Result (Unit {0}) ResumeFault) → result ≡ r → Resumed (λ n. b_plan n l) b_count p now.part (has_peer_finished i) r → StandsOnResume r (now.stands l)
-      → Grew (λ n. b_plan n l) b_count p now.part (has_peer_finished i) × (now.refused ≡ None → Whole (λ n. b_plan n l) b_count p now.part (has_peer_finished i) × LoseNothing b_count p now.part × now.stands l)
+  resumed_to : (r : Result (Unit {0}) ResumeFault) → result ≡ r → Resumed (λ n. b_plan n l) b_count p now.part (has_peer_finished i) r → (0 < now.count → StandsOnResume r (now.stands l))
+      → Grew (λ n. b_plan n l) b_count p now.part (has_peer_finished i) × (now.refused ≡ None → Whole (λ n. b_plan n l) b_count p now.part (has_peer_finished i) × LoseNothing b_count p now.part × (0 < now.count → now.stands l))
   resumed_to (Ok _) e x s = (x.grew, λ n. (x.whole, x.unlost, s))
   resumed_to (Err (resuming.Submit submit.Closed)) e x s =
       let k = shown submit.Closed e (λ m. cc) in
@@ -339,19 +356,19 @@ module _ (now : BusinessAt) (b_plan : ℕ → List (List ℕ) → List (List ℕ
         answered = [];
         reached = prefix_self [];
         to = subst (λ m. AnsweredTo now p m (has_peer_finished (i ++ []))) (sym (append-nil l)) (subst (λ j. AnsweredTo now p l (has_peer_finished j)) (sym (append-nil i)) there);
-        all = λ e n. inr (refl, subst now.stands (sym (append-nil l)) (x.1 n).2);
+        all = λ e n. inr (refl, λ some. subst now.stands (sym (append-nil l)) ((x.1 n).2 some));
       }
 
 -- why it did not take its place
-module _ (unread otherwise : Type 0) (b now : BusinessAt) (result : Result (Unit {0}) ResumeFault) (shown : (f : SubmitFault) → result ≡ Err (resuming.Submit f) → f ≢ submit.Memory → ShownByOne b.count b.part now.part f)
+module _ (unread otherwise : Type 0) (b now : BusinessAt) (result : Result (Unit {0}) ResumeFault) (some : 0 < b.count) (shown : (f : SubmitFault) → result ≡ Err (resuming.Submit f) → f ≢ submit.Memory → ShownByOne b.count b.part now.part f)
     (sound : result ≢ Err (resuming.Fetch fetch.Broken)) (failed : result ≡ Err (resuming.Fetch fetch.Fault) → unread) (changed : (at : ℕ) → result ≡ Err (resuming.Fetch (fetch.Changed at)) → otherwise) where
   pub refused_resumed : (f : ResumeFault) → result ≡ Err f → (fault : ServeFault) → resume_fault f ≡ Some fault → RefusedFor unread otherwise b now fault
   refused_resumed (resuming.Fetch fetch.Broken) is fault e = absurd (sound is)
-  refused_resumed (resuming.Fetch fetch.Memory) is fault e = subst (λ x. RefusedFor unread otherwise b now x) (same_Some faults.Memory fault e) (refused_memory unread otherwise b now)
-  refused_resumed (resuming.Fetch fetch.Fault) is fault e = subst (λ x. RefusedFor unread otherwise b now x) (same_Some faults.Journal fault e) (refused_journal unread otherwise b now (inr (failed is)))
+  refused_resumed (resuming.Fetch fetch.Memory) is fault e = subst (λ x. RefusedFor unread otherwise b now x) (same_Some faults.Memory fault e) (refused_memory unread otherwise b now some)
+  refused_resumed (resuming.Fetch fetch.Fault) is fault e = subst (λ x. RefusedFor unread otherwise b now x) (same_Some faults.Journal fault e) (refused_journal unread otherwise b now some (inr (failed is)))
   refused_resumed (resuming.Fetch (fetch.Changed at)) is fault e = subst (λ x. RefusedFor unread otherwise b now x) (same_Some (faults.Changed boxes.Inbox at) fault e)
-      (record { of_business = tt; journal = λ j. absurd (cc j); changed = λ _ _. changed at is })
-  refused_resumed (resuming.Submit f) is fault e = refused_submit unread otherwise b now f (shown f is) fault e
+      (record { some = some; of_business = tt; journal = λ j. absurd (cc j); changed = λ _ _. changed at is })
+  refused_resumed (resuming.Submit f) is fault e = refused_submit unread otherwise b now some f (shown f is) fault e
 
 -- ---- with the records that an inbox holds
 

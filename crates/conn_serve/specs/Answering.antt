@@ -1,6 +1,6 @@
 -- A business beside the connections of a life, what it answered of the messages that the life applied, and what the life answers for it (this
 -- project's profile).
-use Rattle.std.specs.Prelude.{⊤, ◌≡◌, ◌⊎◌, ℕ, Bool, true, false, List, [], ◌++◌, length, Option, Some, None, Result, Ok, Err, IfErr}
+use Rattle.std.specs.Prelude.{⊤, ◌≡◌, ◌⊎◌, ℕ, ◌<◌, Bool, true, false, List, [], ◌++◌, length, Option, Some, None, Result, Ok, Err, IfErr}
 use mathlib.Core.List.{IsPrefix}
 use Rattle.gw_outside.specs.Faults.{HasRisen}
 use Rattle.session_model.specs.Inbox.{InboxRecord, applied, payloads_of, has_peer_finished}
@@ -14,6 +14,7 @@ use Rattle.jr_dated.specs.declared.faults.FetchFault.TheVariants as fetch
 use Rattle.jr_kept.specs.declared.inbox.Inbox.{Inbox}
 use Rattle.jr_kept.specs.Inbox.{HoldsBox, faults_of}
 use Rattle.gate_turn.specs.Views.{Part}
+use Rattle.gate_staff.specs.declared.business.Business.{Ghosts as BusinessGhosts}
 use Rattle.gate_staff.specs.declared.business.ResumeFault.{ResumeFault}
 use Rattle.gate_staff.specs.declared.business.ResumeFault.TheVariants as resuming
 use Rattle.gate_staff.specs.Made.{SeesFailed, MetFull}
@@ -72,6 +73,10 @@ business_at stands plan count part a = record {
   refused = a.refused;
 }
 
+-- a business that is none of a life yet, or no more, and the refusal that it met
+abbrev pub business_in : {B X Y Z : Type 0} → BusinessGhosts B X Y Z → Option ServeFault → B → BusinessAt
+business_in b refused x = record { stands = b.stands x; plan = b.plan x; count = b.count x; part = b.part x; refused = refused }
+
 -- the refusals of a business: those of a sender; and that a record of the inbox, which it looks at, has changed
 abbrev pub IsOfBusiness : ServeFault → Type 0
 IsOfBusiness faults.Journal = ⊤
@@ -85,9 +90,10 @@ abbrev pub IsRefusal : (looks : Bool) → ServeFault → Type 0
 IsRefusal false fault = IsOfSender fault
 IsRefusal true fault = IsOfBusiness fault
 
--- Why a business was refused so, which is `old` before and `new` behind that: a business may be refused so; where a journal is to blame, a pass
--- knows that a call of the outbox's disk failed, or the inbox was not read; and where a record of the inbox has changed, it was read otherwise
+-- Why a business was refused so, which is `old` before and `new` behind that: it has passes, and a business may be refused so; where a journal is to blame, a
+-- pass knows that a call of the outbox's disk failed, or the inbox was not read; and where a record of the inbox has changed, it was read otherwise
 pub record RefusedFor (unread otherwise : Type 0) (old new : BusinessAt) (fault : ServeFault) : Type 0 where
+  pub some : 0 < old.count
   pub of_business : IsOfBusiness fault
   pub journal : fault ≡ faults.Journal → SeesFailed old.count old.part new.part ⊎ unread
   pub changed : (at : ℕ) → fault ≡ faults.Changed boxes.Inbox at → otherwise
@@ -108,14 +114,14 @@ pub record AnsweredTo (now : BusinessAt) (p : ℕ → Part) (messages : List (Li
   pub full : (entries bytes : ℕ) → now.refused ≡ Some (faults.Full entries bytes) → MetFull (λ n. now.plan n messages) now.count now.part entries bytes
 
 -- Behind the messages of these opening records it answered those that the records `adds` apply: all, or a beginning. Where each turn was
--- answered, and no refusal was met, it answered all of them and stands behind them, or those up to the peer's finish at least
+-- answered, and no refusal was met, it answered all of them, and stands behind them where it has passes; or those up to the peer's finish at least
 pub record Answers (each : Type 0) (now : BusinessAt) (p : ℕ → Part) (opening : List InboxRecord) (before : List (List ℕ)) (adds : List InboxRecord)
     : Type 0 where
   pub answered : List InboxRecord
   pub reached : IsPrefix answered adds
   pub to : AnsweredTo now p (before ++ messages_of answered) (has_peer_finished (opening ++ answered))
   pub all : each → now.refused ≡ None
-      → (has_peer_finished (opening ++ answered) ≡ true) ⊎ ((answered ≡ adds) × now.stands (before ++ messages_of adds))
+      → (has_peer_finished (opening ++ answered) ≡ true) ⊎ ((answered ≡ adds) × (0 < now.count → now.stands (before ++ messages_of adds)))
 
 -- each turn was answered behind connections that came to this: no fault of a turn or of its lines cut one short
 abbrev pub AnsweredEach : {A : Type 0} → Result A ServeFault → Type 0

@@ -10,5 +10,6 @@ pub mod Served
 pub mod Opening
 pub mod Answering
 pub mod Lives
+pub mod Staffs
 pub mod Laws
 pub mod Together

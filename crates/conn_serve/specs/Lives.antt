@@ -1,5 +1,5 @@
 -- A life in the code: what it is at a moment, when it may go on, and what stays of it (this project's profile).
-use Rattle.std.specs.Prelude.{◌≡◌, ℕ, ◌+◌, ◌^◌, ◌<◌, ◌≤◌, false, List, length, Result, IfErr}
+use Rattle.std.specs.Prelude.{◌≡◌, ℕ, ◌+◌, ◌^◌, ◌<◌, ◌≤◌, false, length, Result, IfErr}
 use Rattle.session_model.specs.Journal.{BeginsHistory}
 use Rattle.fixp_msgs.specs.declared.flow.Flow.TheVariants.{Recoverable}
 use Rattle.fixp_shake.specs.declared.config.EndConfig.{EndConfig}
@@ -10,7 +10,6 @@ use Rattle.gate_turn.specs.Places.{known}
 use Rattle.gate_turn.specs.Calls.{IsFree}
 use Rattle.gate_senders.specs.Gate.{IsPassAt, opening_of}
 use Rattle.gate_senders.specs.declared.gate.Gate.{Gate}
-use Rattle.gate_staff.specs.declared.sender.Sender.{Sender}
 use Rattle.conn_steps.specs.Settling.{SameKind}
 use Rattle.conn_loop.specs.Conn.{Looks}
 use Rattle.conn_loop.specs.Ends.{line_in, pass_of, pass_in, box_in, clock_in}
@@ -21,7 +20,7 @@ use Rattle.conn_serve.specs.declared.life.Lent.{Lent}
 use Rattle.conn_serve.specs.Causes.{IsBlamed}
 use Rattle.conn_serve.specs.Hears.{Hears}
 use Rattle.conn_serve.specs.Answering.{BusinessAt, AnsweringAt, answering_at}
-use Rattle.conn_serve.specs.Moments.{LifeAt, FaultsAt, Beside, ServingAt, life_at, faults_at, beside, serving_at}
+use Rattle.conn_serve.specs.Moments.{LifeAt, FaultsAt, Beside, life_at, faults_at, beside}
 use Rattle.conn_serve.specs.Served.{ServedOver}
 use Rattle.conn_serve.specs.Turned.{MayBegin}
 
@@ -44,15 +43,9 @@ module _ {K N C O I : Type 0} {G : Ghosts O} {H : Ghosts I} where
   abbrev pub faults_in_life : Hears K N C → Life K N O I C G H → FaultsAt I H
   faults_in_life hears l = faults_at (hears.sink l.out) (hears.dials l.dialer) (pass_in l.end) (box_in l.end)
 
-  -- a whole life with these senders beside it, or this business
-  abbrev pub serving_in : Hears K N C → Life K N O I C G H → List (Sender O G) → ServingAt I H O G
-  serving_in hears l senders = serving_at (hears.carried l.dialer) (hears.taken l.out) (hears.sink l.out) (hears.dials l.dialer) (pass_in l.end) (box_in l.end) senders
-
+  -- a whole life with this business
   abbrev pub answering_in : Hears K N C → Life K N O I C G H → BusinessAt → AnsweringAt I H
   answering_in hears l business = answering_at (hears.carried l.dialer) (hears.taken l.out) (hears.sink l.out) (hears.dials l.dialer) (pass_in l.end) (box_in l.end) business
-
-  abbrev pub serving_with : Hears K N C → Lent K N O I C G H → List (Sender O G) → ServingAt I H O G
-  serving_with hears l senders = serving_at (hears.carried l.dialer) (hears.taken l.out) (hears.sink l.out) (hears.dials l.dialer) (known l.pass) l.inbox senders
 
   abbrev pub answering_with : Hears K N C → Lent K N O I C G H → BusinessAt → AnsweringAt I H
   answering_with hears l business = answering_at (hears.carried l.dialer) (hears.taken l.out) (hears.sink l.out) (hears.dials l.dialer) (known l.pass) l.inbox business

@@ -3,10 +3,10 @@ use Rattle.std.specs.Prelude.{ℕ, List, Option}
 use Rattle.session_model.specs.Journal.{History}
 use Rattle.gw_links.specs.Links.{LinkTold, Carried}
 use Rattle.gw_links.specs.Dialers.{DialerTold}
+use Rattle.gw_links.specs.declared.link.Link.{Ghosts as LinkGhosts}
 use Rattle.jr_dated.specs.declared.journal.Journal.{Ghosts}
 use Rattle.jr_kept.specs.declared.inbox.Inbox.{Inbox}
 use Rattle.gate_turn.specs.Views.{Part}
-use Rattle.gate_staff.specs.declared.sender.Sender.{Sender}
 use Rattle.conn_turns.specs.Lines.{Line}
 use Rattle.turn_laws.specs.Made.{TurnAt}
 
@@ -35,23 +35,23 @@ pub record Beside (J : Type 0) (G : Ghosts J) : Type 0 where
   pub out : Option (List ℕ)
   pub box : Inbox J G
 
+-- What a life is served over: whether the outbox's disk tells its content; links, as the contracts of its dialer have them; and what its clock
+-- gave last before and behind it
+pub record Clocked (L : Type 0) : Type 1 where
+  pub tells : Type 0
+  pub links : LinkGhosts L
+  pub before : ℕ
+  pub behind : ℕ
+
+abbrev pub clocked : {L : Type 0} → (tells : Type 0) → LinkGhosts L → (before behind : ℕ) → Clocked L
+clocked tells links before behind = record { tells = tells; links = links; before = before; behind = behind }
+
 -- what shows whether something failed: the counts of the faults of OUT and of the dialer, what the pass knows, and the inbox
 pub record FaultsAt (J : Type 0) (G : Ghosts J) : Type 0 where
   pub out : ℕ
   pub dialer : ℕ
   pub pass : Part
   pub box : Inbox J G
-
--- a whole life with its senders: what its dialer tells, and what OUT tells that it took; the counts of the faults of both; what its
--- pass knows; the inbox; and the senders
-pub record ServingAt (J : Type 0) (G : Ghosts J) (O : Type 0) (H : Ghosts O) : Type 0 where
-  pub dialed : Option DialerTold
-  pub out : Option (List ℕ)
-  pub out_faults : ℕ
-  pub dialer_faults : ℕ
-  pub pass : Part
-  pub box : Inbox J G
-  pub senders : List (Sender O H)
 
 module _ {J : Type 0} {G : Ghosts J} where
   abbrev pub connection_at : Option LinkTold → Option Carried → (out : Option (List ℕ)) → History → (clock : ℕ) → Line → Inbox J G → ConnectionAt J G
@@ -81,24 +81,3 @@ module _ {J : Type 0} {G : Ghosts J} where
   -- a life is this where its pass has seen so much of the outbox
   abbrev pub with_seen : Beside J G → History → LifeAt J G
   with_seen b seen = life_at b.dialed b.out seen b.box
-
-module _ {J : Type 0} {G : Ghosts J} {O : Type 0} {H : Ghosts O} where
-  abbrev pub serving_at : Option DialerTold → (out : Option (List ℕ)) → (out_faults dialer_faults : ℕ) → Part → Inbox J G → List (Sender O H)
-      → ServingAt J G O H
-  serving_at dialed out out_faults dialer_faults pass box senders = record {
-    dialed = dialed;
-    out = out;
-    out_faults = out_faults;
-    dialer_faults = dialer_faults;
-    pass = pass;
-    box = box;
-    senders = senders;
-  }
-
-  -- what its connections see of it
-  abbrev pub life_in : ServingAt J G O H → LifeAt J G
-  life_in s = life_at s.dialed s.out s.pass.seen s.box
-
-  -- what of it shows whether something failed
-  abbrev pub faults_in : ServingAt J G O H → FaultsAt J G
-  faults_in s = faults_at s.out_faults s.dialer_faults s.pass s.box

@@ -166,7 +166,37 @@ pub fn serve_connections<
     unreachable!()
 }
 
-/// Serves the connections, as `serve_connections` does, of an end that has no business, and lets no sender's message in behind them.
+/// Serves the connections, as `serve_connections` does, and lets no sender's message in behind them.
+pub(crate) fn serve_and_shut<
+    K: Sink,
+    N: Dialer,
+    O: Journal + Send,
+    I: Journal,
+    C: Clock,
+    B: Business<O> + Send,
+    R: Threads + Wait + Sync,
+>(
+    life: &mut Life<K, N, O, I, C>,
+    gate: &Gate<O>,
+    answering: &mut Answering<B>,
+    signals: &Signals,
+    rt: &R,
+) -> Result<LifeEnd, ServeFault>
+    requires has { B.has (business_of answering.old) (lock_of gate.now) }
+    requires few { B.count (business_of answering.old) ≤ senders_of gate.now }
+    requires may { MayLive (hears K.Sink N.Dialer N.Link.Link C.Clock) gate.now life.old }
+    ensures idle { IsIdle (hears K.Sink N.Dialer N.Link.Link C.Clock) gate.now life.new }
+    ensures goes_on { GoesOn (hears K.Sink N.Dialer N.Link.Link C.Clock) life.old life.new }
+    ensures served { (s : ServedIn O.tells (hears K.Sink N.Dialer N.Link.Link C.Clock) life.old life.new result)
+        × AnswersMore (AnsweredEach result) (business_at B.stands B.plan B.count B.part answering.old) (business_at B.stands B.plan B.count B.part answering.new) (box_in life.old.end) (adds_of (all_of s.over.life.ended s.over.life.given_up)) }
+    ensures business { B.has (business_of answering.new) (lock_of gate.now) × (B.count (business_of answering.new) ≡ B.count (business_of answering.old)) × (B.plan (business_of answering.new) ≡ B.plan (business_of answering.old)) }
+{
+    let answer = serve_connections(life, gate, answering, signals, rt);
+    signals.shut(rt);
+    answer
+}
+
+/// Serves the connections so, of an end that has no business.
 pub fn serve_then_shut<
     K: Sink,
     N: Dialer,
@@ -186,8 +216,7 @@ pub fn serve_then_shut<
     ensures served { ServedIn O.tells (hears K.Sink N.Dialer N.Link.Link C.Clock) life.old life.new result }
 {
     let mut answering = Answering::new(life.alloc, NoBusiness);
-    let answer = serve_connections(life, gate, &mut answering, signals, rt);
+    let answer = serve_and_shut(life, gate, &mut answering, signals, rt);
     let _ = answering.end();
-    signals.shut(rt);
     answer
 }

@@ -1,216 +1,182 @@
-//! A whole life: the connections, and the senders or the business beside them.
+//! A whole life: the connections, and all who send beside them.
 
-ghost use Rattle.std.specs.Prelude.{◌≡◌, ℕ, ◌≤◌, ◌<◌, false, All, None, length};
+ghost use Rattle.std.specs.Prelude.{◌≡◌, ◌<◌, ◌≤◌, true, false, None, Option};
 ghost use Rattle.jr_kept.specs.Inbox.{is_broken};
 ghost use Rattle.fixp_machine.specs.Machine.{fresh};
 ghost use Rattle.gate_senders.specs.Gate.{opening_of, senders_of};
 ghost use Rattle.gate_staff.specs.Business.{lock_of};
-ghost use Rattle.gate_staff.specs.Runs.{IsReady, IsAdmitted};
-ghost use Rattle.gate_staff.specs.Seats.{Seated};
-ghost use Rattle.conn_door.specs.Answers.{IsUnrefused};
+ghost use Rattle.gate_staff.specs.Staff.{IsStaffed, Leaves};
+ghost use Rattle.conn_door.specs.declared.answer.ServeFault.{ServeFault};
 ghost use Rattle.conn_door.specs.Flows.{is_sent_again};
-ghost use Rattle.conn_door.specs.Senders.{SomeMarked};
 ghost use Rattle.conn_steps.specs.Settling.{SameKind};
 ghost use Rattle.conn_loop.specs.Ends.{box_in};
-ghost use Rattle.conn_serve.specs.Answering.{business_of, refused_in, business_at, AnsweredSo};
+ghost use Rattle.conn_serve.specs.Answering.{business_of, business_at, AnswersMore, AnsweredEach};
+ghost use Rattle.conn_serve.specs.Connections.{all_of, adds_of};
 ghost use Rattle.conn_serve.specs.Hears.{hears};
-ghost use Rattle.conn_serve.specs.Lives.{last_in, machine_in, serving_in, serving_with, answering_in, answering_with, IsIdle, MayOpen, MayLive, GoesOn, Lasts, ComesBack};
-ghost use Rattle.conn_serve.specs.Opening.{opened_state, ServedBy, ServedThrough};
+ghost use Rattle.conn_serve.specs.Lives.{machine_in, IsIdle, MayOpen, MayLive, GoesOn, Lasts, ServedIn, ComesBack};
+ghost use Rattle.conn_serve.specs.Opening.{opened_state};
+ghost use Rattle.conn_serve.specs.Staffs.{staff_at, living_in, living_with, over_in, over_with, LivedBy};
 
-use crate::answering::{Answering, resume_business};
-use crate::connections::{serve_connections, serve_then_shut};
+use crate::answering::{Answering, begin_staff};
+use crate::connections::serve_and_shut;
 use crate::life::{Lent, Life, Opening};
 use crate::together::beside;
-use conn_door::{Entrance, LifeEnd, ServeFault, Signals, answer_of, submit_all, submit_behind};
+use conn_door::{
+    Entrance, LifeEnd, ServeFault, Signals, answer_of, produce_behind, produce_beside, refusal_of,
+};
 use gate_senders::Gate;
-use gate_staff::{Business, Plans};
+use gate_staff::{Business, Producers, Staff};
 use gw_links::{Clock, Dialer};
 use gw_outside::Sink;
 use jr_dated::Journal;
 use std::sync::Wait;
 use std::thread::Threads;
 
-/// Serves the connections, with the senders beside them, who wake them.
+/// Serves the connections with a business that answers behind each turn, and has producers, who wake them, put messages in beside them.
 fn serve_beside<
     K: Sink,
     N: Dialer,
     O: Journal + Send,
     I: Journal,
     C: Clock,
+    B: Business<O> + Send,
+    P: Producers<O> + Send,
     R: Threads + Wait + Sync,
 >(
     life: &mut Life<K, N, O, I, C>,
     gate: &Gate<O>,
-    senders: &mut Plans<O>,
+    answering: &mut Answering<B>,
+    producers: &mut P,
     signals: &Signals,
     rt: &R,
-) -> Result<(), ServeFault>
-    requires may { MayLive (hears K.Sink N.Dialer N.Link.Link C.Clock) gate.now life.old }
-    requires ready { All (λ s. IsReady gate.now s) senders.old.senders.items }
-    requires door { signals.now ≡ is_sent_again (machine_in life.old).config.own_flow }
-    ensures idle { IsIdle (hears K.Sink N.Dialer N.Link.Link C.Clock) gate.now life.new }
-    ensures goes_on { GoesOn (hears K.Sink N.Dialer N.Link.Link C.Clock) life.old life.new }
-    ensures ready { All (λ s. IsReady gate.now s) senders.new.senders.items }
-    ensures served { ServedThrough N.Link.Link (last_in (hears K.Sink N.Dialer N.Link.Link C.Clock) life.old) (last_in (hears K.Sink N.Dialer N.Link.Link C.Clock) life.new) gate.now (serving_in (hears K.Sink N.Dialer N.Link.Link C.Clock) life.old senders.old.senders.items) (serving_in (hears K.Sink N.Dialer N.Link.Link C.Clock) life.new senders.new.senders.items) (machine_in life.old) result }
-{
-    let entrance = Entrance::new(signals, life.waker());
-    let (refused, connections) = beside(
-        rt,
-        &mut || -> Option<ServeFault>
-            requires { All (λ s. IsReady gate.now s) senders.now.senders.items }
-        { submit_all(gate, senders, &entrance, rt) },
-        life,
-        &mut |life: &mut Life<K, N, O, I, C>| -> Result<LifeEnd, ServeFault>
-            requires { MayLive (hears K.Sink N.Dialer N.Link.Link C.Clock) gate.now life.old }
-        { serve_then_shut(life, gate, signals, rt) },
-    );
-    answer_of(connections, refused)
-}
-
-/// Serves one life: the connections of the dialer, one after another, and beside them the senders, each of which submits its plan;
-/// once all are submitted, the Finish is added. It ends with the first connection on which both finishes are exchanged. A
-/// refusal of a sender or of the Finish, other than that the outbox is closed, ends it before the turn or the connection that
-/// would follow.
-///
-/// Where the own flow is not sent again, idempotent or unsequenced, a message is submitted only while a connection is established and fewer
-/// than 64 wait to be sent. Where the connections ended without a fault that is answered, what was kept back is submitted behind them,
-/// and the Finish; else it is left to the next life.
-///
-/// # Errors
-/// Those of `serve_connections`; and `Journal`, `Full` and `Memory` where a sender or the Finish was refused so, in place of all
-/// but a fault of the connections' side.
-pub fn serve<K: Sink, N: Dialer, O: Journal + Send, I: Journal, C: Clock, R: Threads + Wait + Sync>(
-    life: &mut Life<K, N, O, I, C>,
-    gate: &Gate<O>,
-    senders: &mut Plans<O>,
-    rt: &R,
-) -> Result<(), ServeFault>
-    requires may { MayLive (hears K.Sink N.Dialer N.Link.Link C.Clock) gate.now life.old }
-    requires ready { All (λ s. IsReady gate.now s) senders.old.senders.items }
-    ensures idle { IsIdle (hears K.Sink N.Dialer N.Link.Link C.Clock) gate.now life.new }
-    ensures goes_on { GoesOn (hears K.Sink N.Dialer N.Link.Link C.Clock) life.old life.new }
-    ensures ready { All (λ s. IsReady gate.now s) senders.new.senders.items }
-    ensures served { ServedBy gate.now (serving_in (hears K.Sink N.Dialer N.Link.Link C.Clock) life.old senders.old.senders.items) (serving_in (hears K.Sink N.Dialer N.Link.Link C.Clock) life.new senders.new.senders.items) (machine_in life.old) result }
-    ensures through { ServedThrough N.Link.Link (last_in (hears K.Sink N.Dialer N.Link.Link C.Clock) life.old) (last_in (hears K.Sink N.Dialer N.Link.Link C.Clock) life.new) gate.now (serving_in (hears K.Sink N.Dialer N.Link.Link C.Clock) life.old senders.old.senders.items) (serving_in (hears K.Sink N.Dialer N.Link.Link C.Clock) life.new senders.new.senders.items) (machine_in life.old) result }
-    ensures seated { (made : ℕ) → Seated gate.now senders.old.senders.items made → Seated gate.now senders.new.senders.items made }
-    ensures admitted { IsUnrefused result → All IsAdmitted senders.new.senders.items }
-    ensures marked { IsUnrefused result → 0 < length senders.old.senders.items → SomeMarked senders.new.senders.items }
-{
-    let signals = life.signals();
-    let answer = serve_beside(life, gate, senders, &signals, rt);
-    submit_behind(gate, senders, answer, rt)
-}
-
-/// Serves one life of an end that has a business and no senders: the business takes its place behind the messages of the inbox, and then the
-/// connections of the dialer are served, one after another. Behind each turn, once the lines of its news are told, the business answers what
-/// the turn applied. A refusal of the business, other than that the outbox is closed, ends the life before the turn or the connection that
-/// would follow.
-///
-/// # Errors
-/// Those of `serve_connections`; and `Journal`, `Changed`, `Full` and `Memory` where the business was refused so, or a message of the inbox
-/// was not read, in place of all but a fault of the connections' side.
-pub fn serve_answering<
-    K: Sink,
-    N: Dialer,
-    O: Journal + Send,
-    I: Journal,
-    C: Clock,
-    B: Business<O> + Send,
-    R: Threads + Wait + Sync,
->(
-    life: &mut Life<K, N, O, I, C>,
-    gate: &Gate<O>,
-    answering: &mut Answering<B>,
-    rt: &R,
-) -> Result<(), ServeFault>
+) -> Result<LifeEnd, ServeFault>
     requires has { B.has (business_of answering.old) (lock_of gate.now) }
     requires few { B.count (business_of answering.old) ≤ senders_of gate.now }
-    requires unrefused { refused_in answering.old ≡ None }
-    requires sound { is_broken (box_in life.old.end) ≡ false }
+    requires own { P.has (lock_of gate.now) (senders_of gate.now) producers.old }
     requires may { MayLive (hears K.Sink N.Dialer N.Link.Link C.Clock) gate.now life.old }
-    ensures business { B.has (business_of answering.new) (lock_of gate.now) × (B.count (business_of answering.new) ≡ B.count (business_of answering.old)) × (B.plan (business_of answering.new) ≡ B.plan (business_of answering.old)) }
     ensures idle { IsIdle (hears K.Sink N.Dialer N.Link.Link C.Clock) gate.now life.new }
-    ensures lasts { Lasts (hears K.Sink N.Dialer N.Link.Link C.Clock) life.old life.new }
-    ensures through { AnsweredSo O.tells N.Link.Link (last_in (hears K.Sink N.Dialer N.Link.Link C.Clock) life.old) (last_in (hears K.Sink N.Dialer N.Link.Link C.Clock) life.new) (answering_in (hears K.Sink N.Dialer N.Link.Link C.Clock) life.old (business_at B.stands B.plan B.count B.part answering.old)) (answering_in (hears K.Sink N.Dialer N.Link.Link C.Clock) life.new (business_at B.stands B.plan B.count B.part answering.new)) (machine_in life.old) result }
+    ensures goes_on { GoesOn (hears K.Sink N.Dialer N.Link.Link C.Clock) life.old life.new }
+    ensures served { (s : ServedIn O.tells (hears K.Sink N.Dialer N.Link.Link C.Clock) life.old life.new result)
+        × AnswersMore (AnsweredEach result) (business_at B.stands B.plan B.count B.part answering.old) (business_at B.stands B.plan B.count B.part answering.new) (box_in life.old.end) (adds_of (all_of s.over.life.ended s.over.life.given_up)) }
+    ensures business { B.has (business_of answering.new) (lock_of gate.now) × (B.count (business_of answering.new) ≡ B.count (business_of answering.old)) × (B.plan (business_of answering.new) ≡ B.plan (business_of answering.old)) }
+    ensures own { P.has (lock_of gate.now) (senders_of gate.now) producers.new }
+    ensures did { P.did (lock_of gate.now) (senders_of gate.now) producers.old producers.new }
+    ensures leaves { (start : P) → P.did (lock_of gate.now) (senders_of gate.now) start producers.new → Leaves P.Producers start producers.new }
+    ensures admitted { signals.now ≡ true → P.admitted producers.new }
 {
-    resume_business(answering, &mut life.end.inbox, gate, rt);
-    if let Some(fault) = answering.refused() {
-        return Err(fault);
-    }
-    let signals = life.signals();
-    let connections = serve_connections(life, gate, answering, &signals, rt);
-    answer_of(connections, answering.refused())
+    let entrance = Entrance::new(signals, life.waker());
+    let ((), connections) = beside(
+        rt,
+        &mut ||
+            requires { P.has (lock_of gate.now) (senders_of gate.now) producers.now }
+        { produce_beside(gate, producers, &entrance, rt) },
+        life,
+        &mut |life: &mut Life<K, N, O, I, C>| -> Result<LifeEnd, ServeFault>
+            requires has { B.has (business_of answering.now) (lock_of gate.now) }
+            requires few { B.count (business_of answering.now) ≤ senders_of gate.now }
+            requires may { MayLive (hears K.Sink N.Dialer N.Link.Link C.Clock) gate.now life.old }
+        { serve_and_shut(life, gate, answering, signals, rt) },
+    );
+    connections
 }
 
-/// Serves one life with what it is lent, which comes back, as `serve` does. Where there is no memory to begin, nothing is served.
+/// Serves one life. All who send take their places first: producers count what the outbox has of each, and a business answers the messages of the inbox.
+/// Then the connections of the dialer are served, one after another. Beside them the producers put messages in, which wake them, and once all is done the
+/// mark; and behind each turn, once the lines of its news are told, the business answers what the turn applied. It ends with the first connection on which
+/// both finishes are exchanged. A refusal of those who send, other than that the outbox is closed, ends it before the turn or the connection that would
+/// follow.
+///
+/// Where the own flow is not sent again, idempotent or unsequenced, a producer's message is let in only while a connection is established and fewer than
+/// 64 wait to be sent. Where the connections ended without a fault that is answered, what was kept back is put in behind them, and the mark; else it is
+/// left to the next life.
 ///
 /// # Errors
-/// Those of `serve`; and `Memory`.
-pub fn serve_lent<
-    K: Sink,
-    N: Dialer,
-    O: Journal + Send,
-    I: Journal,
-    C: Clock,
-    R: Threads + Wait + Sync,
->(
-    opening: Opening<'_, O>,
-    lent: Lent<K, N, O, I, C>,
-    senders: &mut Plans<O>,
-    rt: &R,
-) -> (Result<(), ServeFault>, Lent<K, N, O, I, C>)
-    requires may { MayOpen (hears K.Sink N.Dialer N.Link.Link C.Clock) opening.gate.now opening.config opening.most lent }
-    requires ready { All (λ s. IsReady opening.gate.now s) senders.old.senders.items }
-    ensures comes_back { ComesBack (hears K.Sink N.Dialer N.Link.Link C.Clock) opening.entry.gate.now lent result.1 }
-    ensures kind { SameKind lent.inbox result.1.inbox }
-    ensures ready { All (λ s. IsReady opening.entry.gate.now s) senders.new.senders.items }
-    ensures through { ServedThrough N.Link.Link (C.last lent.clock) (C.last result.1.clock) opening.entry.gate.now (serving_with (hears K.Sink N.Dialer N.Link.Link C.Clock) lent senders.old.senders.items) (serving_with (hears K.Sink N.Dialer N.Link.Link C.Clock) result.1 senders.new.senders.items) (fresh opening.entry.config (opened_state (opening_of opening.entry.gate.now).history lent.inbox) opening.entry.most) result.0 }
-    ensures seated { (made : ℕ) → Seated opening.entry.gate.now senders.old.senders.items made → Seated opening.entry.gate.now senders.new.senders.items made }
-    ensures admitted { IsUnrefused result.0 → All IsAdmitted senders.new.senders.items }
-    ensures marked { IsUnrefused result.0 → 0 < length senders.old.senders.items → SomeMarked senders.new.senders.items }
-{
-    let gate = opening.gate;
-    let mut life = match Life::new(opening, lent) {
-        Ok(life) => life,
-        Err(lent) => return (Err(ServeFault::Memory), lent),
-    };
-    let answer = serve(&mut life, gate, senders, rt);
-    (answer, life.end())
-}
-
-/// Serves one life of an end that has a business with what it is lent, which comes back, as `serve_answering` does. Where there is no memory to
-/// begin, nothing is served or answered.
-///
-/// # Errors
-/// Those of `serve_answering`; and `Memory`.
-pub fn answer_lent<
+/// Those of `serve_connections`; and `Journal`, `Full` and `Memory` where a message of a producer, or the mark, was refused so, and those and `Changed`
+/// where the business was, or a message of the inbox was not read, in place of all but a fault of the connections' side.
+pub fn live<
     K: Sink,
     N: Dialer,
     O: Journal + Send,
     I: Journal,
     C: Clock,
     B: Business<O> + Send,
+    P: Producers<O> + Send,
+    R: Threads + Wait + Sync,
+>(
+    life: &mut Life<K, N, O, I, C>,
+    gate: &Gate<O>,
+    staff: Staff<B, P>,
+    rt: &R,
+) -> (Result<(), ServeFault>, Staff<B, P>)
+    requires may { MayLive (hears K.Sink N.Dialer N.Link.Link C.Clock) gate.now life.old }
+    requires staffed { IsStaffed B.Business P.Producers gate.now staff }
+    requires sound { 0 < B.count staff.business → is_broken (box_in life.old.end) ≡ false }
+    ensures idle { IsIdle (hears K.Sink N.Dialer N.Link.Link C.Clock) gate.now life.new }
+    ensures lasts { Lasts (hears K.Sink N.Dialer N.Link.Link C.Clock) life.old life.new }
+    ensures kind { B.count staff.business ≡ 0 → SameKind (box_in life.old.end) (box_in life.new.end) }
+    ensures staffed { IsStaffed B.Business P.Producers gate.now result.1 }
+    ensures same { (B.count result.1.business ≡ B.count staff.business) × (B.plan result.1.business ≡ B.plan staff.business) }
+    ensures lived { (refused : Option ServeFault) × LivedBy (over_in O.tells (hears K.Sink N.Dialer N.Link.Link C.Clock) life.old life.new) (living_in (hears K.Sink N.Dialer N.Link.Link C.Clock) life.old (staff_at B.Business P.Producers None staff)) (living_in (hears K.Sink N.Dialer N.Link.Link C.Clock) life.new (staff_at B.Business P.Producers refused result.1)) (machine_in life.old) result.0 }
+{
+    let mut staff = staff;
+    if let Some(fault) = begin_staff(life.alloc, &mut staff, &mut life.end.inbox, gate, rt) {
+        return (Err(fault), staff);
+    }
+    let Staff {
+        business,
+        mut producers,
+    } = staff;
+    let mut answering = Answering::new(life.alloc, business);
+    let signals = life.signals();
+    let connections = serve_beside(life, gate, &mut answering, &mut producers, &signals, rt);
+    let refused = answering.refused();
+    let answer = answer_of(connections, refusal_of(refused, producers.fault()));
+    produce_behind(gate, &mut producers, answer, rt);
+    let answer = answer_of(connections, refusal_of(refused, producers.fault()));
+    let business = answering.end();
+    (
+        answer,
+        Staff {
+            business,
+            producers,
+        },
+    )
+}
+
+/// Serves one life with what it is lent, which comes back with all who send, as `live` does. Where there is no memory to begin, nothing is served, and
+/// nobody does anything.
+///
+/// # Errors
+/// Those of `live`; and `Memory`.
+pub fn live_lent<
+    K: Sink,
+    N: Dialer,
+    O: Journal + Send,
+    I: Journal,
+    C: Clock,
+    B: Business<O> + Send,
+    P: Producers<O> + Send,
     R: Threads + Wait + Sync,
 >(
     opening: Opening<'_, O>,
     lent: Lent<K, N, O, I, C>,
-    answering: &mut Answering<B>,
+    staff: Staff<B, P>,
     rt: &R,
-) -> (Result<(), ServeFault>, Lent<K, N, O, I, C>)
-    requires has { B.has (business_of answering.old) (lock_of opening.gate.now) }
-    requires few { B.count (business_of answering.old) ≤ senders_of opening.gate.now }
-    requires unrefused { refused_in answering.old ≡ None }
-    requires sound { is_broken lent.inbox ≡ false }
+) -> (Result<(), ServeFault>, Lent<K, N, O, I, C>, Staff<B, P>)
     requires may { MayOpen (hears K.Sink N.Dialer N.Link.Link C.Clock) opening.gate.now opening.config opening.most lent }
-    ensures business { B.has (business_of answering.new) (lock_of opening.entry.gate.now) × (B.count (business_of answering.new) ≡ B.count (business_of answering.old)) × (B.plan (business_of answering.new) ≡ B.plan (business_of answering.old)) }
+    requires staffed { IsStaffed B.Business P.Producers opening.gate.now staff }
+    requires sound { 0 < B.count staff.business → is_broken lent.inbox ≡ false }
     ensures comes_back { ComesBack (hears K.Sink N.Dialer N.Link.Link C.Clock) opening.entry.gate.now lent result.1 }
-    ensures through { AnsweredSo O.tells N.Link.Link (C.last lent.clock) (C.last result.1.clock) (answering_with (hears K.Sink N.Dialer N.Link.Link C.Clock) lent (business_at B.stands B.plan B.count B.part answering.old)) (answering_with (hears K.Sink N.Dialer N.Link.Link C.Clock) result.1 (business_at B.stands B.plan B.count B.part answering.new)) (fresh opening.entry.config (opened_state (opening_of opening.entry.gate.now).history lent.inbox) opening.entry.most) result.0 }
+    ensures kind { B.count staff.business ≡ 0 → SameKind lent.inbox result.1.inbox }
+    ensures staffed { IsStaffed B.Business P.Producers opening.entry.gate.now result.2 }
+    ensures same { (B.count result.2.business ≡ B.count staff.business) × (B.plan result.2.business ≡ B.plan staff.business) }
+    ensures lived { (refused : Option ServeFault) × LivedBy (over_with O.tells (hears K.Sink N.Dialer N.Link.Link C.Clock) lent result.1) (living_with (hears K.Sink N.Dialer N.Link.Link C.Clock) lent (staff_at B.Business P.Producers None staff)) (living_with (hears K.Sink N.Dialer N.Link.Link C.Clock) result.1 (staff_at B.Business P.Producers refused result.2)) (fresh opening.entry.config (opened_state (opening_of opening.entry.gate.now).history lent.inbox) opening.entry.most) result.0 }
 {
     let gate = opening.gate;
     let mut life = match Life::new(opening, lent) {
         Ok(life) => life,
-        Err(lent) => return (Err(ServeFault::Memory), lent),
+        Err(lent) => return (Err(ServeFault::Memory), lent, staff),
     };
-    let answer = serve_answering(&mut life, gate, answering, rt);
-    (answer, life.end())
+    let (answer, staff) = live(&mut life, gate, staff, rt);
+    (answer, life.end(), staff)
 }

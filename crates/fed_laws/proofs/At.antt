@@ -11,7 +11,7 @@ use Rattle.jr_kept.specs.declared.inbox.Inbox.{Inbox}
 use Rattle.jr_kept.specs.Inbox.{limits_of}
 use Rattle.gate_turn.specs.Views.{Account, Part, new_part}
 use Rattle.gate_turn.specs.Rule.{In}
-use Rattle.gate_turn.specs.Listed.{pass_at, known_at}
+use Rattle.gate_turn.specs.Listed.{known_at}
 use Rattle.gate_turn.specs.declared.pass.Pass.{Pass}
 use Rattle.gate_turn.specs.declared.passes.Passes.{Passes}
 use Rattle.gate_senders.specs.declared.gate.Gate.{Gate}
@@ -37,8 +37,8 @@ use Rattle.fed_laws.proofs.Fed as feeding
 use Rattle.fed_laws.proofs.Served.{few_from, opened_from, many, plans_many, marking, served_by}
 use Rattle.fed_laws.proofs.Told.{fed_with, marks_done}
 
-module _ {J I L : Type 0} {G : Ghosts J} {K : Ghosts I} (links : LinkGhosts L) (gate : Gate J G) (before behind : ℕ) (a : Account) (seated counted after : List (Sender J G)) (old new : Passes (Kept J G)) (pass : Pass (Kept J G)) (first now : Part)
-    (w : FedPasses gate a seated counted after old new pass first now) (start last : Point) (left left' : Option (List ℕ)) (fed : Fed) (start_is : start.parts ≡ parts_of counted) (last_is : parts_of after ≡ last.parts) (b : FedBy start last left left' fed.end fed.refused)
+module _ {J I L : Type 0} {G : Ghosts J} {K : Ghosts I} (links : LinkGhosts L) (gate : Gate J G) (before behind : ℕ) (a : Account) (seated counted after : List (Sender J G)) (new : Passes (Kept J G)) (pass : Pass (Kept J G)) (first now : Part)
+    (w : FedPasses gate a seated counted after new pass first now) (start last : Point) (left left' : Option (List ℕ)) (fed : Fed) (start_is : start.parts ≡ parts_of counted) (last_is : parts_of after ≡ last.parts) (b : FedBy start last left left' fed.end fed.refused)
     (dialed later : Option DialerTold) (out now_out : Option (List ℕ)) (out_faults now_out_faults dial_faults now_dial_faults : ℕ) (m : State) (box since : Inbox I K)
     (served : ServedOver G.tells links before behind (life_at dialed out first.seen box) (life_at later now_out now.seen since) m fed.connections)
     (blamed : IfErr fed.connections (IsBlamed G.tells (faults_at out_faults dial_faults first box) (faults_at now_out_faults now_dial_faults now since))) (limits : limits_of since ≡ limits_of box) where
@@ -68,8 +68,8 @@ module _ {J I L : Type 0} {G : Ghosts J} {K : Ghosts I} (links : LinkGhosts L) (
 
   lives : Lives (length b.from.counted.parts)
   lives =
-      served_by gate a seated counted after w.fresh w.count start last start_is last_is w.few w.long left left' fed.end fed.refused b old new pass first now
-      (subst (λ (k : ℕ). Seated gate after (k + 1)) same w.seats) w.theirs (subst (λ (k : ℕ). pass_at old (k + 1) ≡ Some pass) same w.there)
+      served_by gate a seated counted after w.fresh w.count start last start_is last_is w.few w.long left left' fed.end fed.refused b new pass first now
+      (subst (λ (k : ℕ). Seated gate after (k + 1)) same w.seats) w.theirs
       (w.was.made, subst (λ (k : ℕ). first ≡ new_part (k + 1) w.was.made a) same w.was.is) w.looks w.now_is (λ none. w.only (same ∙ none)) (clocked G.tells links before behind) dialed later out now_out out_faults now_out_faults dial_faults now_dial_faults
       m box since fed.connections served blamed limits
 
@@ -83,7 +83,7 @@ module _ {J I L : Type 0} {G : Ghosts J} {K : Ghosts I} (links : LinkGhosts L) (
         lived = l.0;
         connections_are = l.1;
         refused_is = l.2;
-        told = λ z closed. fed_with gate a z seated counted after old new pass first now w start last left left' fed.end fed.refused start_is last_is b closed;
-        marks = λ z closed. marks_done gate a z seated counted after old new pass first now w start last left left' fed.end fed.refused start_is last_is b closed;
+        told = λ z closed. fed_with gate a z seated counted after new pass first now w start last left left' fed.end fed.refused start_is last_is b closed;
+        marks = λ z closed. marks_done gate a z seated counted after new pass first now w start last left left' fed.end fed.refused start_is last_is b closed;
         marking = marking gate a seated counted after w.fresh w.count start last start_is last_is w.few w.long left left' fed.end fed.refused b;
       }

@@ -15,7 +15,7 @@ use Rattle.jr_kept.specs.Inbox.{limits_of}
 use Rattle.gate_turn.specs.Views.{Account, HasFailed, Part, new_part}
 use Rattle.gate_turn.specs.Rule.{In}
 use Rattle.gate_turn.specs.Places.{known}
-use Rattle.gate_turn.specs.Listed.{pass_at, known_at}
+use Rattle.gate_turn.specs.Listed.{known_at}
 use Rattle.gate_turn.specs.declared.pass.Pass.{Pass}
 use Rattle.gate_turn.specs.declared.passes.Passes.{Passes}
 use Rattle.gate_turn.proofs.Failing.{failed_before}
@@ -29,7 +29,7 @@ use Rattle.conn_door.specs.declared.answer.ServeFault.{ServeFault}
 use Rattle.conn_door.specs.declared.answer.ServeFault.TheVariants as faults
 use Rattle.conn_door.specs.declared.answer.LifeEnd.{LifeEnd}
 use Rattle.conn_door.specs.Answers.{answer_of, yields, IsOfSender, IsUnrefused}
-use Rattle.conn_door.proofs.Marking.{unanswered}
+use Rattle.conn_door.proofs.Yielding.{unanswered}
 use Rattle.conn_serve.specs.Causes.{IsChanged, BlamesJournal, IsBlamed}
 use Rattle.conn_serve.specs.Connections.{wanted_of_all}
 use Rattle.conn_serve.specs.Moments.{life_at, faults_at, beside}
@@ -43,7 +43,7 @@ use Rattle.conn_fed.specs.Fed.{FedBy, IsMarked}
 use Rattle.life_laws.specs.PlanLives.{Clocked, clocked, SomePass, SeesMark, SeesFailure, MetFull, BlamesInbox, FillsInbox, ServedAt}
 use Rattle.life_laws.proofs.Senders.{SendersMade}
 use Rattle.life_laws.proofs.Back as back
-use Rattle.life_laws.proofs.Back.{at_place}
+use Rattle.gate_staff.proofs.Seating.{at_place}
 use Rattle.life_laws.proofs.Passes.{answer_blames, blamed_at}
 use Rattle.fed_laws.specs.Answers.{fed_refusal}
 use Rattle.fed_laws.specs.Given.{GiveThese, fed_plans}
@@ -267,7 +267,7 @@ module _ {J : Type 0} {G : Ghosts J} (gate : Gate J G) (a : Account) (seated cou
       b.marked)
       (unrefused_ends end mark none)
 
-  module _ (old new : Passes (Kept J G)) (pass : Pass (Kept J G)) (first now : Part) (seats : Seated gate after (length plans + 1)) (theirs : HasTheirs old new after) (there : pass_at old (length plans + 1) ≡ Some pass)
+  module _ (new : Passes (Kept J G)) (pass : Pass (Kept J G)) (first now : Part) (seats : Seated gate after (length plans + 1)) (theirs : HasTheirs new after pass)
       (was : (m : ℕ) × (first ≡ new_part (length plans + 1) m a)) (looks : Looks first now) (now_is : known pass ≡ now) (only : length plans ≡ 0 → first.made ≡ 1)
       {I : Type 0} {K : Ghosts I} {L : Type 0} (over : Clocked L) (dialed later : Option DialerTold) (out now_out : Option (List ℕ)) (out_faults now_out_faults dial_faults now_dial_faults : ℕ) (m : State) (box since : Inbox I K)
       (connections : Result LifeEnd ServeFault) (served : ServedOver G.tells over.links over.before over.behind (life_at dialed out first.seen box) (life_at later now_out now.seen since) m connections)
@@ -276,7 +276,7 @@ module _ {J : Type 0} {G : Ghosts J} (gate : Gate J G) (a : Account) (seated cou
     refused = fed_refusal end mark
 
     last_at : known_at new (length plans + 1) ≡ now
-    last_at = back.last_at gate a plans after old new pass first now seats theirs there was looks now_is only made
+    last_at = back.last_at gate a plans after new pass first now seats theirs was looks now_is only made
 
     life : ServedOver G.tells over.links over.before over.behind (life_at dialed out a.history box) (life_at later now_out (known_at new (length plans + 1)).seen since) m connections
     life = subst (λ (p : Part). ServedOver G.tells over.links over.before over.behind (life_at dialed out a.history box) (life_at later now_out p.seen since) m connections) (sym last_at)
@@ -288,10 +288,10 @@ module _ {J : Type 0} {G : Ghosts J} (gate : Gate J G) (a : Account) (seated cou
     by_blame : BlamesJournal first now box since → BlamesInbox box since ⊎ SomePass (length plans + 1) SeesFailure (known_at new)
     by_blame (inl risen) = inl (inl risen)
     by_blame (inr (inl broken)) = inl (inr broken)
-    by_blame (inr (inr failed)) = inr (back.last_failed gate a plans after old new pass first now seats theirs there was looks now_is only made failed)
+    by_blame (inr (inr failed)) = inr (back.last_failed gate a plans after new pass first now seats theirs was looks now_is only made failed)
 
     sender_so : (P : Part → Type 0) → ((i : ℕ) × (d : Sender J G) × (i < length after) × P (known (slice_index_or after i d).pass)) → SomePass (length plans + 1) P (known_at new)
-    sender_so P k = back.some_sender gate a plans after old new pass first now seats theirs there was looks now_is only made P k.0 k.1 k.2 k.3
+    sender_so P k = back.some_sender gate a plans after new pass first now seats theirs was looks now_is only made P k.0 k.1 k.2 k.3
 
     journal_at : answer_of connections refused ≡ Err faults.Journal → BlamesInbox box since ⊎ SomePass (length plans + 1) SeesFailure (known_at new)
     journal_at e = ⊎_elim
@@ -327,7 +327,7 @@ module _ {J : Type 0} {G : Ghosts J} (gate : Gate J G) (a : Account) (seated cou
     served_fed = record {
       connections = connections;
       refused = refused;
-      made = back.plans_made gate a plans after old new pass first now seats theirs there was looks now_is only made;
+      made = back.plans_made gate a plans after new pass first now seats theirs was looks now_is only made;
       life = life;
       limits = limits;
       answer = refl;
@@ -346,14 +346,14 @@ module _ {J : Type 0} {G : Ghosts J} (gate : Gate J G) (a : Account) (seated cou
 
 -- the law
 pub feeding_is_by_plans : {J I L : Type 0} {G : Ghosts J} {K : Ghosts I} (links : LinkGhosts L) (gate : Gate J G) (box : Inbox I K) → FeedingIsByPlans links gate box
-feeding_is_by_plans {J} {I} {L} {G} {K} links gate box before behind a seated counted after old new pass first now w start last left left' end mark start_is last_is b dialed later out now_out out_faults now_out_faults dial_faults now_dial_faults m since connections served blamed limits =
+feeding_is_by_plans {J} {I} {L} {G} {K} links gate box before behind a seated counted after new pass first now w start last left left' end mark start_is last_is b dialed later out now_out out_faults now_out_faults dial_faults now_dial_faults m since connections served blamed limits =
     record {
       gifts = the_gifts;
       give = subst (λ (k : ℕ). GiveThese k b.from.feeding.answered.first the_gifts) many_are (fed.they_give a b.from.counted b.fed (lines_in b.from.feeding.read) end few_parts parts_opened b.from.feeding.answered);
       served = subst (λ (k : ℕ). ServedAt (clocked G.tells links before behind) a (fed_plans k a.history.made the_gifts) (known_at new) (beside dialed out box) (beside later now_out since) m (answer_of connections (fed_refusal end mark)))
           many_are
-          (served_fed gate a seated counted after w.fresh w.count start last start_is last_is w.few w.long left left' end mark b old new pass first now
-          (subst (λ (k : ℕ). Seated gate after (k + 1)) same w.seats) w.theirs (subst (λ (k : ℕ). pass_at old (k + 1) ≡ Some pass) same w.there)
+          (served_fed gate a seated counted after w.fresh w.count start last start_is last_is w.few w.long left left' end mark b new pass first now
+          (subst (λ (k : ℕ). Seated gate after (k + 1)) same w.seats) w.theirs
           (w.was.made, subst (λ (k : ℕ). first ≡ new_part (k + 1) w.was.made a) same w.was.is) w.looks w.now_is (λ none. w.only (same ∙ none)) (clocked G.tells links before behind) dialed later out now_out out_faults now_out_faults dial_faults now_dial_faults
           m box since connections served blamed limits);
     }

@@ -35,7 +35,7 @@ use Rattle.conn_feed.proofs.Moving.{at_seat, parts_long}
 use Rattle.conn_fed.specs.Fed.{FedBy, IsMarked, NoneCounted}
 use Rattle.life_laws.specs.Plans.{PlansMade}
 use Rattle.life_laws.proofs.Back as back
-use Rattle.life_laws.proofs.Back.{at_place}
+use Rattle.gate_staff.proofs.Seating.{at_place}
 use Rattle.fed_laws.specs.Laws.{FedPasses}
 use Rattle.fed_laws.specs.Told.{StandsAt, counts_in, WasFed, is_done, IsMessage, MarksDone, FeedingIsTold}
 use Rattle.fed_laws.proofs.Parts.{PartOpened}
@@ -104,8 +104,8 @@ counted_from (p ∷ parts) made m is =
     ∙ ap (λ (ns : List ℕ). length (entries_of made m) ∷ ns)
     (counted_from parts made (m + 1) (λ k lt. let e : m + suc k ≡ m + 1 + k = omega arith in is (suc k) (omega (arith, lt)) ∙ ap (entries_of made) e))
 
-module _ {J : Type 0} {G : Ghosts J} (gate : Gate J G) (a z : Account) (seated counted after : List (Sender J G)) (old new : Passes (Kept J G)) (pass : Pass (Kept J G)) (first now : Part)
-    (w : FedPasses gate a seated counted after old new pass first now) (start last : Point) (left left' : Option (List ℕ)) (end : FeedEnd) (mark : Option ServeFault)
+module _ {J : Type 0} {G : Ghosts J} (gate : Gate J G) (a z : Account) (seated counted after : List (Sender J G)) (new : Passes (Kept J G)) (pass : Pass (Kept J G)) (first now : Part)
+    (w : FedPasses gate a seated counted after new pass first now) (start last : Point) (left left' : Option (List ℕ)) (end : FeedEnd) (mark : Option ServeFault)
     (start_is : start.parts ≡ parts_of counted) (last_is : parts_of after ≡ last.parts) (b : FedBy start last left left' end mark) (closed : Closed (known_at new) (known_at new 1).made a z) where
   abbrev plans : List (List (List ℕ))
   plans = served.plans gate a seated counted after w.fresh w.count start last start_is last_is w.few w.long left left' end mark b
@@ -117,7 +117,7 @@ module _ {J : Type 0} {G : Ghosts J} (gate : Gate J G) (a z : Account) (seated c
   same = sym plans_many
 
   passes_made : PlansMade a plans (known_at new)
-  passes_made = back.plans_made gate a plans after old new pass first now (subst (λ (k : ℕ). Seated gate after (k + 1)) same w.seats) w.theirs (subst (λ (k : ℕ). pass_at old (k + 1) ≡ Some pass) same w.there)
+  passes_made = back.plans_made gate a plans after new pass first now (subst (λ (k : ℕ). Seated gate after (k + 1)) same w.seats) w.theirs
       (w.was.made, subst (λ (k : ℕ). first ≡ new_part (k + 1) w.was.made a) same w.was.is) w.looks w.now_is (λ none. w.only (same ∙ none))
       (served.made gate a seated counted after w.fresh w.count start last start_is last_is w.few w.long left left' end mark b)
 
@@ -139,7 +139,7 @@ module _ {J : Type 0} {G : Ghosts J} (gate : Gate J G) (a z : Account) (seated c
       let within : i < length after = omega (arith, lt, w.long) in
       let d : Sender J G = at_place after i within in
       let e : suc i - 1 ≡ i = omega arith in
-      ap (λ (o : Option (Pass (Kept J G))). known_if o) (ap (λ (n : ℕ). pass_at new n) (sym (add-one i)) ∙ w.theirs.theirs i d within)
+      w.theirs.theirs i d within
       ∙ sym (ap (λ (ps : List Part). part_at ps (suc i)) (sym last_is) ∙ at_seat after (suc i) d (record { from_one = omega arith; up_to = omega (arith, within) })
       ∙ ap (λ (j : ℕ). known (slice_index_or after j d).pass) e)
 
@@ -308,5 +308,5 @@ module _ {J : Type 0} {G : Ghosts J} (gate : Gate J G) (a z : Account) (seated c
 
 -- the law
 pub feeding_is_told : {J : Type 0} {G : Ghosts J} (gate : Gate J G) → FeedingIsTold gate
-feeding_is_told gate a z seated counted after old new pass first now w start last left left' end mark start_is last_is b closed =
-    was_fed gate a z seated counted after old new pass first now w start last left left' end mark start_is last_is b closed
+feeding_is_told gate a z seated counted after new pass first now w start last left left' end mark start_is last_is b closed =
+    was_fed gate a z seated counted after new pass first now w start last left left' end mark start_is last_is b closed

@@ -8,7 +8,7 @@ use Rattle.jr_kept.specs.declared.inbox.Inbox.{Inbox}
 use Rattle.jr_kept.specs.Inbox.{limits_of}
 use Rattle.gate_turn.specs.Views.{Account, Part, new_part}
 use Rattle.gate_turn.specs.Places.{known}
-use Rattle.gate_turn.specs.Listed.{pass_at, known_at}
+use Rattle.gate_turn.specs.Listed.{known_at}
 use Rattle.gate_turn.specs.declared.pass.Pass.{Pass}
 use Rattle.gate_turn.specs.declared.passes.Passes.{Passes}
 use Rattle.gate_senders.specs.declared.gate.Gate.{Gate}
@@ -40,15 +40,14 @@ pub record IsNew (a : Account) (n : ℕ) (p : Part) : Type 0 where
 module _ {J : Type 0} {G : Ghosts J} where
   -- Passes that were made with this: senders had them from number 1 on, counted what the outbox has of each, and fed, and the connection had the one
   -- behind them, which knew this first and knows this now; and all came back
-  pub record FedPasses (gate : Gate J G) (a : Account) (seated counted after : List (Sender J G)) (old new : Passes (Kept J G)) (pass : Pass (Kept J G))
+  pub record FedPasses (gate : Gate J G) (a : Account) (seated counted after : List (Sender J G)) (new : Passes (Kept J G)) (pass : Pass (Kept J G))
       (first now : Part) : Type 0 where
     pub few : length counted ≤ 16
     pub fresh : (i : ℕ) (d : Sender J G) → i < length seated → IsNew a (suc i) (known (slice_index_or seated i d).pass)
     pub count : CountedEach gate seated counted
     pub long : length after ≡ length counted
     pub seats : Seated gate after (length counted + 1)
-    pub theirs : HasTheirs old new after
-    pub there : pass_at old (length counted + 1) ≡ Some pass
+    pub theirs : HasTheirs new after pass
     pub was : IsNew a (length counted + 1) first
     pub looks : Looks first now
     pub now_is : known pass ≡ now
@@ -66,8 +65,8 @@ module _ {J : Type 0} {G : Ghosts J} where
 -- it met one (`fed_refusal`)
 abbrev pub FeedingIsByPlans : {J I L : Type 0} {G : Ghosts J} {K : Ghosts I} → LinkGhosts L → Gate J G → Inbox I K → Type 0
 FeedingIsByPlans {J} {I} {L} {G} {K} links gate box =
-    (before behind : ℕ) (a : Account) (seated counted after : List (Sender J G)) (old new : Passes (Kept J G)) (pass : Pass (Kept J G)) (first now : Part)
-    → FedPasses gate a seated counted after old new pass first now
+    (before behind : ℕ) (a : Account) (seated counted after : List (Sender J G)) (new : Passes (Kept J G)) (pass : Pass (Kept J G)) (first now : Part)
+    → FedPasses gate a seated counted after new pass first now
     → (start last : Point) (left left' : Option (List ℕ)) (end : FeedEnd) (mark : Option ServeFault)
     → start.parts ≡ parts_of counted → parts_of after ≡ last.parts
     → (b : FedBy start last left left' end mark)

@@ -74,8 +74,8 @@ pub record MarksDone (done : Bool) (opening closing : History) (lost : List Outb
 -- so it is of a feeding whose passes all came back, once the gate is closed
 abbrev pub FeedingIsTold : {J : Type 0} {G : Ghosts J} → Gate J G → Type 0
 FeedingIsTold {J} {G} gate =
-    (a z : Account) (seated counted after : List (Sender J G)) (old new : Passes (Kept J G)) (pass : Pass (Kept J G)) (first now : Part)
-    → FedPasses gate a seated counted after old new pass first now
+    (a z : Account) (seated counted after : List (Sender J G)) (new : Passes (Kept J G)) (pass : Pass (Kept J G)) (first now : Part)
+    → FedPasses gate a seated counted after new pass first now
     → (start last : Point) (left left' : Option (List ℕ)) (end : FeedEnd) (mark : Option ServeFault)
     → start.parts ≡ parts_of counted → parts_of after ≡ last.parts
     → FedBy start last left left' end mark

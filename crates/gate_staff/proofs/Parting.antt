@@ -1,11 +1,12 @@
 -- The passes of a gate, parted between a business and the connection.
-use Rattle.std.proofs.Common.{◌≡◌, ◌≢◌, ◌⊎◌, ℕ, zero, suc, ◌+◌, ◌<◌, ◌≤◌, Option, Some, None, inl, inr, refl, sym, ap, subst, ◌∙◌, arith}
-use Rattle.std.proofs.lemmas.Option.{same_Some}
+use Rattle.std.proofs.Common.{◌≡◌, ◌≢◌, ◌⊎◌, ℕ, zero, suc, ◌+◌, ◌<◌, ◌≤◌, Some, None, inl, inr, refl, sym, ap, subst, ◌∙◌, arith}
+use Rattle.std.proofs.lemmas.Option.{none-some, same_Some}
 use Rattle.jr_dated.specs.declared.journal.Journal.{Ghosts}
+use Rattle.gate_turn.specs.Views.{Part}
 use Rattle.gate_turn.specs.Rule.{In}
 use Rattle.gate_turn.specs.Places.{known}
 use Rattle.gate_turn.specs.Listed.{pass_at, known_if, known_at}
-use Rattle.gate_turn.specs.Calls.{IsFree, HasBack}
+use Rattle.gate_turn.specs.Calls.{IsFree}
 use Rattle.gate_turn.specs.declared.pass.Pass.{Pass}
 use Rattle.gate_turn.specs.declared.passes.Passes.{Passes}
 use Rattle.gate_senders.specs.Gate.{IsPassAt, HasBackAt, MadeAt, AllBackAt}
@@ -26,6 +27,16 @@ last_or_before n k i = of n k i.from_one i.up_to
         lift : (In k (suc n)) ⊎ (suc n ≡ k + 1) → (In (suc k) (suc (suc n))) ⊎ (suc (suc n) ≡ suc k + 1)
         lift (inl i) = inl (record { from_one = omega arith; up_to = let up_to = i.up_to in omega (arith, up_to) })
         lift (inr e) = inr (omega (arith, e))
+
+in_or_out : (n k : ℕ) → (In k n) ⊎ (¬ In k n)
+in_or_out zero k = inr (λ i. let from_one = i.from_one in omega (arith, from_one))
+in_or_out (suc n) zero = inr (λ i. let up_to = i.up_to in omega (arith, up_to))
+in_or_out (suc zero) (suc k) = inl (record { from_one = omega arith; up_to = omega arith })
+in_or_out (suc (suc n)) (suc k) = lift (in_or_out (suc n) k)
+  where
+    lift : (In k (suc n)) ⊎ (¬ In k (suc n)) → (In (suc k) (suc (suc n))) ⊎ (¬ In (suc k) (suc (suc n)))
+    lift (inl i) = inl (record { from_one = omega arith; up_to = let up_to = i.up_to in omega (arith, up_to) })
+    lift (inr out) = inr (λ i. let up_to = i.up_to in out (record { from_one = omega arith; up_to = omega (arith, up_to) }))
 
 module _ {J : Type 0} {G : Ghosts J} (gate : Gate J G) (senders : ℕ) (old new : Passes (Kept J G)) where
   -- the last one was taken out
@@ -60,6 +71,24 @@ module _ {J : Type 0} {G : Ghosts J} (gate : Gate J G) (senders : ℕ) (old new 
           both (inl i) = out i
           both (inr e) = ne e
 
+  -- all of them, before one was taken out
+  pub made_back : senders ≤ 16 → MadeAt gate old (senders + 1) → AllBackAt gate old
+  made_back few made =
+      let first : (known_at old 1).made ≡ senders + 1 = ap (λ (p : Part). p.made) (made.each 1 (record { from_one = omega arith; up_to = omega arith })).1 in
+      record {
+        some_made = omega (arith, first);
+        few = omega (arith, first, few);
+        each = λ n i. (made.each n (subst (λ k. In k n) first i)).0;
+        others = λ n p is. other_of n p is (in_or_out n (senders + 1));
+      }
+    where
+      other_of : (n : ℕ) (p : Pass (Kept J G)) → pass_at old n ≡ Some p → (In (senders + 1) n) ⊎ (¬ In (senders + 1) n) → IsPassAt gate p × IsFree p
+      other_of n p is (inl i) =
+          let b = (made.each n i).0 in
+          let same = same_Some b.pass p (sym b.there ∙ is) in
+          (subst (λ q. IsPassAt gate q) same b.own, subst (λ q. IsFree q) same b.free)
+      other_of n p is (inr out) = absurd (none-some p (sym (made.others n out) ∙ is))
+
   -- and given back
   pub all_back : senders ≤ 16 → (pass : Pass (Kept J G)) → IsPassAt gate pass → IsFree pass → pass.number ≡ senders + 1 → (senders ≡ 0 → (known pass).made ≡ 1) → HasThese (lock_of gate) old senders
       → (0 < senders → (known_at old 1).made ≡ senders + 1) → pass_at new pass.number ≡ Some pass → ((n : ℕ) → n ≢ pass.number → pass_at new n ≡ pass_at old n) → AllBackAt gate new
@@ -67,7 +96,7 @@ module _ {J : Type 0} {G : Ghosts J} (gate : Gate J G) (senders : ℕ) (old new 
     some_made = omega (arith, made);
     few = omega (arith, made, few);
     each = λ n i. each_of n (subst (λ k. In k n) made i);
-    others = λ n p is. other_of n p is (in_or_out n);
+    others = λ n p is. other_of n p is (in_or_out n (senders + 1));
   }
     where
       at_last : pass_at new (senders + 1) ≡ Some pass
@@ -94,19 +123,6 @@ module _ {J : Type 0} {G : Ghosts J} (gate : Gate J G) (senders : ℕ) (old new 
           of : (In senders n) ⊎ (n ≡ senders + 1) → HasBackAt gate new n
           of (inl j) = back_of n j
           of (inr e) = record { pass = pass; there = ap (λ k. pass_at new k) e ∙ at_last; own = own; free = free }
-
-      in_or_out : (n : ℕ) → (In (senders + 1) n) ⊎ (¬ In (senders + 1) n)
-      in_or_out n = of n (senders + 1)
-        where
-          of : (n k : ℕ) → (In k n) ⊎ (¬ In k n)
-          of zero k = inr (λ i. let from_one = i.from_one in omega (arith, from_one))
-          of (suc n) zero = inr (λ i. let up_to = i.up_to in omega (arith, up_to))
-          of (suc zero) (suc k) = inl (record { from_one = omega arith; up_to = omega arith })
-          of (suc (suc n)) (suc k) = lift (of (suc n) k)
-            where
-              lift : (In k (suc n)) ⊎ (¬ In k (suc n)) → (In (suc k) (suc (suc n))) ⊎ (¬ In (suc k) (suc (suc n)))
-              lift (inl i) = inl (record { from_one = omega arith; up_to = let up_to = i.up_to in omega (arith, up_to) })
-              lift (inr out) = inr (λ i. let up_to = i.up_to in out (record { from_one = omega arith; up_to = omega (arith, up_to) }))
 
       other_of : (n : ℕ) (p : Pass (Kept J G)) → pass_at new n ≡ Some p → (In (senders + 1) n) ⊎ (¬ In (senders + 1) n) → IsPassAt gate p × IsFree p
       other_of n p is (inl i) = let b = each_of n i in (subst (λ q. IsPassAt gate q) (same_Some b.pass p (sym b.there ∙ is)) b.own, subst (λ q. IsFree q) (same_Some b.pass p (sym b.there ∙ is)) b.free)

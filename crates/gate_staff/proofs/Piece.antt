@@ -12,7 +12,7 @@ use Rattle.gate_senders.specs.Kept.{next_entry, IsFullAt}
 use Rattle.gate_senders.specs.Shown.{TakesTurn, SubmittedAll, IsFullBehind, LosesAll, entries_after}
 use Rattle.gate_senders.specs.declared.gate.Gate.{Gate}
 use Rattle.gate_senders.specs.declared.submission.Submission.{Submission}
-use Rattle.gate_staff.specs.Sent.{IsShown, HasLost}
+use Rattle.gate_staff.specs.Sent.{HasLost}
 use Rattle.gate_staff.specs.Runs.{plan_of, IsReady, WasRefused, Pieced}
 use Rattle.gate_staff.specs.declared.sender.Sender.{Sender}
 use Rattle.gate_staff.proofs.Running.{length_taken}

@@ -17,7 +17,7 @@ use Rattle.gate_turn.specs.Calls.{IsFree}
 use Rattle.gate_senders.specs.Gate.{IsPassAt}
 use Rattle.gate_senders.specs.declared.gate.Gate.{Gate}
 use Rattle.gate_staff.specs.Sent.{entries_behind, StandAt, GoesOn, Sent, IsShown, refusals}
-use Rattle.gate_staff.specs.Runs.{plan_of, IsReady, WasRefused, Ran, RanEach, may_go_on, Resumed, Counted, Pieced}
+use Rattle.gate_staff.specs.Runs.{plan_of, IsReady, Ran, RanEach, may_go_on, Resumed, Counted, Pieced}
 use Rattle.gate_staff.specs.Hands.{WorkedEach}
 use Rattle.gate_staff.specs.Plans.{SetOut}
 use Rattle.gate_staff.specs.declared.sender.Sender.{Sender}

@@ -1,6 +1,5 @@
 -- Passes that go from the list to senders, and back.
-use Rattle.std.proofs.Common.{◌≡◌, ◌≢◌, ◌⊎◌, inl, inr, ⊎_elim, ℕ, zero, suc, ◌+◌, ◌-◌, ◌<◌, ◌≤◌, List, [], ◌∷◌, ◌++◌, length, map, reverse, slice_index_or, All, Option, Some, None, refl, sym, ap, ◌∙◌, subst, arith, le_refl, length-append, append_assoc}
-use Rattle.std.proofs.lemmas.Option.{none-some, same_Some}
+use Rattle.std.proofs.Common.{◌≡◌, ◌≢◌, ◌⊎◌, inl, inr, ⊎_elim, ℕ, zero, suc, ◌+◌, ◌-◌, ◌<◌, ◌≤◌, List, [], ◌∷◌, ◌++◌, length, map, reverse, slice_index_or, All, Option, Some, None, sym, ap, ◌∙◌, subst, arith, length-append, append_assoc}
 use Rattle.std.proofs.lemmas.List.{get_or_append_left, get_or_push, get_or-map, map-append, reverse-append}
 use Rattle.std.proofs.lemmas.List.Elements.{All-push}
 use mathlib.Core.Logic.{dite}
@@ -15,7 +14,7 @@ use Rattle.gate_turn.specs.Listed.{pass_at, known_if, known_at}
 use Rattle.gate_turn.specs.Calls.{IsFree}
 use Rattle.gate_turn.specs.declared.pass.Pass.{Pass}
 use Rattle.gate_turn.specs.declared.passes.Passes.{Passes}
-use Rattle.gate_senders.specs.Gate.{IsPassAt, HasBackAt, MadeAt, AllBackAt}
+use Rattle.gate_senders.specs.Gate.{HasBackAt}
 use Rattle.gate_senders.specs.declared.gate.Gate.{Gate}
 use Rattle.gate_senders.specs.declared.kept.Kept.{Kept}
 use Rattle.plan_values.specs.declared.plan.Plan.{Plan}
@@ -23,7 +22,7 @@ use Rattle.gate_staff.specs.Business.{lock_of, HasThese}
 use Rattle.gate_staff.specs.Plans.{part_in}
 use Rattle.gate_staff.specs.Runs.{IsReady, RanEach, CountedEach}
 use Rattle.gate_staff.specs.declared.sender.Sender.{Sender}
-use Rattle.gate_staff.specs.Seats.{AreNext, IsBehind, Seated, HasBehind}
+use Rattle.gate_staff.specs.Seats.{AreNext, Seated, SeatedFrom, HasTheirs}
 
 -- the element of a list at a place that it has
 pub at_place : {X : Type 0} (xs : List X) (i : ℕ) → i < length xs → X
@@ -32,63 +31,9 @@ at_place (x ∷ xs) zero lt = x
 at_place (x ∷ xs) (suc i) lt = at_place xs i (omega (arith, lt))
 
 module _ {J : Type 0} {G : Ghosts J} (gate : Gate J G) (made : ℕ) where
-  -- all are in the list
-  pub all_behind : (passes : Passes (Kept J G)) → 1 ≤ made → MadeAt gate passes made → HasBehind gate passes 0 made
-  all_behind passes some m = record {
-    each = λ n b. (m.each n (record { from_one = omega (arith, b.past); up_to = b.up_to })).0;
-    none = λ n out. m.others n (λ h. out (record { past = omega (arith, h.from_one); up_to = h.up_to }));
-    first = λ _. ap (λ (p : Part). p.made) (m.each 1 (record { from_one = omega arith; up_to = some })).1;
-  }
-
-  -- the list has the one behind the senders'
-  pub last_back : (passes : Passes (Kept J G)) (k : ℕ) → k + 1 ≡ made → HasBehind gate passes k made → HasBackAt gate passes made
-  last_back passes k last h = h.each made (record { past = omega (arith, last); up_to = le_refl made })
-
-  -- one was taken out
-  pub taken_out : (old new : Passes (Kept J G)) (k : ℕ) → pass_at new (k + 1) ≡ None → ((n : ℕ) → n ≢ k + 1 → pass_at new n ≡ pass_at old n)
-      → HasBehind gate old k made → HasBehind gate new (k + 1) made
-  taken_out old new k gone others h = record {
-    each = λ n b.
-        let was = h.each n (record { past = omega (arith, b.past); up_to = b.up_to }) in
-        record { pass = was.pass; there = others n (λ e. omega (arith, e, b.past)) ∙ was.there; own = was.own; free = was.free };
-    none = λ n out. dite (ℕ_discrete n (k + 1))
-        (λ e. ap (pass_at new) e ∙ gone)
-        (λ ne. others n ne ∙ h.none n (λ b. out (record { past = omega (arith, b.past, ne); up_to = b.up_to })));
-    first = λ e. absurd (omega (arith, e));
-  }
-
-  -- one was put back
-  pub put_back : (old new : Passes (Kept J G)) (k : ℕ) (p : Pass (Kept J G)) → k + 1 ≤ made → p.number ≡ k + 1 → IsPassAt gate p → IsFree p → (k ≡ 0 → (known p).made ≡ made)
-      → pass_at new p.number ≡ Some p → ((n : ℕ) → n ≢ p.number → pass_at new n ≡ pass_at old n) → HasBehind gate old (k + 1) made → HasBehind gate new k made
-  put_back old new k p inside number own free first there others h = record {
-    each = λ n b. dite (ℕ_discrete n p.number)
-        (λ e. record { pass = p; there = ap (pass_at new) e ∙ there; own = own; free = free })
-        (λ ne.
-        let was = h.each n (record { past = omega (arith, b.past, ne, number); up_to = b.up_to }) in
-        record { pass = was.pass; there = others n ne ∙ was.there; own = was.own; free = was.free });
-    none = λ n out. dite (ℕ_discrete n p.number)
-        (λ e. absurd (out (record { past = omega (arith, e, number); up_to = omega (arith, e, number, inside) })))
-        (λ ne. others n ne ∙ h.none n (λ b. out (record { past = omega (arith, b.past); up_to = b.up_to })));
-    first = λ e.
-        let one : 1 ≡ p.number = omega (arith, e, number) in
-        ap (λ (o : Option (Pass (Kept J G))). (known_if o).made) (ap (pass_at new) one ∙ there) ∙ first e;
-  }
-
-  -- all are back
-  pub all_back : (passes : Passes (Kept J G)) → 1 ≤ made → made ≤ 18 → HasBehind gate passes 0 made → AllBackAt gate passes
-  all_back passes some few h = record {
-    some_made = let e = h.first refl in omega (arith, e, some);
-    few = let e = h.first refl in omega (arith, e, few);
-    each = λ n i. h.each n (record { past = omega (arith, i.from_one); up_to = let e = h.first refl in omega (arith, e, i.up_to) });
-    others = λ n p there. dite (ℕ_discrete n 0)
-        (λ e. absurd (none-some p (sym (h.none n (λ b. omega (arith, b.past, e))) ∙ there)))
-        (λ ne. ⊎_elim
-        (λ far. absurd (none-some p (sym (h.none n (λ b. omega (arith, b.up_to, far))) ∙ there)))
-        (λ near.
-        let b = h.each n (record { past = omega (arith, ne); up_to = omega (arith, near) }) in
-        subst (λ q. IsPassAt gate q × IsFree q) (same_Some b.pass p (sym b.there ∙ there)) (b.own, b.free))
-        (cases_lt made n));
-  }
+  -- one of a list that has these
+  pub back_of : (passes : Passes (Kept J G)) (n : ℕ) → HasThese (lock_of gate) passes made → In made n → HasBackAt gate passes n
+  back_of passes n these i = let t = these.each n i in record { pass = t.0; there = t.1; own = t.2; free = t.3 }
 
   -- nobody has a pass
   pub none_seated : (senders : List (Sender J G)) → senders ≡ [] → Seated gate senders made
@@ -113,28 +58,6 @@ module _ {J : Type 0} {G : Ghosts J} (gate : Gate J G) (made : ℕ) where
             (λ ne.
             let within : 0 < length senders = omega (arith, ne) in
             ap (λ (t : Sender J G). (known t.pass).made) (get_or_append_left senders (s ∷ []) d 0 within) ∙ h.first d within);
-      }
-
-  -- what the last one has
-  pub record IsLastSeated (senders : List (Sender J G)) (s : Sender J G) : Type 0 where
-    pub others : Seated gate senders made
-    pub ready : IsReady gate s
-    pub number : (known s.pass).number ≡ length senders + 1
-    pub first : length senders ≡ 0 → (known s.pass).made ≡ made
-
-  pub last_seated : (senders : List (Sender J G)) (s : Sender J G) → Seated gate (senders ++ s ∷ []) made → IsLastSeated senders s
-  last_seated senders s h =
-      let long = length-append senders (s ∷ []) in
-      let there = get_or_push senders s s (length senders) refl in
-      record {
-        others = record {
-          ready = λ k d lt. subst (IsReady gate) (get_or_append_left senders (s ∷ []) d k lt) (h.ready k d (omega (arith, lt, long)));
-          numbers = λ k d lt. ap (λ (t : Sender J G). (known t.pass).number) (sym (get_or_append_left senders (s ∷ []) d k lt)) ∙ h.numbers k d (omega (arith, lt, long));
-          first = λ d lt. ap (λ (t : Sender J G). (known t.pass).made) (sym (get_or_append_left senders (s ∷ []) d 0 lt)) ∙ h.first d (omega (arith, lt, long));
-        };
-        ready = subst (IsReady gate) there (h.ready (length senders) s (omega (arith, long)));
-        number = ap (λ (t : Sender J G). (known t.pass).number) (sym there) ∙ h.numbers (length senders) s (omega (arith, long));
-        first = λ e. ap (λ (t : Sender J G). (known t.pass).made) (sym (get_or_push senders s s 0 e)) ∙ h.first s (omega (arith, long));
       }
 
   -- a run leaves the senders their passes
@@ -171,6 +94,14 @@ module _ {J : Type 0} {G : Ghosts J} where
       (λ ne.
       let within : i < place = omega (arith, lt, ne) in
       before i d within ∙ ap (λ (t : Sender J G). Some t.pass) (sym (get_or_append_left senders (s ∷ []) d i (omega (arith, within, long)))))
+
+  -- what they were seated out of a list that had one more before
+  pub seated_before : (old at : Passes (Kept J G)) (plans : List Plan) (senders : List (Sender J G)) (many : ℕ) → length senders ≡ many → ((n : ℕ) → n ≢ many + 1 → pass_at at n ≡ pass_at old n)
+      → SeatedFrom at plans senders → SeatedFrom old plans senders
+  seated_before old at plans senders many long same from = record {
+    passes_are = λ i d lt. sym (same (i + 1) (λ e. omega (arith, e, lt, long))) ∙ from.passes_are i d lt;
+    plans_are = from.plans_are;
+  }
 
 -- senders whose passes have the numbers behind so many
 module _ {J : Type 0} {G : Ghosts J} (senders : List (Sender J G)) (count : ℕ) (long : length senders ≡ count) where
@@ -243,3 +174,41 @@ module _ {J : Type 0} {G : Ghosts J} (senders : List (Sender J G)) (count : ℕ)
 -- as many passes, counted otherwise, and what they know, said otherwise
 pub next_as : {T : Type 0} (lock : TableId) (passes : Passes T) (before n m : ℕ) (p q : ℕ → Part) → n ≡ m → p ≡ q → AreNext lock passes before m q → AreNext lock passes before n p
 next_as lock passes before n m p q many same next = subst (λ k. AreNext lock passes before k p) (sym many) (subst (λ f. AreNext lock passes before m f) (sym same) next)
+
+-- an empty list has the passes of no numbers
+pub nobody_has : {T : Type 0} (lock : TableId) (passes : Passes T) → ((n : ℕ) → pass_at passes n ≡ None) → HasThese lock passes 0
+nobody_has lock passes empty = record {
+  each = λ n i. let from_one = i.from_one in let up_to = i.up_to in absurd (omega (arith, from_one, up_to));
+  others = λ n out. empty n;
+}
+
+-- senders that were seated have the passes of the numbers from 1 on
+module _ {J : Type 0} {G : Ghosts J} (gate : Gate J G) (senders : List (Sender J G)) (count : ℕ) (long : length senders ≡ count) (seated : Seated gate senders (count + 1)) where
+  pub seated_numbers : (n : ℕ) → In count n → (part_in senders n).number ≡ 0 + n
+  seated_numbers zero i = let from_one = i.from_one in absurd (omega (arith, from_one))
+  seated_numbers (suc k) i =
+      let up_to = i.up_to in
+      let lt : k < count = omega (arith, up_to) in
+      let within : k < length senders = omega (arith, lt, long) in
+      let d = at_place senders k within in
+      let number = seated.numbers k d within in
+      let e : k + 1 ≡ 0 + suc k = omega arith in
+      ap (λ (p : Part). p.number) (part_there senders count long k d lt) ∙ (number ∙ e)
+
+  pub first_of : 0 < count → (part_in senders 1).made ≡ count + 1
+  first_of some =
+      let within : 0 < length senders = omega (arith, some, long) in
+      let d = at_place senders 0 within in
+      ap (λ (p : Part). p.made) (part_there senders count long 0 d some) ∙ seated.first d within
+
+-- the passes of senders came out again, and behind them that of the connection
+module _ {J : Type 0} {G : Ghosts J} (senders : List (Sender J G)) (out back : Passes (Kept J G)) (last : Pass (Kept J G)) (many : ℕ) (long : length senders ≡ many)
+    (parts : (n : ℕ) → In many n → known_at out n ≡ part_in senders n) (still : (n : ℕ) → In many n → known_at back n ≡ known_at out n) (behind : known_at back (many + 1) ≡ known last) where
+  pub have_theirs : HasTheirs back senders last
+  have_theirs = record {
+    theirs = λ i d lt.
+        let within : i < many = omega (arith, lt, long) in
+        let inside : In many (suc i) = record { from_one = omega arith; up_to = omega (arith, within) } in
+        still (suc i) inside ∙ (parts (suc i) inside ∙ part_there senders many long i d within);
+    behind = ap (λ n. known_at back (n + 1)) long ∙ behind;
+  }

@@ -1,13 +1,13 @@
--- Where the passes of a gate are while senders have them: so many with the senders, the others in the list.
-use Rattle.std.specs.Prelude.{◌≡◌, ℕ, ◌+◌, ◌<◌, ◌≤◌, List, length, map, reverse, slice_index_or, All, Some, None}
+-- Where the passes of a gate are while senders have them.
+use Rattle.std.specs.Prelude.{◌≡◌, ℕ, suc, ◌+◌, ◌<◌, List, length, map, reverse, slice_index_or, All, Some}
 use Rattle.jr_dated.specs.declared.journal.Journal.{Ghosts}
 use Rattle.atomic_table.specs.Seated.{TableId}
 use Rattle.gate_turn.specs.Views.{Part}
 use Rattle.gate_turn.specs.Rule.{In}
 use Rattle.gate_turn.specs.Places.{known}
 use Rattle.gate_turn.specs.Listed.{pass_at, known_at}
+use Rattle.gate_turn.specs.declared.pass.Pass.{Pass}
 use Rattle.gate_turn.specs.declared.passes.Passes.{Passes}
-use Rattle.gate_senders.specs.Gate.{HasBackAt}
 use Rattle.gate_senders.specs.declared.gate.Gate.{Gate}
 use Rattle.gate_senders.specs.declared.kept.Kept.{Kept}
 use Rattle.plan_values.specs.declared.plan.Plan.{Plan}
@@ -19,11 +19,6 @@ use Rattle.gate_staff.specs.declared.sender.Sender.{Sender}
 pub record AreNext {T : Type 0} (lock : TableId) (passes : Passes T) (before count : ℕ) (part : ℕ → Part) : Type 0 where
   pub these : HasThese lock passes before
   pub numbers : (n : ℕ) → In count n → (part n).number ≡ before + n
-
--- n lies behind k, and is at most `made`
-pub record IsBehind (k made n : ℕ) : Type 0 where
-  pub past : k < n
-  pub up_to : n ≤ made
 
 module _ {J : Type 0} {G : Ghosts J} where
   -- the senders have the passes of the numbers from 1 on, in order
@@ -37,13 +32,7 @@ module _ {J : Type 0} {G : Ghosts J} where
     pub passes_are : (i : ℕ) (d : Sender J G) → i < length senders → pass_at passes (i + 1) ≡ Some (slice_index_or senders i d).pass
     pub plans_are : plans ≡ reverse (map (λ (s : Sender J G). s.plan) senders)
 
-  -- this list has the passes of the senders, and behind them those of the other list
-  pub record HasTheirs (old new : Passes (Kept J G)) (senders : List (Sender J G)) : Type 0 where
-    pub theirs : (i : ℕ) (d : Sender J G) → i < length senders → pass_at new (i + 1) ≡ Some (slice_index_or senders i d).pass
-    pub others : (n : ℕ) → length senders < n → pass_at new n ≡ pass_at old n
-
-  -- the list has the passes behind the number k
-  pub record HasBehind (gate : Gate J G) (passes : Passes (Kept J G)) (k made : ℕ) : Type 0 where
-    pub each : (n : ℕ) → IsBehind k made n → HasBackAt gate passes n
-    pub none : (n : ℕ) → ¬ IsBehind k made n → pass_at passes n ≡ None
-    pub first : k ≡ 0 → (known_at passes 1).made ≡ made
+  -- the list has the passes of these senders, from the number 1 on, and behind them this one
+  pub record HasTheirs (passes : Passes (Kept J G)) (senders : List (Sender J G)) (last : Pass (Kept J G)) : Type 0 where
+    pub theirs : (i : ℕ) (d : Sender J G) → i < length senders → known_at passes (suc i) ≡ known (slice_index_or senders i d).pass
+    pub behind : known_at passes (length senders + 1) ≡ known last

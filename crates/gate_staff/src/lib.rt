@@ -26,8 +26,6 @@ pub use plan_values::Plan;
 pub use plans::{Plans, finish_by};
 pub use producers::{Producers, run_producers};
 pub use run::run_senders;
-pub use seats::{
-    count_done, give_connection, give_last, run_seated, seat, take_connection, take_last, unseat,
-};
+pub use seats::{count_done, give_connection, run_seated, seat, take_connection, unseat};
 pub use sender::{PIECE_BYTES, PIECE_MESSAGES, Sender};
 pub use staff::Staff;

@@ -1,5 +1,5 @@
-//! The passes of a gate, parted between those who send and the connection, which has the one behind those of the senders; the senders of plans
-//! made of theirs, run, and the passes given back.
+//! The passes of a gate, parted between those who send and the connection, which has the one behind theirs: a list that is handed on has those of
+//! the numbers from 1 on. The senders of plans are made of theirs, run, and the passes given back.
 ghost use Rattle.std.specs.Prelude.{◌≡◌, ◌≢◌, ℕ, ◌+◌, ◌<◌, ◌≤◌, false, All, [], vec_len, vec_capacity, None, Some, OnOk};
 ghost use Rattle.gate_turn.specs.Places.{known};
 ghost use Rattle.gate_turn.specs.Rule.{In};
@@ -9,7 +9,7 @@ ghost use Rattle.gate_senders.specs.Gate.{senders_of, IsPassAt, HasBackAt, MadeA
 ghost use Rattle.gate_staff.specs.Business.{lock_of, HasThese};
 ghost use Rattle.gate_staff.specs.Runs.{IsReady, RanEach, IsWhole, IsAdmitted, IsLowest, CountedEach};
 ghost use Rattle.gate_staff.specs.Plans.{part_in};
-ghost use Rattle.gate_staff.specs.Seats.{Seated, SeatedFrom, HasTheirs, HasBehind, AreNext};
+ghost use Rattle.gate_staff.specs.Seats.{Seated, SeatedFrom, AreNext};
 
 use crate::door::Door;
 use crate::run::run_senders;
@@ -50,22 +50,23 @@ fn seated<J: Journal>(
     }
 }
 
-/// A sender for each plan, from the last plan on, which is sender 1's. The list that they are put into has room for them.
+/// A sender for each plan, from the last plan on, which is sender 1's, with the passes of a list, which is empty then. The list that they are put
+/// into has room for them.
 pub fn seat<J: Journal>(
     gate: &Gate<J>,
     passes: &mut Passes<Kept<J>>,
     mut plans: Vec<Plan>,
     mut senders: Vec<Sender<J>>,
 ) -> Vec<Sender<J>>
-    requires made { MadeAt gate.now passes.old (vec_len plans + 1) }
+    requires these { HasThese (lock_of gate.now) passes.old (vec_len plans) }
+    requires first { 0 < vec_len plans → (known_at passes.old 1).made ≡ vec_len plans + 1 }
     requires count { senders_of gate.now ≡ vec_len plans }
     requires empty { senders.items ≡ [] }
     requires room { vec_len plans ≤ vec_capacity senders }
     ensures count { vec_len result ≡ vec_len plans }
     ensures seated { Seated gate.now result.items (vec_len plans + 1) }
-    ensures behind { HasBehind gate.now passes.new (vec_len plans) (vec_len plans + 1) }
     ensures from { SeatedFrom passes.old plans.items result.items }
-    ensures others { (n : ℕ) → vec_len plans < n → pass_at passes.new n ≡ pass_at passes.old n }
+    ensures none { HasThese (lock_of gate.now) passes.new 0 }
 {
     for place in 0..plans.len() as u16 {
         let Some(plan) = plans.pop() else {
@@ -118,74 +119,6 @@ pub fn run_seated<J: Journal + Send, D: Door + Sync, R: Threads + Wait + Sync>(
     run_senders(gate, senders.as_mut_slice(), door, rt)
 }
 
-/// Takes out the pass behind those of so many senders, which is the connection's.
-pub fn take_last<J: Journal>(
-    gate: &Gate<J>,
-    passes: &mut Passes<Kept<J>>,
-    senders: u16,
-) -> Pass<Kept<J>>
-    requires few { senders ≤ 16 }
-    requires behind { HasBehind gate.now passes.old senders (senders + 1) }
-    ensures own { IsPassAt gate.now result }
-    ensures free { IsFree result }
-    ensures number { (known result).number ≡ senders + 1 }
-    ensures first { senders ≡ 0 → (known result).made ≡ 1 }
-    ensures there { pass_at passes.old (senders + 1) ≡ Some result }
-    ensures others { (n : ℕ) → n ≢ senders + 1 → pass_at passes.new n ≡ pass_at passes.old n }
-    ensures behind { HasBehind gate.now passes.new (senders + 1) (senders + 1) }
-{
-    let _ = gate;
-    let Some(pass) = passes.take(senders + 1) else {
-        unreachable!()
-    };
-    pass
-}
-
-/// Gives the pass behind those of so many senders back.
-pub fn give_last<J: Journal>(
-    gate: &Gate<J>,
-    passes: &mut Passes<Kept<J>>,
-    senders: u16,
-    pass: Pass<Kept<J>>,
-)
-    requires own { IsPassAt gate.now pass }
-    requires free { IsFree pass }
-    requires number { (known pass).number ≡ senders + 1 }
-    requires first { senders ≡ 0 → (known pass).made ≡ 1 }
-    requires behind { HasBehind gate.now passes.old (senders + 1) (senders + 1) }
-    ensures there { pass_at passes.new (senders + 1) ≡ Some pass }
-    ensures others { (n : ℕ) → n ≢ senders + 1 → pass_at passes.new n ≡ pass_at passes.old n }
-    ensures behind { HasBehind gate.now passes.new senders (senders + 1) }
-{
-    let _ = gate;
-    let _ = senders;
-    passes.give(pass);
-}
-
-/// Gives the passes of the senders back.
-pub fn unseat<J: Journal>(gate: &Gate<J>, mut senders: Vec<Sender<J>>, passes: &mut Passes<Kept<J>>)
-    requires seated { Seated gate.now senders.items (vec_len senders + 1) }
-    requires behind { HasBehind gate.now passes.old (vec_len senders) (vec_len senders + 1) }
-    requires few { vec_len senders ≤ 16 }
-    ensures back { AllBackAt gate.now passes.new }
-    ensures theirs { HasTheirs passes.old passes.new senders.items }
-{
-    let _ = gate;
-    for _ in 0..senders.len() {
-        let Some(sender) = senders.pop() else {
-            unreachable!()
-        };
-        let Sender {
-            pass,
-            plan: _,
-            done: _,
-            refused: _,
-            turned: _,
-        } = sender;
-        passes.give(pass);
-    }
-}
-
 /// Gives the passes of senders back to a list that has those before theirs.
 pub(crate) fn give_back<J: Journal>(
     gate: &Gate<J>,
@@ -214,7 +147,19 @@ pub(crate) fn give_back<J: Journal>(
     }
 }
 
-/// Takes the connection's pass out of those that a gate was made with, for so many senders. What is left is a business's.
+/// The passes of senders that were seated.
+pub fn unseat<J: Journal>(gate: &Gate<J>, senders: Vec<Sender<J>>) -> Passes<Kept<J>>
+    requires seated { Seated gate.now senders.items (vec_len senders + 1) }
+    ensures these { HasThese (lock_of gate.now) result (vec_len senders) }
+    ensures parts { (n : ℕ) → In (vec_len senders) n → known_at result n ≡ part_in senders.items n }
+    ensures first { 0 < vec_len senders → (known_at result 1).made ≡ vec_len senders + 1 }
+{
+    let mut passes = Passes::new();
+    give_back(gate, senders, &mut passes);
+    passes
+}
+
+/// Takes the connection's pass out of those that a gate was made with, for so many senders. What is left is theirs.
 pub fn take_connection<J: Journal>(
     gate: &Gate<J>,
     passes: &mut Passes<Kept<J>>,
@@ -229,6 +174,7 @@ pub fn take_connection<J: Journal>(
     ensures alone { senders ≡ 0 → (known result).made ≡ 1 }
     ensures these { HasThese (lock_of gate.now) passes.new senders }
     ensures parts { (n : ℕ) → In senders n → known_at passes.new n ≡ known_at passes.old n }
+    ensures others { (n : ℕ) → n ≢ senders + 1 → pass_at passes.new n ≡ pass_at passes.old n }
     ensures first { 0 < senders → (known_at passes.new 1).made ≡ senders + 1 }
 {
     let _ = gate;
@@ -238,7 +184,7 @@ pub fn take_connection<J: Journal>(
     pass
 }
 
-/// Gives the connection's pass back to those of a business, which are so many: all passes of the gate.
+/// Gives the connection's pass back to those of all who send, which are so many: all passes of the gate.
 pub fn give_connection<J: Journal>(
     gate: &Gate<J>,
     passes: &mut Passes<Kept<J>>,

@@ -22,7 +22,7 @@ use Rattle.gate_senders.specs.Gate.{IsPassAt, IsSenderAt, MadeAt, opening_of}
 use Rattle.gate_senders.specs.declared.gate.Gate.{Gate}
 use Rattle.gate_senders.specs.declared.kept.Kept.{Kept}
 use Rattle.gate_staff.specs.Runs.{IsReady}
-use Rattle.gate_staff.specs.Seats.{Seated, HasBehind}
+use Rattle.gate_staff.specs.Seats.{Seated}
 use Rattle.gate_staff.specs.declared.sender.Sender.{Sender}
 use Rattle.conn_turns.specs.Lines.{Line, TakenFrame, AreTaken, size_of, line_after, lines_after}
 use Rattle.conn_turns.specs.Exact.{line_ticked}
@@ -392,24 +392,24 @@ module _ {J : Type 0} {G : Ghosts J} where
       subst (λ (h : History). BeginsHistory (opening_of gate).history h) (sym (ap (λ (x : Part). x.seen) at) ∙ ap (λ (x : Part). x.seen) (sym is)) (begins_self (opening_of gate).history)
 
   -- senders that are seated keep their place
-  pub senders_kept : (gate : Gate J G) (staff : Staff J G) (old new : Vec (Sender J G) Global) (passes : Passes (Kept J G)) (p : Pass (Kept J G)) → staff ≡ staffs.Senders old passes → HasStaff gate staff p → Seated gate new.items (vec_len new + 1)
-      → vec_len new ≡ vec_len old → HasStaff gate (staffs.Senders new passes) p
-  senders_kept gate staff old new passes p is h seated count =
+  pub senders_kept : (gate : Gate J G) (staff : Staff J G) (old new : Vec (Sender J G) Global) (p : Pass (Kept J G)) → staff ≡ staffs.Senders old → HasStaff gate staff p → Seated gate new.items (vec_len new + 1)
+      → vec_len new ≡ vec_len old → HasStaff gate (staffs.Senders new) p
+  senders_kept gate staff old new p is h seated count =
       let was = subst (λ (s : Staff J G). HasStaff gate s p) is h in
       record {
         few = let few = was.few in omega (arith, few, count);
-        seated = (seated, subst (λ (n : ℕ). HasBehind gate passes (n + 1) (n + 1)) (sym count) was.seated.1);
+        seated = seated;
         own = was.own;
         free = was.free;
         number = was.number ∙ ap (λ (n : ℕ). n + 1) (sym count);
         alone = λ none. was.alone (sym count ∙ none);
       }
 
-  pub senders_seated : (gate : Gate J G) (staff : Staff J G) (old : Vec (Sender J G) Global) (passes : Passes (Kept J G)) (p : Pass (Kept J G)) → staff ≡ staffs.Senders old passes → HasStaff gate staff p
+  pub senders_seated : (gate : Gate J G) (staff : Staff J G) (old : Vec (Sender J G) Global) (p : Pass (Kept J G)) → staff ≡ staffs.Senders old → HasStaff gate staff p
       → (vec_len old ≤ 16) × Seated gate old.items (vec_len old + 1)
-  senders_seated gate staff old passes p is h =
+  senders_seated gate staff old p is h =
       let was = subst (λ (s : Staff J G). HasStaff gate s p) is h in
-      (was.few, was.seated.0)
+      (was.few, was.seated)
 
   -- a pass that made the same numbers, of those who send the same number, has the same place
   pub staff_kept : (gate : Gate J G) (old new : Staff J G) (p q : Pass (Kept J G)) → HasStaff gate old p → IsSeatedAt gate new → count_of new ≡ count_of old → IsPassAt gate q → IsFree q → (known q).number ≡ (known p).number

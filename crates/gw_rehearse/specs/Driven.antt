@@ -55,7 +55,7 @@ pub record FindsMore (old new : DrivenEnd) : Type 0 where
 
 -- nobody sends of itself here: those who answer, or nobody at all
 abbrev pub only_answers : {J : Type 0} {G : Ghosts J} → Staff J G → Bool
-only_answers (staffs.Senders senders passes) = vec_len senders == 0
+only_answers (staffs.Senders senders) = vec_len senders == 0
 only_answers (staffs.Desks count desks) = true
 
 -- once it has recorded the peer's finish, the pass of such an end has seen the mark behind its outbox, and so all of that

@@ -7,35 +7,30 @@ use Rattle.jr_dated.specs.declared.journal.Journal.{Ghosts}
 use Rattle.gate_turn.specs.Views.{Account, HasFailed, Part, new_part}
 use Rattle.gate_turn.specs.Rule.{In}
 use Rattle.gate_turn.specs.Places.{known}
-use Rattle.gate_turn.specs.Listed.{pass_at, known_if, known_at}
+use Rattle.gate_turn.specs.Listed.{known_at}
 use Rattle.gate_turn.specs.declared.pass.Pass.{Pass}
 use Rattle.gate_turn.specs.declared.passes.Passes.{Passes}
 use Rattle.gate_senders.specs.declared.gate.Gate.{Gate}
 use Rattle.gate_senders.specs.declared.kept.Kept.{Kept}
 use Rattle.conn_loop.specs.Conn.{Looks}
 use Rattle.gate_staff.specs.Seats.{Seated, HasTheirs}
+use Rattle.gate_staff.proofs.Seating.{at_place}
 use Rattle.gate_staff.specs.declared.sender.Sender.{Sender}
-use Rattle.conn_door.specs.Senders.{SomeMarked}
 use Rattle.life_laws.specs.Plans.{plan_in, LosesOwn, PlansMade}
 use Rattle.gate_staff.specs.Made.{MadeOf, IsAllMade, LosesMessages}
-use Rattle.life_laws.specs.PlanLives.{SomePass, SeesMark, SeesFailure}
+use Rattle.life_laws.specs.PlanLives.{SomePass, SeesFailure}
 use Rattle.life_laws.proofs.Senders.{PartMade, EachMade, NoneEnded, PartLoses, SendersMade}
 
--- the element of a list at a place that it has
-pub at_place : {X : Type 0} (xs : List X) (i : ℕ) → i < length xs → X
-at_place [] i lt = absurd (omega (arith, lt))
-at_place (x ∷ xs) i lt = x
-
-module _ {J : Type 0} {G : Ghosts J} (gate : Gate J G) (a : Account) (plans : List (List (List ℕ))) (after : List (Sender J G)) (old new : Passes (Kept J G)) (last : Pass (Kept J G)) (first now : Part)
-    (seats : Seated gate after (length plans + 1)) (theirs : HasTheirs old new after) (there : pass_at old (length plans + 1) ≡ Some last)
+module _ {J : Type 0} {G : Ghosts J} (gate : Gate J G) (a : Account) (plans : List (List (List ℕ))) (after : List (Sender J G)) (new : Passes (Kept J G)) (last : Pass (Kept J G)) (first now : Part)
+    (seats : Seated gate after (length plans + 1)) (theirs : HasTheirs new after last)
     (was : (m : ℕ) × (first ≡ new_part (length plans + 1) m a)) (looks : Looks first now) (now_is : known last ≡ now) (only : length plans ≡ 0 → first.made ≡ 1) where
   module _ (m : SendersMade gate a plans after) where
     -- the pass of a sender is in its place, and that of the connection behind them
     sender_at : (i : ℕ) (d : Sender J G) → i < length after → known_at new (suc i) ≡ known (slice_index_or after i d).pass
-    sender_at i d lt = ap (λ (o : Option (Pass (Kept J G))). known_if o) (ap (λ (n : ℕ). pass_at new n) (sym (add-one i)) ∙ theirs.theirs i d lt)
+    sender_at i d lt = theirs.theirs i d lt
 
     pub last_at : known_at new (length plans + 1) ≡ now
-    last_at = ap (λ (o : Option (Pass (Kept J G))). known_if o) (theirs.others (length plans + 1) (omega (arith, m.long)) ∙ there) ∙ now_is
+    last_at = ap (λ (n : ℕ). known_at new (n + 1)) (sym m.long) ∙ (theirs.behind ∙ now_is)
 
     in_after : (i : ℕ) → In (length plans) (suc i) → i < length after
     in_after i h = omega (arith, h.up_to, m.long)
@@ -127,9 +122,6 @@ module _ {J : Type 0} {G : Ghosts J} (gate : Gate J G) (a : Account) (plans : Li
       inside = record { from_one = omega arith; up_to = omega (arith, lt, m.long) };
       is = subst P (sym (sender_at i d lt)) p;
     }
-
-    pub marked_at : SomeMarked after → SomePass (length plans + 1) SeesMark (known_at new)
-    marked_at k = some_sender SeesMark k.there.0 k.sender k.there.1 (subst (λ (s : Sender J G). SeesMark (known s.pass)) (sym k.there.2) k.marked)
 
     -- a failure that the connection's pass, or a sender's, shows
     pub last_failed : HasFailed first.faults now.faults ⊎ HasFailed now.opening.faults now.faults → SomePass (length plans + 1) SeesFailure (known_at new)

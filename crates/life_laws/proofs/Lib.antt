@@ -12,6 +12,7 @@ pub mod Senders
 pub mod Submitting
 pub mod Back
 pub mod Passes
+pub mod Producing
 pub mod Boxes
 pub mod BusinessPlans
 pub mod BusinessPasses

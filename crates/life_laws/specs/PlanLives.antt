@@ -7,7 +7,6 @@ use Rattle.session_model.specs.Lives.{Life, KeepsOutbox}
 use Rattle.fixp_msgs.specs.declared.flow.Flow.{Flow}
 use Rattle.fixp_shake.specs.declared.config.EndConfig.{EndConfig}
 use Rattle.fixp_machine.specs.Machine.{State, fresh}
-use Rattle.gw_links.specs.declared.link.Link.{Ghosts as LinkGhosts}
 use Rattle.jr_dated.specs.declared.journal.Journal.{Ghosts}
 use Rattle.jr_boxes.specs.declared.faults.Which.{Which}
 use Rattle.jr_boxes.specs.Outboxes.{outbox_of}
@@ -32,21 +31,11 @@ use Rattle.conn_door.specs.Flows.{is_sent_again}
 use Rattle.conn_serve.specs.Answering.{IsRefusal, AnsweredEach}
 use Rattle.conn_serve.specs.Causes.{IsChanged}
 use Rattle.conn_serve.specs.Connections.{all_of, adds_of, wanted_of_all}
+pub use Rattle.conn_serve.specs.Moments.{Clocked, clocked}
 use Rattle.conn_serve.specs.Moments.{Beside, with_seen}
 use Rattle.conn_serve.specs.Served.{ServedOver}
 use Rattle.conn_serve.specs.Opening.{opened_state}
 use Rattle.life_laws.specs.Plans.{plan_in, PlansMade, Senders, plans_at, SentAll, KeepsSenders}
-
--- What a life is served over: whether the outbox's disk tells its content; links, as the contracts of its dialer have them; and what its clock
--- gave last before and behind it
-pub record Clocked (L : Type 0) : Type 1 where
-  pub tells : Type 0
-  pub links : LinkGhosts L
-  pub before : ℕ
-  pub behind : ℕ
-
-abbrev pub clocked : {L : Type 0} → (tells : Type 0) → LinkGhosts L → (before behind : ℕ) → Clocked L
-clocked tells links before behind = record { tells = tells; links = links; before = before; behind = behind }
 
 -- of what so many passes know, this is so of one
 pub record SomePass (made : ℕ) (P : Part → Type 0) (known : ℕ → Part) : Type 0 where

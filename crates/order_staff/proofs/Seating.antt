@@ -1,11 +1,11 @@
 -- Who has the passes of a gate.
-use Rattle.std.proofs.Common.{◌≡◌, ℕ, zero, suc, ◌+◌, ◌<◌, ◌≤◌, List, [], ◌∷◌, length, Option, Some, None, refl, sym, ap, ◌∙◌, subst, arith}
+use Rattle.std.proofs.Common.{◌≡◌, ℕ, zero, suc, ◌+◌, ◌<◌, ◌≤◌, List, [], ◌∷◌, length, Some, sym, ap, ◌∙◌, subst, arith, add-one}
 use Rattle.std.specs.Prelude.{slice_index_or}
 use Rattle.std.proofs.lemmas.List.{get_or-map, length-map}
 use Rattle.jr_dated.specs.declared.journal.Journal.{Ghosts}
 use Rattle.gate_turn.specs.Views.{Part}
 use Rattle.gate_turn.specs.Places.{known}
-use Rattle.gate_turn.specs.Listed.{pass_at, known_if, known_at}
+use Rattle.gate_turn.specs.Listed.{known_at}
 use Rattle.gate_turn.specs.declared.pass.Pass.{Pass}
 use Rattle.gate_turn.specs.declared.passes.Passes.{Passes}
 use Rattle.gate_senders.specs.declared.gate.Gate.{Gate}
@@ -26,10 +26,10 @@ module _ {J : Type 0} {G : Ghosts J} where
   made s = length (known s.pass).mine
 
   -- where all passes are back, the connection's is the one behind those of the senders
-  module _ (given out : Passes (Kept J G)) (senders : List (Sender J G)) (count : ℕ) (p : Pass (Kept J G)) (many : count ≡ length senders) (alone : count ≡ 0 → (known p).made ≡ 1)
-      (there : pass_at given (count + 1) ≡ Some p) (theirs : HasTheirs given out senders) where
-    pub knows_last : known_at out (count + 1) ≡ known p
-    knows_last = ap (λ (o : Option (Pass (Kept J G))). known_if o) (theirs.others (count + 1) (omega (arith, many)) ∙ there)
+  module _ (out : Passes (Kept J G)) (senders : List (Sender J G)) (count : ℕ) (p : Pass (Kept J G)) (many : count ≡ length senders) (alone : count ≡ 0 → (known p).made ≡ 1)
+      (theirs : HasTheirs out senders p) where
+    knows_last : known_at out (count + 1) ≡ known p
+    knows_last = ap (λ (n : ℕ). known_at out (n + 1)) many ∙ theirs.behind
 
     pub made_all : (gate : Gate J G) → Seated gate senders (count + 1) → (xs : List (Sender J G)) → xs ≡ senders → (known_at out 1).made ≡ count + 1
     made_all gate seated [] e =
@@ -37,14 +37,14 @@ module _ {J : Type 0} {G : Ghosts J} where
         ap (λ (x : Part). x.made) (subst (λ (n : ℕ). known_at out (n + 1) ≡ known p) none knows_last) ∙ (alone none ∙ omega (arith, none))
     made_all gate seated (x ∷ xs) e =
         let some : 0 < length senders = omega (arith, ap length e) in
-        ap (λ (y : Part). y.made) (ap (λ (o : Option (Pass (Kept J G))). known_if o) (theirs.theirs 0 x some)) ∙ seated.first x some
+        ap (λ (y : Part). y.made) (theirs.theirs 0 x some) ∙ seated.first x some
 
   -- each sender's pass shows what it made
-  pub has_made : (gate : Gate J G) (given out : Passes (Kept J G)) (senders : List (Sender J G)) (made_for : ℕ) → Seated gate senders made_for → HasTheirs given out senders → HasMade out (sent_by senders)
-  has_made gate given out senders made_for seated theirs = record { mine = mine; numbers = numbers }
+  pub has_made : (gate : Gate J G) (out : Passes (Kept J G)) (senders : List (Sender J G)) (p : Pass (Kept J G)) (made_for : ℕ) → Seated gate senders made_for → HasTheirs out senders p → HasMade out (sent_by senders)
+  has_made gate out senders p made_for seated theirs = record { mine = mine; numbers = numbers }
     where
       knows : (i : ℕ) (d : Sender J G) → i < length senders → known_at out (i + 1) ≡ known (slice_index_or senders i d).pass
-      knows i d lt = ap (λ (o : Option (Pass (Kept J G))). known_if o) (theirs.theirs i d lt)
+      knows i d lt = ap (λ (n : ℕ). known_at out n) (add-one i) ∙ theirs.theirs i d lt
 
       mine : (i : ℕ) → i < length (sent_by senders) → length (known_at out (i + 1)).mine ≡ slice_index_or (sent_by senders) i 0
       mine i lt =
@@ -60,7 +60,7 @@ module _ {J : Type 0} {G : Ghosts J} where
 
   -- as many as there are senders
   pub sent_long : (staff : Staff J G) (counts : List ℕ) → sent_in staff ≡ Some counts → length counts ≡ count_of staff
-  sent_long (staffs.Senders senders passes) counts is =
+  sent_long (staffs.Senders senders) counts is =
       let same : sent_by senders.items ≡ counts = cc in
       ap (λ (xs : List ℕ). length xs) (sym same) ∙ (length-map senders.items made ∙ sym senders.ok.0)
   sent_long (staffs.Desks count desks) counts is = absurd (cc is)

@@ -10,7 +10,7 @@ use Rattle.gate_turn.specs.declared.passes.Passes.{Passes}
 use Rattle.gate_senders.specs.Gate.{senders_of, IsPassAt}
 use Rattle.gate_senders.specs.declared.gate.Gate.{Gate}
 use Rattle.gate_senders.specs.declared.kept.Kept.{Kept}
-use Rattle.gate_staff.specs.Seats.{Seated, HasBehind}
+use Rattle.gate_staff.specs.Seats.{Seated}
 use Rattle.gate_staff.specs.declared.sender.Sender.{Sender}
 use Rattle.gate_staff.specs.Business.{lock_of, Answered, Resumed}
 use Rattle.gate_staff.specs.declared.business.ResumeFault.{ResumeFault}
@@ -41,7 +41,7 @@ plan_by (posts.Desks terms) = desk_plan terms.desks terms.version terms.referenc
 module _ {J : Type 0} {G : Ghosts J} where
   -- how many send
   abbrev pub count_of : Staff J G → ℕ
-  count_of (staffs.Senders senders passes) = vec_len senders
+  count_of (staffs.Senders senders) = vec_len senders
   count_of (staffs.Desks count desks) = count
 
   -- so many who answer have their passes, which are the first ones of this gate
@@ -54,7 +54,7 @@ module _ {J : Type 0} {G : Ghosts J} where
 
   -- they have the passes of the first numbers
   abbrev pub IsSeatedAt : Gate J G → Staff J G → Type 0
-  IsSeatedAt gate (staffs.Senders senders passes) = Seated gate senders.items (vec_len senders + 1) × HasBehind gate passes (vec_len senders + 1) (vec_len senders + 1)
+  IsSeatedAt gate (staffs.Senders senders) = Seated gate senders.items (vec_len senders + 1)
   IsSeatedAt gate (staffs.Desks count desks) = HasFirst gate count (HasPasses (lock_of gate) desks) (part_in desks.hands.items) × (desks.desks ≡ count)
 
   -- and the connection has the one behind them
@@ -68,27 +68,27 @@ module _ {J : Type 0} {G : Ghosts J} where
 
   -- what those who answer send over the applied messages
   abbrev pub plan_in : Staff J G → ℕ → List (List ℕ) → List (List ℕ)
-  plan_in (staffs.Senders senders passes) = λ n applied. []
+  plan_in (staffs.Senders senders) = λ n applied. []
   plan_in (staffs.Desks count desks) = plan_of desks
 
   -- desks stand behind these applied messages: they answer what comes next from there on; a sender answers nothing
   abbrev pub StandsOver : Staff J G → List (List ℕ) → Type 0
-  StandsOver (staffs.Senders senders passes) applied = ⊤
+  StandsOver (staffs.Senders senders) applied = ⊤
   StandsOver (staffs.Desks count desks) applied = StandBehind desks applied
 
   -- from the first to the second they answered messages, behind which these are all that were applied, and added the mark where the peer's finish is recorded
   abbrev pub AnsweredBy : (old new : Staff J G) (applied : List (List ℕ)) (finished : Bool) → Result (Unit {0}) SubmitFault → Type 0
-  AnsweredBy (staffs.Senders senders passes) new applied finished result = (new ≡ staffs.Senders senders passes) × (result ≡ Ok tt)
+  AnsweredBy (staffs.Senders senders) new applied finished result = (new ≡ staffs.Senders senders) × (result ≡ Ok tt)
   AnsweredBy (staffs.Desks count desks) (staffs.Desks same after) applied finished result =
       Answered (λ n. plan_of desks n applied) desks.desks (λ n. part_in desks.hands.items n) (λ n. part_in after.hands.items n) finished result
-  AnsweredBy (staffs.Desks count desks) (staffs.Senders senders passes) applied finished result = ⊥
+  AnsweredBy (staffs.Desks count desks) (staffs.Senders senders) applied finished result = ⊥
 
   -- and so they took their place behind the messages of an inbox
   abbrev pub ResumedBy : (old new : Staff J G) (applied : List (List ℕ)) (finished : Bool) → Result (Unit {0}) ResumeFault → Type 0
-  ResumedBy (staffs.Senders senders passes) new applied finished result = (new ≡ staffs.Senders senders passes) × (result ≡ Ok tt)
+  ResumedBy (staffs.Senders senders) new applied finished result = (new ≡ staffs.Senders senders) × (result ≡ Ok tt)
   ResumedBy (staffs.Desks count desks) (staffs.Desks same after) applied finished result =
       Resumed (λ n. plan_of desks n applied) desks.desks (λ n. part_in desks.hands.items n) (λ n. part_in after.hands.items n) finished result
-  ResumedBy (staffs.Desks count desks) (staffs.Senders senders passes) applied finished result = ⊥
+  ResumedBy (staffs.Desks count desks) (staffs.Senders senders) applied finished result = ⊥
 
   -- how many messages each of these senders has submitted, as its pass shows
   abbrev pub sent_by : List (Sender J G) → List ℕ
@@ -96,7 +96,7 @@ module _ {J : Type 0} {G : Ghosts J} where
 
   -- and each sender of an end, where it has senders
   abbrev pub sent_in : Staff J G → Option (List ℕ)
-  sent_in (staffs.Senders senders passes) = Some (sent_by senders.items)
+  sent_in (staffs.Senders senders) = Some (sent_by senders.items)
   sent_in (staffs.Desks count desks) = None
 
   -- the passes of the first numbers made so many entries each

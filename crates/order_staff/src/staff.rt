@@ -19,8 +19,7 @@ ghost use Rattle.order_staff.specs.declared.posts.Posts.TheVariants as who;
 use crate::posts::Posts;
 use gate_senders::{Gate, Kept};
 use gate_staff::{
-    Business, OpenDoor, ResumeFault, Sender, give_connection, give_last, seat, take_connection,
-    take_last, unseat,
+    Business, OpenDoor, ResumeFault, Sender, give_connection, seat, take_connection, unseat,
 };
 use gate_turn::{Pass, Passes};
 use jr_dated::Journal;
@@ -34,10 +33,9 @@ use std::thread::Threads;
 
 /// Those who send at an end.
 pub enum Staff<J: Journal> {
-    /// Senders that have plans, and the passes that nobody has.
+    /// Senders that have plans.
     Senders {
         senders: Vec<Sender<J>>,
-        passes: Passes<Kept<J>>,
     },
     /// So many desks.
     Desks {
@@ -213,9 +211,9 @@ impl<J: Journal + Send> Staff<J> {
             return Err(passes);
         };
         let mut passes = passes;
+        let pass = take_connection(gate, &mut passes, count);
         let senders = seat(gate, &mut passes, plans, seats);
-        let pass = take_last(gate, &mut passes, count);
-        Ok((Staff::Senders { senders, passes }, pass))
+        Ok((Staff::Senders { senders }, pass))
     }
 
     /// Desks on these terms.
@@ -263,11 +261,10 @@ impl<J: Journal + Send> Staff<J> {
         door_sends();
         desk_sends::<J>();
         match self {
-            Staff::Senders { senders, passes } => {
-                let mut passes = passes;
+            Staff::Senders { senders } => {
                 let count = senders.len() as u16;
-                give_last(gate, &mut passes, count, pass);
-                unseat(gate, senders, &mut passes);
+                let mut passes = unseat(gate, senders);
+                give_connection(gate, &mut passes, count, pass);
                 passes
             }
             Staff::Desks { count, desks } => passes_by(desks, count, gate, pass),

@@ -6,7 +6,7 @@ ghost use Rattle.jr_kept.specs.Outbox.{is_broken};
 
 use cases_made::{Log, formatted, open_outbox};
 use gate_senders::Gate;
-use gate_staff::{OpenDoor, Plan, run_seated, seat, unseat};
+use gate_staff::{OpenDoor, Plan, give_connection, run_seated, seat, take_connection, unseat};
 use gw_outside::{Bytes, Payloads};
 use jr_dated::Limits;
 use jr_kept::Outbox;
@@ -92,10 +92,12 @@ pub fn submitted<R: Threads + Wait + Sync + AllocGlobal>(
     let Ok((gate, mut passes)) = Gate::new(alloc, outbox, senders) else {
         return None;
     };
-    let mut senders = seat(&gate, &mut passes, plans, seats);
+    let pass = take_connection(&gate, &mut passes, senders);
+    let mut seated = seat(&gate, &mut passes, plans, seats);
     if run {
-        let _ = run_seated(&gate, &mut senders, &OpenDoor, rt);
+        let _ = run_seated(&gate, &mut seated, &OpenDoor, rt);
     }
-    unseat(&gate, senders, &mut passes);
+    let mut passes = unseat(&gate, seated);
+    give_connection(&gate, &mut passes, senders, pass);
     Some(gate.close(passes).front())
 }

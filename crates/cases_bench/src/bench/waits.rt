@@ -11,7 +11,9 @@ use crate::bench::senders::{limits_for, plans};
 use crate::bench::slow_disk::SlowDisk;
 use cases_made::{formatted, open_outbox};
 use gate_senders::{Gate, Kept};
-use gate_staff::{OpenDoor, Plan, Sender, give_last, run_seated, seat, take_last, unseat};
+use gate_staff::{
+    OpenDoor, Plan, Sender, give_connection, run_seated, seat, take_connection, unseat,
+};
 use gate_turn::{Pass, Passes};
 use jr_boxes::SubmitFault;
 use jr_dated::Journal;
@@ -137,11 +139,11 @@ fn seated_beside<J: Journal + Send, R: Threads + Wait + Clock + Sync>(
     ensures back { AllBackAt gate.now passes.new }
 {
     let count = plans.len() as u16;
+    let mut pass = take_connection(gate, passes, count);
     let mut senders = seat(gate, passes, plans, seats);
-    let mut pass = take_last(gate, passes, count);
     let waits = beside(gate, &mut senders, &mut pass, all, rt);
-    give_last(gate, passes, count, pass);
-    unseat(gate, senders, passes);
+    *passes = unseat(gate, senders);
+    give_connection(gate, passes, count, pass);
     waits
 }
 

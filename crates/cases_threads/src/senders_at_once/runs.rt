@@ -9,7 +9,9 @@ ghost use Rattle.gate_staff.specs.Seats.{Seated};
 use crate::made::Log;
 use crate::senders_at_once::doors::Closing;
 use gate_senders::{Gate, Kept};
-use gate_staff::{Door, Plan, Sender, give_last, run_seated, seat, take_last, unseat};
+use gate_staff::{
+    Door, Plan, Sender, give_connection, run_seated, seat, take_connection, unseat,
+};
 use gate_turn::Pass;
 use jr_boxes::{CloseFault, SubmitFault};
 use jr_kept::Outbox;
@@ -57,15 +59,18 @@ pub fn run<D: Door + Sync, R: Threads + Wait + Sync>(
     requires sound { is_broken outbox ≡ false }
     requires few { vec_len plans ≤ 16 }
 {
+    let count = plans.len() as u16;
     let senders = Vec::with_capacity(alloc, plans.len()).ok()?;
-    let Ok((gate, mut passes)) = Gate::new(alloc, outbox, plans.len() as u16) else {
+    let Ok((gate, mut passes)) = Gate::new(alloc, outbox, count) else {
         return None;
     };
+    let pass = take_connection(&gate, &mut passes, count);
     let mut senders = seat(&gate, &mut passes, plans, senders);
     let answer = run_seated(&gate, &mut senders, door, rt);
     let done = told(senders.as_slice());
     let refused = refusals(senders.as_slice());
-    unseat(&gate, senders, &mut passes);
+    let mut passes = unseat(&gate, senders);
+    give_connection(&gate, &mut passes, count, pass);
     Some(Ran {
         answer,
         done,
@@ -147,13 +152,13 @@ pub fn run_finished<R: Threads + Wait + Sync>(
     let Ok((gate, mut passes)) = Gate::new(alloc, outbox, count) else {
         return None;
     };
+    let pass = take_connection(&gate, &mut passes, count);
     let senders = seat(&gate, &mut passes, plans, senders);
-    let pass = take_last(&gate, &mut passes, count);
     let ((senders, answer), (pass, finished)) = run_beside(&gate, senders, pass, door, rt);
-    give_last(&gate, &mut passes, count, pass);
     let done = told(senders.as_slice());
     let refused = refusals(senders.as_slice());
-    unseat(&gate, senders, &mut passes);
+    let mut passes = unseat(&gate, senders);
+    give_connection(&gate, &mut passes, count, pass);
     let ran = Ran {
         answer,
         done,

@@ -1,7 +1,7 @@
 use Rattle.std.proofs.Common.{sym, subst}
 use Rattle.gate_turn.specs.Places.{known}
 use Rattle.conn_door.specs.Senders.{Finishes}
-use Rattle.conn_door.proofs.Resuming.{finishes_served}
+use Rattle.conn_door.proofs.Finishing.{finishes_served}
 use Rattle.conn_door.proofs.senders.finish_by.Goals as goal
 
 pub returns-clause-finishes : goal.returns-clause-finishes

@@ -1,5 +1,5 @@
-use Rattle.std.proofs.Common.{◌≡◌, ℕ, ◌+◌, ◌<◌, ◌≤◌, All, length, slice_index_or}
-use Rattle.gate_staff.specs.Runs.{IsReady, Counted}
+use Rattle.std.proofs.Common.{◌≡◌, ℕ, ◌<◌, ◌≤◌, length, slice_index_or}
+use Rattle.gate_staff.specs.Runs.{Counted}
 use Rattle.gate_staff.specs.declared.sender.Sender.{Sender}
 use Rattle.gate_staff.proofs.seats.count_each.Given as goal
 

@@ -1,7 +1,5 @@
-use Rattle.std.proofs.Common.{sym, ap, ◌∙◌, subst}
-use Rattle.std.proofs.lemmas.Option.{none-some, same_Some}
-use Rattle.gate_turn.specs.Calls.{IsFree}
-use Rattle.gate_senders.specs.Gate.{IsPassAt}
+use Rattle.std.proofs.Common.{sym, ◌∙◌}
+use Rattle.std.proofs.lemmas.Option.{none-some}
 use Rattle.gate_staff.proofs.seats.seated.Goals as goal
 
 pub unreachable-requires : goal.unreachable-requires

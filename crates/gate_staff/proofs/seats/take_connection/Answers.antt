@@ -1,6 +1,5 @@
-use Rattle.std.proofs.Common.{◌≡◌, ◌+◌, refl, sym, ap, ◌∙◌, subst, arith}
+use Rattle.std.proofs.Common.{◌≡◌, ◌+◌, sym, ap, ◌∙◌, subst, arith}
 use Rattle.std.proofs.lemmas.Option.{none-some, same_Some}
-use Rattle.gate_turn.specs.Rule.{In}
 use Rattle.gate_turn.specs.Listed.{known_if, known_at}
 use Rattle.gate_turn.specs.Calls.{IsFree}
 use Rattle.gate_senders.specs.Gate.{IsPassAt}
@@ -32,6 +31,7 @@ returns g c =
           sym (ap (λ k. (known_at c.args.passes.now k).made) one ∙ ap (λ o. (known_if o).made) there) ∙ ap (λ p. p.made) first.1 ∙ sym one;
       these = these_left c.args.gate.now c.args.senders c.args.passes.now c.take.new.self c.requires.made c.take.ensures.gone c.take.ensures.others;
       parts = λ k i. let up_to = i.up_to in ap (λ o. known_if o) (c.take.ensures.others k (λ e. omega (arith, e, up_to)));
+      others = c.take.ensures.others;
       first = λ some.
           let first = c.requires.made.each 1 (record { from_one = omega arith; up_to = omega arith }) in
           ap (λ o. (known_if o).made) (c.take.ensures.others 1 (λ e. omega (arith, e, some))) ∙ ap (λ p. p.made) first.1;

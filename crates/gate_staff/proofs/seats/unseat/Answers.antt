@@ -1,47 +1,28 @@
-use Rattle.std.proofs.Common.{◌≡◌, ◌+◌, [], ◌∷◌, length, slice_index_or, Some, sym, ap, ◌∙◌, subst, arith}
-use Rattle.std.proofs.lemmas.List.{get_or_append_left, get_or_push}
-use mathlib.Core.Logic.{dite}
-use native.Mathlib.Decide.{ℕ_discrete}
-use Rattle.gate_turn.specs.Listed.{pass_at}
+use Rattle.std.proofs.Common.{◌≡◌, ℕ, ◌+◌, sym, ap, ◌∙◌, subst, arith}
 use Rattle.std.specs.Prelude.{vec_len}
-use Rattle.gate_staff.specs.Seats.{Seated, HasBehind}
-use Rattle.gate_staff.proofs.Seating.{put_back, all_back, last_seated}
+use Rattle.gate_turn.specs.Views.{Part}
+use Rattle.gate_turn.specs.Rule.{In}
+use Rattle.gate_turn.specs.Listed.{known_at}
+use Rattle.gate_staff.specs.Business.{lock_of, HasThese}
+use Rattle.gate_staff.specs.Plans.{part_in}
+use Rattle.gate_staff.specs.Seats.{AreNext}
+use Rattle.gate_staff.proofs.Seating.{nobody_has, seated_numbers, first_of}
 use Rattle.gate_staff.proofs.seats.unseat.Goals as goal
 
-pub loop-preserved : goal.loop-preserved
-loop-preserved g c =
-    let at = c.loop.invariant in
-    let made = vec_len c.args.senders + 1 in
-    let rest = c.pop.new.self in
-    let s = c.in-Some.sender in
-    let last = last_seated c.args.gate.now made rest.items s (subst (λ xs. Seated c.args.gate.now xs made) c.in-Some.ensures.items at.seated) in
-    let long : length rest.items ≡ vec_len rest = sym rest.ok.0 in
-    let fewer : vec_len c.loop.senders ≡ vec_len rest + 1 = omega (arith, c.in-Some.ensures.cases) in
-    record {
-      left = omega (arith, at.left, fewer);
-      seated = last.others;
-      behind = put_back c.args.gate.now made c.loop.passes c.give.new.self (vec_len rest) s.pass (omega (arith, at.left, fewer)) (omega (arith, s.pass.numbered, last.number, long))
-          last.ready.own.own last.ready.free (λ e. last.first (long ∙ e)) c.give.ensures.there c.give.ensures.others
-          (subst (λ k. HasBehind c.args.gate.now c.loop.passes k made) fewer at.behind);
-      same = λ i d lt. at.same i d (omega (arith, lt, fewer)) ∙ ap (λ senders. slice_index_or senders i d) c.in-Some.ensures.items
-          ∙ get_or_append_left rest.items (s ∷ []) d i (omega (arith, lt, long));
-      theirs = λ i d least lt. dite (ℕ_discrete i (vec_len rest))
-          (λ e. ap (pass_at c.give.new.self) (omega (arith, e, s.pass.numbered, last.number, long)) ∙ c.give.ensures.there
-          ∙ ap (λ t. Some t.pass) (sym (at.same i d (omega (arith, e, fewer)) ∙ ap (λ senders. slice_index_or senders i d) c.in-Some.ensures.items ∙ get_or_push rest.items s d i (long ∙ sym e))))
-          (λ ne. c.give.ensures.others (i + 1) (λ e. omega (arith, e, ne, s.pass.numbered, last.number, long)) ∙ at.theirs i d (omega (arith, least, ne, fewer)) lt);
-      others = λ n lt. c.give.ensures.others n (λ e. omega (arith, e, lt, at.left, fewer, s.pass.numbered, last.number, long)) ∙ at.others n lt;
-    }
+pub give_back-requires : goal.give_back-requires
+give_back-requires g c =
+    let all = c.args.senders in
+    (omega arith, (c.requires.seated.ready, (0, record { these = nobody_has (lock_of c.args.gate.now) c.new-passes.result c.new-passes.ensures.empty; numbers = seated_numbers c.args.gate.now all.items (vec_len all) (sym all.ok.0) c.requires.seated })))
 
 pub returns : goal.returns
 returns g c =
-    let at = c.loop.invariant in
-    let made = vec_len c.args.senders + 1 in
-    let none : vec_len c.loop.senders ≡ 0 = omega (arith, at.left, c.loop-test.false, c.len-end.ensures) in
-    let long : length c.args.senders.items ≡ vec_len c.args.senders = sym c.args.senders.ok.0 in
+    let all = c.args.senders in
+    let gone = c.give_back in
+    let next : AreNext (lock_of c.args.gate.now) c.new-passes.result 0 (vec_len all) (part_in all.items) =
+    record { these = nobody_has (lock_of c.args.gate.now) c.new-passes.result c.new-passes.ensures.empty; numbers = seated_numbers c.args.gate.now all.items (vec_len all) (sym all.ok.0) c.requires.seated } in
+    let parts = λ (n : ℕ) (i : In (vec_len all) n). let e : n ≡ 0 + n = omega arith in ap (λ (k : ℕ). known_at gone.new.passes k) e ∙ gone.ensures.known 0 next n i in
     record {
-      theirs = record {
-        theirs = λ i d lt. at.theirs i d (omega (arith, none)) (omega (arith, lt, long));
-        others = λ n lt. at.others n (omega (arith, lt, long));
-      };
-      back = all_back c.args.gate.now made c.loop.passes (omega arith) (omega (arith, c.requires.few)) (subst (λ k. HasBehind c.args.gate.now c.loop.passes k made) none at.behind);
+      these = let e : 0 + vec_len all ≡ vec_len all = omega arith in subst (λ (k : ℕ). HasThese (lock_of c.args.gate.now) gone.new.passes k) e (gone.ensures.these 0 next);
+      parts = parts;
+      first = λ some. ap (λ (p : Part). p.made) (parts 1 (record { from_one = omega arith; up_to = omega (arith, some) })) ∙ first_of c.args.gate.now all.items (vec_len all) (sym all.ok.0) c.requires.seated some;
     }

@@ -1,6 +1,5 @@
-use Rattle.std.proofs.Common.{◌+◌, refl, sym, ◌∙◌, arith}
+use Rattle.std.proofs.Common.{◌+◌, refl}
 use Rattle.gate_turn.specs.Places.{known}
-use Rattle.gate_staff.specs.Runs.{Pieced}
 use Rattle.gate_staff.proofs.Piece.{Answered, pieced}
 use Rattle.gate_staff.proofs.sender.Sender.submit_piece.Goals as goal
 

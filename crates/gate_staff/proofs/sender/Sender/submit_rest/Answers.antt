@@ -1,4 +1,4 @@
-use Rattle.std.proofs.Common.{true, false, refl, sym, ap, ◌∙◌, length, arith}
+use Rattle.std.proofs.Common.{true, false, refl, ◌∙◌, arith}
 use Rattle.std.proofs.lemmas.Bool.{true≢false}
 use Rattle.gate_staff.proofs.Running.{ran_still, ran_out, ran_refused, ran_on, ran_anew, some_of}
 use Rattle.gate_staff.proofs.sender.Sender.submit_rest.Goals as goal

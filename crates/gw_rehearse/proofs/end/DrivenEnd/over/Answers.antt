@@ -1,5 +1,5 @@
 use Rattle.std.proofs.Common.{ℕ, ◌+◌, [], refl, sym, ◌∙◌, subst, arith}
-use Rattle.gate_staff.proofs.Seating.{all_behind, all_back}
+use Rattle.gate_staff.proofs.Parting.{made_back}
 use Rattle.gate_senders.specs.Gate.{MadeAt, opening_of}
 use Rattle.gate_senders.proofs.Keeping.{keeps_stands}
 use Rattle.conn_loop.specs.Conn.{line_of}
@@ -13,7 +13,7 @@ close-requires c =
     let few = few_posts c.args.posts c.requires.posts in
     let n = posts_of c.args.posts in
     let made = subst (λ (k : ℕ). MadeAt c.in-Ok.gate c.in-Ok.passes (k + 1)) c.count.ensures c.in-Ok.ensures.made in
-    (omega arith, all_back c.in-Ok.gate (n + 1) c.in-Ok.passes (omega arith) (omega (arith, few)) (all_behind c.in-Ok.gate (n + 1) c.in-Ok.passes (omega arith) made))
+    (omega arith, made_back c.in-Ok.gate n c.in-Ok.passes c.in-Ok.passes few made)
 
 pub returns-in-Ok-new-clause-driven : goal.returns-in-Ok-new-clause-driven
 returns-in-Ok-new-clause-driven c =

@@ -4,7 +4,9 @@ use Rattle.std.proofs.Common.{◌≡◌, ℕ, ◌+◌, List, Some, sym, ap, ◌�
 use Rattle.order_gate.specs.contracts.desk.Desk as Desk
 use Rattle.order_gate.specs.contracts.hand.Hand as Hand
 use Rattle.gate_staff.specs.contracts.door.OpenDoor as open_door
+use Rattle.gate_turn.specs.Rule.{In}
 use Rattle.gate_staff.specs.Seats.{Seated}
+use Rattle.gate_staff.proofs.Seating.{have_theirs}
 use Rattle.order_staff.specs.Staffs.{count_of, sent_by, sent_in, HasMade, HasStaff}
 use Rattle.order_staff.proofs.Crossing.{hand_send}
 use Rattle.order_staff.proofs.Seating.{made_all, has_made}
@@ -22,8 +24,11 @@ returns-in-Senders-clause-first g c =
     let senders = c.in-Senders.senders in
     let count = c.len-count.ensures in
     let h = subst (λ s. HasStaff c.args.gate.now s c.args.pass) c.in-Senders.is c.requires in
-    made_all c.give_last.new.passes c.unseat.new.passes senders.items c.len-count.result c.args.pass (count ∙ senders.ok.0) (λ none. h.alone (sym count ∙ none)) c.give_last.ensures.there c.unseat.ensures.theirs c.args.gate.now
-    (subst (λ (k : ℕ). Seated c.args.gate.now senders.items (k + 1)) (sym count) h.seated.0) senders.items refl
+    let n = c.len-count.result in
+    let given = c.give_connection in
+    made_all given.new.passes senders.items n c.args.pass (count ∙ senders.ok.0) (λ none. h.alone (sym count ∙ none))
+    (have_theirs senders.items c.unseat-passes.result given.new.passes c.args.pass n (sym (count ∙ senders.ok.0)) (λ k i. c.unseat-passes.ensures.parts k (subst (λ m. In m k) count i)) given.ensures.parts given.ensures.last) c.args.gate.now
+    (subst (λ (k : ℕ). Seated c.args.gate.now senders.items (k + 1)) (sym count) h.seated) senders.items refl
     ∙ ap (λ (k : ℕ). k + 1) (count ∙ sym (ap count_of c.in-Senders.is))
 
 pub returns-in-Senders-clause-sent : goal.returns-in-Senders-clause-sent
@@ -32,4 +37,8 @@ returns-in-Senders-clause-sent g c = λ counts is.
     let h = subst (λ s. HasStaff c.args.gate.now s c.args.pass) c.in-Senders.is c.requires in
     let both : Some (sent_by senders.items) ≡ Some counts = sym (ap sent_in c.in-Senders.is) ∙ is in
     let same : sent_by senders.items ≡ counts = cc in
-    subst (λ (ns : List ℕ). HasMade c.unseat.new.passes ns) same (has_made c.args.gate.now c.give_last.new.passes c.unseat.new.passes senders.items (senders.len + 1) h.seated.0 c.unseat.ensures.theirs)
+    let count = c.len-count.ensures in
+    let n = c.len-count.result in
+    let given = c.give_connection in
+    subst (λ (ns : List ℕ). HasMade given.new.passes ns) same (has_made c.args.gate.now given.new.passes senders.items c.args.pass (senders.len + 1) h.seated
+    (have_theirs senders.items c.unseat-passes.result given.new.passes c.args.pass n (sym (count ∙ senders.ok.0)) (λ k i. c.unseat-passes.ensures.parts k (subst (λ m. In m k) count i)) given.ensures.parts given.ensures.last))
