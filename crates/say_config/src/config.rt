@@ -262,7 +262,7 @@ fn push_at(
     push_path(line, path)?;
     line.push_str(": ")?;
     if let Some(table) = &table {
-        push_where(alloc, line, table, path, text)?;
+        push_where(line, table, path, text)?;
     }
     let found = found_in(table.as_ref(), path);
     if is_repeated(alloc, wanted, fault, path, found) {
@@ -296,13 +296,12 @@ fn push_rule(line: &mut String, fault: &SchemaFault) -> Result<(), AllocError> {
 
 /// Adds what a table has that breaks a rule, by the text of the schema.
 fn push_broken(
-    alloc: Global,
     line: &mut String,
     fault: &SchemaFault,
     root: &Value,
     text: &[u8],
 ) -> Result<(), AllocError> {
-    push_where(alloc, line, root, &fault.path, text)?;
+    push_where(line, root, &fault.path, text)?;
     let Some(table) = found_at(root, &fault.path) else {
         return push_rule(line, fault);
     };
@@ -327,7 +326,7 @@ fn push_schema_fault(
         line.push_str(": ")?;
     }
     match table_of(alloc, text) {
-        Some(root) => push_broken(alloc, line, fault, &root, text)?,
+        Some(root) => push_broken(line, fault, &root, text)?,
         None => push_rule(line, fault)?,
     }
     write!(line, " ({name})")

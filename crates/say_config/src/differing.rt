@@ -34,7 +34,7 @@ pub fn push_difference(
     }
     push_path(line, path)?;
     line.push_str(": ")?;
-    push_where(alloc, line, &root, path, older)?;
+    push_where(line, &root, path, older)?;
     line.push_str(words_at(path))?;
     Ok(true)
 }

@@ -2,52 +2,25 @@
 //! and tables are whole; in any other text nothing is found, or something else.
 
 use sbe_value::Step;
-use std::alloc::{AllocError, Global};
 
-/// One step to the place that the walk has come to.
+/// The most steps of a path to a table in a list. A path with more leads to nothing.
+const DEEPEST: usize = 64;
+
+/// Where a step or a key leads to: what stands there from its key on, the same from its value on, and the steps that are left.
 #[derive(Clone, Copy)]
-enum Part<'a> {
-    Key(&'a [u8]),
-    At(u64),
+struct Place<'a> {
+    here: &'a [u8],
+    value: &'a [u8],
+    steps: &'a [Step],
 }
 
-/// What is not closed yet. Behind its end the path has `back` steps.
-#[derive(Clone, Copy)]
-enum Level {
-    /// A list, and the place of its next element.
-    List { at: u64, back: usize },
-    /// A table in braces.
-    Braces { back: usize },
-}
-
-/// The tables of a list in double brackets: its dotted name, and the place of the last one.
-#[derive(Clone, Copy)]
-struct Tables<'a> {
-    name: &'a [u8],
-    last: u64,
-}
-
-/// The walk over a text, up to the place that is looked for.
-#[derive(Drop)]
-struct Walk<'a> {
-    alloc: Global,
-    left: &'a [u8],
-    path: Vec<Part<'a>>,
-    levels: Vec<Level>,
-    tables: Vec<Tables<'a>>,
-    target: &'a [Step],
-    /// The text from the place on.
-    found: Option<&'a [u8]>,
-}
-
-/// What stands behind the end of the line.
-fn behind_line(text: &[u8]) -> &[u8] {
+/// The text from the first of these bytes on.
+fn from_any<'a>(text: &'a [u8], ends: &[u8]) -> &'a [u8] {
     let mut left = text;
     for _ in 0..text.len() {
         match left {
-            [b'\n', rest @ ..] => return rest,
-            [_, rest @ ..] => left = rest,
-            [] => return left,
+            [byte, rest @ ..] if !ends.contains(byte) => left = rest,
+            _ => return left,
         }
     }
     left
@@ -59,71 +32,60 @@ fn behind_blank(text: &[u8]) -> &[u8] {
     for _ in 0..text.len() {
         match left {
             [b' ' | b'\t' | b'\r' | b'\n', rest @ ..] => left = rest,
-            [b'#', ..] => left = behind_line(left),
+            [b'#', ..] => left = from_any(left, b"\n"),
             _ => return left,
         }
     }
     left
 }
 
-/// What stands behind a string of one quote, from behind that quote on.
-fn behind_short(text: &[u8], quote: u8) -> &[u8] {
-    let mut left = text;
-    for _ in 0..text.len() {
-        match left {
-            [b'\\', _, rest @ ..] if quote == b'"' => left = rest,
-            [byte, rest @ ..] if *byte == quote => return rest,
-            [_, rest @ ..] => left = rest,
-            [] => return left,
-        }
-    }
-    left
-}
-
-/// What stands behind the quotes of a string's end, beside the three that end it: at most two, which are its own.
-fn behind_quotes(text: &[u8], quote: u8) -> &[u8] {
-    match text {
-        [first, second, rest @ ..] if *first == quote && *second == quote => rest,
-        [first, rest @ ..] if *first == quote => rest,
-        _ => text,
-    }
-}
-
-/// What stands behind a string of three quotes, from behind these on.
-fn behind_long(text: &[u8], quote: u8) -> &[u8] {
-    let mut left = text;
-    for _ in 0..text.len() {
-        match left {
-            [b'\\', _, rest @ ..] if quote == b'"' => left = rest,
-            [first, second, third, rest @ ..]
-                if *first == quote && *second == quote && *third == quote => {
-                return behind_quotes(rest, quote);
-            }
-            [_, rest @ ..] => left = rest,
-            [] => return left,
-        }
-    }
-    left
-}
-
-/// What stands behind a string.
+/// What stands behind a string. One of three quotes may have up to two more in front of those that end it, which are its own.
 fn behind_string(text: &[u8]) -> &[u8] {
-    match text {
-        [b'"', b'"', b'"', rest @ ..] => behind_long(rest, b'"'),
-        [b'\'', b'\'', b'\'', rest @ ..] => behind_long(rest, b'\''),
-        [quote, rest @ ..] => behind_short(rest, *quote),
-        [] => text,
+    let (first, mark, quote): (usize, &[u8], &[u8]) = match text {
+        [b'"', b'"', b'"', ..] => (3, b"\"\"\"", b"\""),
+        [b'\'', b'\'', b'\'', ..] => (3, b"'''", b"'"),
+        [b'"', ..] => (1, b"\"", b""),
+        _ => (1, b"'", b""),
+    };
+    let mut left = text.get(first..).unwrap_or(&[]);
+    for _ in 0..text.len() {
+        if let Some(rest) = left.strip_prefix(mark) {
+            let rest = rest.strip_prefix(quote).unwrap_or(rest);
+            return rest.strip_prefix(quote).unwrap_or(rest);
+        }
+        match left {
+            [b'\\', _, rest @ ..] if mark.starts_with(b"\"") => left = rest,
+            [_, rest @ ..] => left = rest,
+            [] => return left,
+        }
     }
+    left
 }
 
-/// Whether a byte ends a key without quotes.
-fn ends_key(byte: u8) -> bool {
-    matches!(byte, b'.' | b'=' | b']' | b' ' | b'\t' | b'\r' | b'\n')
-}
-
-/// Whether a byte ends a value that is no string, list or table.
-fn ends_value(byte: u8) -> bool {
-    matches!(byte, b',' | b']' | b'}' | b'#' | b'\n')
+/// What stands behind a value.
+fn behind_value(text: &[u8]) -> &[u8] {
+    let mut left = text;
+    let mut depth = 0usize;
+    for _ in 0..text.len() {
+        match left {
+            [b'[' | b'{', rest @ ..] => {
+                depth = depth.saturating_add(1);
+                left = rest;
+            }
+            [b']' | b'}', rest @ ..] => {
+                depth = depth.saturating_sub(1);
+                left = rest;
+            }
+            [b'"' | b'\'', ..] => left = behind_string(left),
+            [b'#', ..] => left = from_any(left, b"\n"),
+            [_, rest @ ..] => left = from_any(rest, b",[]{}#\"'\n"),
+            [] => return left,
+        }
+        if depth == 0 {
+            return left;
+        }
+    }
+    left
 }
 
 /// What stands in front of some bytes that a text ends with.
@@ -133,316 +95,161 @@ fn in_front<'a>(text: &'a [u8], rest: &[u8]) -> &'a [u8] {
     front
 }
 
-/// What stands behind a key without quotes.
-fn behind_bare(text: &[u8]) -> &[u8] {
-    let mut left = text;
-    for _ in 0..text.len() {
-        match left {
-            [byte, rest @ ..] if !ends_key(*byte) => left = rest,
-            _ => return left,
-        }
-    }
-    left
-}
-
-/// What stands behind a value that is no string, list or table.
-fn behind_bare_value(text: &[u8]) -> &[u8] {
-    let mut left = text;
-    for _ in 0..text.len() {
-        match left {
-            [byte, rest @ ..] if !ends_value(*byte) => left = rest,
-            _ => return left,
-        }
-    }
-    left
-}
-
-/// What stands between the quotes of the string at the front of a text, which ends before these bytes.
-fn between_quotes<'a>(text: &'a [u8], rest: &[u8]) -> &'a [u8] {
-    match in_front(text, rest) {
-        [_, inner @ .., _] => inner,
-        front => front,
-    }
-}
-
 /// The first part of a dotted key, and what stands behind it.
 fn first_part(text: &[u8]) -> (&[u8], &[u8]) {
-    match text {
-        [b'"' | b'\'', ..] => {
-            let rest = behind_string(text);
-            (between_quotes(text, rest), rest)
-        }
-        _ => {
-            let rest = behind_bare(text);
-            (in_front(text, rest), rest)
-        }
+    if !matches!(text, [b'"' | b'\'', ..]) {
+        let rest = from_any(text, b".=] \t\r\n");
+        return (in_front(text, rest), rest);
+    }
+    let rest = behind_string(text);
+    match in_front(text, rest) {
+        [_, inner @ .., _] => (inner, rest),
+        front => (front, rest),
     }
 }
 
-/// Whether a name in brackets names something in what another one names.
-fn is_inside(name: &[u8], outer: &[u8]) -> bool {
-    match name.strip_prefix(outer) {
-        Some(rest) => rest.starts_with(b"."),
-        None => false,
+/// The steps that are left where this part of a key is the first of them.
+fn behind_step<'a>(steps: &'a [Step], part: &[u8]) -> Option<&'a [Step]> {
+    match steps {
+        [Step::Key(key), rest @ ..] if key.as_slice() == part => Some(rest),
+        _ => None,
     }
 }
 
-/// The place of the last table of a list, if there is one.
-fn last_of(tables: &[Tables<'_>], name: &[u8]) -> Option<u64> {
-    for known in tables {
-        if known.name == name {
-            return Some(known.last);
+/// The value behind the dotted key at the front, and the steps that are left, where the key is the first of them.
+fn behind_key<'a>(text: &'a [u8], steps: Option<&'a [Step]>) -> (&'a [u8], Option<&'a [Step]>) {
+    let mut left = text;
+    let mut steps = steps;
+    for _ in 0..text.len() {
+        let (part, rest) = first_part(left);
+        steps = match steps {
+            Some(steps) => behind_step(steps, part),
+            None => None,
+        };
+        match behind_blank(rest) {
+            [b'.', rest @ ..] => left = behind_blank(rest),
+            [b'=', rest @ ..] => return (behind_blank(rest), steps),
+            rest => return (rest, None),
+        }
+    }
+    (left, None)
+}
+
+/// The element of a list at this place, in the text behind its bracket.
+fn element_at(text: &[u8], place: u64) -> Option<&[u8]> {
+    let mut left = behind_blank(text);
+    for _ in 0..place {
+        match behind_blank(behind_value(left)) {
+            [b',', rest @ ..] => left = behind_blank(rest),
+            _ => return None,
+        }
+    }
+    if matches!(left, [b']', ..] | []) {
+        return None;
+    }
+    Some(left)
+}
+
+/// Where the first of these steps leads to in a table in braces, in the text behind its brace.
+fn pair_at<'a>(text: &'a [u8], steps: &'a [Step]) -> Option<Place<'a>> {
+    let mut here = behind_blank(text);
+    for _ in 0..text.len() {
+        let (value, inner) = behind_key(here, Some(steps));
+        if let Some(steps) = inner {
+            return Some(Place { here, value, steps });
+        }
+        match behind_blank(behind_value(value)) {
+            [b',', rest @ ..] => here = behind_blank(rest),
+            _ => return None,
         }
     }
     None
 }
 
-/// Whether a part of a path is this step.
-fn is_step(part: Part<'_>, step: &Step) -> bool {
-    match (part, step) {
-        (Part::Key(part), Step::Key(key)) => key.as_slice() == part,
-        (Part::At(part), Step::At(at)) => part == *at,
-        _ => false,
-    }
-}
-
-/// Whether a path leads to a place.
-fn leads_to(path: &[Part<'_>], target: &[Step]) -> bool {
-    if path.len() != target.len() {
-        return false;
-    }
-    for (part, step) in path.iter().zip(target.iter()) {
-        if !is_step(*part, step) {
-            return false;
-        }
-    }
-    true
-}
-
-impl<'a> Walk<'a> {
-    /// Takes so many steps of the path back that it has no more than these.
-    fn go_back(&mut self, to: usize) {
-        for _ in 0..self.path.len() {
-            if self.path.len() <= to {
-                return;
-            }
-            let _ = self.path.pop();
-        }
-    }
-
-    /// Keeps the place from which on this text stands, where it is the one that is looked for.
-    fn look(&mut self, here: &'a [u8]) {
-        if self.found.is_none() && leads_to(self.path.as_slice(), self.target) {
-            self.found = Some(here);
-        }
-    }
-
-    /// Takes the dotted key at the front and the equals sign behind it.
-    fn take_key(&mut self) -> Result<(), AllocError> {
-        for _ in 0..self.left.len() {
-            let (part, rest) = first_part(self.left);
-            self.path.push(Part::Key(part))?;
-            match behind_blank(rest) {
-                [b'.', rest @ ..] => self.left = behind_blank(rest),
-                [b'=', rest @ ..] => {
-                    self.left = behind_blank(rest);
-                    return Ok(());
-                }
-                rest => {
-                    self.left = rest;
-                    return Ok(());
+/// The text from the place on to which a place and the steps that it leaves lead, where it has one.
+fn within(place: Place<'_>) -> Option<&[u8]> {
+    let mut place = place;
+    for _ in 0..=place.steps.len() {
+        place = match (place.steps, place.value) {
+            ([], _) => return Some(place.here),
+            ([Step::At(at), steps @ ..], [b'[', rest @ ..]) => {
+                let value = element_at(rest, *at)?;
+                Place {
+                    here: value,
+                    value,
+                    steps,
                 }
             }
-        }
-        Ok(())
-    }
-
-    /// Takes the value at the front, or the beginning of a list or a table; behind its end the path has so many steps.
-    fn take_value(&mut self, back: usize) -> Result<(), AllocError> {
-        match self.left {
-            [b'[', rest @ ..] => {
-                self.left = rest;
-                self.levels.push(Level::List { at: 0, back })?;
-            }
-            [b'{', rest @ ..] => {
-                self.left = rest;
-                self.levels.push(Level::Braces { back })?;
-            }
-            [b'"' | b'\'', ..] => {
-                self.left = behind_string(self.left);
-                self.go_back(back);
-            }
-            _ => {
-                self.left = behind_bare_value(self.left);
-                self.go_back(back);
-            }
-        }
-        Ok(())
-    }
-
-    /// Takes a key and its value.
-    fn take_pair(&mut self) -> Result<(), AllocError> {
-        let (here, back) = (self.left, self.path.len());
-        self.take_key()?;
-        self.look(here);
-        self.take_value(back)
-    }
-
-    /// Closes the list or the table that is under way.
-    fn close(&mut self) {
-        match self.levels.pop() {
-            Some(Level::List { back, .. }) => self.go_back(back),
-            Some(Level::Braces { back }) => self.go_back(back),
-            None => {}
-        }
-    }
-
-    /// Goes on in a list, whose next element has this place.
-    fn go_on_in_list(&mut self, at: u64, back: usize) -> Result<(), AllocError> {
-        match self.left {
-            [b']', rest @ ..] => {
-                self.left = rest;
-                self.close();
-                Ok(())
-            }
-            [b',', rest @ ..] => {
-                self.left = rest;
-                let _ = self.levels.pop();
-                self.levels.push(Level::List {
-                    at: at.saturating_add(1),
-                    back,
-                })?;
-                Ok(())
-            }
-            here => {
-                let back = self.path.len();
-                self.path.push(Part::At(at))?;
-                self.look(here);
-                self.take_value(back)
-            }
-        }
-    }
-
-    /// Goes on in a table in braces.
-    fn go_on_in_braces(&mut self) -> Result<(), AllocError> {
-        match self.left {
-            [b'}', rest @ ..] => {
-                self.left = rest;
-                self.close();
-                Ok(())
-            }
-            [b',', rest @ ..] => {
-                self.left = rest;
-                Ok(())
-            }
-            _ => self.take_pair(),
-        }
-    }
-
-    /// Counts one more table of a list; the lists in it begin anew.
-    fn count_table(&mut self, name: &'a [u8]) -> Result<(), AllocError> {
-        let last = match last_of(self.tables.as_slice(), name) {
-            Some(last) => last.saturating_add(1),
-            None => 0,
+            (steps, [b'{', rest @ ..]) => pair_at(rest, steps)?,
+            _ => return None,
         };
-        let mut tables = Vec::new(self.alloc);
-        for known in self.tables.as_slice() {
-            if known.name != name && !is_inside(known.name, name) {
-                tables.push(*known)?;
-            }
-        }
-        tables.push(Tables { name, last })?;
-        self.tables = tables;
-        Ok(())
     }
-
-    /// Goes to the table of this dotted name, the last one of each list.
-    fn go_to(&mut self, name: &'a [u8]) -> Result<(), AllocError> {
-        self.go_back(0);
-        let mut left = name;
-        for _ in 0..=name.len() {
-            let (part, rest) = first_part(left);
-            self.path.push(Part::Key(part))?;
-            if let Some(at) = last_of(self.tables.as_slice(), in_front(name, rest)) {
-                self.path.push(Part::At(at))?;
-            }
-            match rest {
-                [b'.', rest @ ..] => left = rest,
-                _ => return Ok(()),
-            }
-        }
-        Ok(())
-    }
-
-    /// Takes the name of a table between its brackets, and goes there.
-    fn take_header(&mut self, name: &'a [u8], is_listed: bool) -> Result<(), AllocError> {
-        let here = self.left;
-        let name = in_front(name, behind_header(name)).trim_ascii();
-        if is_listed {
-            self.count_table(name)?;
-        }
-        self.go_to(name)?;
-        self.look(here);
-        self.left = behind_line(here);
-        Ok(())
-    }
-
-    /// Goes on outside of lists and tables in braces.
-    fn go_on_outside(&mut self) -> Result<(), AllocError> {
-        match self.left {
-            [b'[', b'[', name @ ..] => self.take_header(name, true),
-            [b'[', name @ ..] => self.take_header(name, false),
-            _ => self.take_pair(),
-        }
-    }
-
-    /// Goes on to the next key, element, comma or end.
-    fn go_on(&mut self) -> Result<(), AllocError> {
-        let level = self.levels.as_slice().last().copied();
-        match level {
-            Some(Level::List { at, back }) => self.go_on_in_list(at, back),
-            Some(Level::Braces { .. }) => self.go_on_in_braces(),
-            None => self.go_on_outside(),
-        }
-    }
+    None
 }
 
-/// What stands behind the name of a table, from its bracket on.
-fn behind_header(name: &[u8]) -> &[u8] {
+/// The steps that are left in a table of this dotted name, where its parts are the first of them; of a list of tables, so many of which
+/// came for each step, the last one is meant.
+fn behind_name<'a>(
+    name: &[u8],
+    is_listed: bool,
+    target: &'a [Step],
+    counts: &mut [u64; DEEPEST],
+) -> Option<&'a [Step]> {
     let mut left = name;
-    for _ in 0..name.len() {
-        match left {
-            [b']', ..] | [] => return left,
-            [_, rest @ ..] => left = rest,
+    let mut steps = target;
+    for _ in 0..=name.len() {
+        let (part, rest) = first_part(left);
+        steps = behind_step(steps, part)?;
+        let is_new = is_listed && !rest.starts_with(b".");
+        if let [Step::At(place), behind @ ..] = steps {
+            let at = target.len().saturating_sub(steps.len());
+            let count = counts.get_mut(at)?;
+            if is_new {
+                *count = count.saturating_add(1);
+            }
+            if *count == place.saturating_add(1) {
+                steps = behind;
+            } else if *count > 0 {
+                return None;
+            }
+        } else if is_new {
+            return None;
+        }
+        match rest {
+            [b'.', rest @ ..] => left = rest,
+            _ => return Some(steps),
         }
     }
-    left
+    None
 }
 
 /// The text from the key or the table of this path on, where it has one. The walk takes one step over the text.
-///
-/// # Errors
-/// Want of memory.
-pub fn text_at<'a>(
-    alloc: Global,
-    text: &'a [u8],
-    target: &'a [Step],
-) -> Result<Option<&'a [u8]>, AllocError> {
-    let mut walk = Walk {
-        alloc,
-        left: text,
-        path: Vec::new(alloc),
-        levels: Vec::new(alloc),
-        tables: Vec::new(alloc),
-        target,
-        found: None,
-    };
+pub fn text_at<'a>(text: &'a [u8], target: &'a [Step]) -> Option<&'a [u8]> {
+    let mut counts = [0u64; DEEPEST];
+    let mut left = text;
+    let mut steps = Some(target);
     for _ in 0..text.len() {
-        walk.left = behind_blank(walk.left);
-        if walk.left.is_empty() || walk.found.is_some() {
-            break;
+        left = behind_blank(left);
+        if let [b'[', rest @ ..] = left {
+            let is_listed = rest.starts_with(b"[");
+            let rest = rest.strip_prefix(b"[").unwrap_or(rest);
+            let name = in_front(rest, from_any(rest, b"]")).trim_ascii();
+            steps = behind_name(name, is_listed, target, &mut counts);
+            if matches!(steps, Some([])) {
+                return Some(left);
+            }
+            left = from_any(left, b"\n");
+        } else {
+            let (value, inner) = behind_key(left, steps);
+            if let Some(steps) = inner {
+                return within(Place {
+                    here: left,
+                    value,
+                    steps,
+                });
+            }
+            left = behind_value(value);
         }
-        walk.go_on()?;
     }
-    Ok(walk.found)
+    None
 }

@@ -1,8 +1,8 @@
 //! The rules of schemas, in words: what a table has that breaks one, and what it may have.
 
-use crate::table::{
-    number_in, primitive_in, push_key_of, push_text_of, push_types, text_in, type_named,
-};
+use crate::table::{number_in, primitive_in, push_types, text_in, type_named};
+use crate::value::push_value;
+use say_words::{push_all, push_quoted};
 use sbe_prim::{Primitive, can_hold, find_primitive, greatest, is_integral, least};
 use sbe_schema::SchemaKind;
 use std::alloc::AllocError;
@@ -72,226 +72,249 @@ enum Held {
     Any,
 }
 
-/// What a type of the schema holds.
-fn held_by(kind: &Value) -> Held {
-    let length = number_in(kind, "length").unwrap_or(1);
-    match primitive_in(kind, "prim") {
-        Some(Primitive::Char) if length > 1 => Held::Characters(length),
-        Some(prim) => Held::Number(prim),
-        None => Held::Any,
+/// What is said of a table, in this order.
+#[derive(Clone, Copy)]
+struct Said {
+    /// The key at which something stands, if the fault is there.
+    key: &'static str,
+    words: &'static str,
+    /// What may stand there, if that is told.
+    held: Option<Held>,
+    then: Then,
+}
+
+/// What is said of a table at the end.
+#[derive(Clone, Copy)]
+enum Then {
+    Nothing,
+    /// That its type holds this.
+    OfType,
+    /// The types that there are.
+    Types,
+    /// The version of the schema.
+    Version(i128),
+}
+
+/// What stands at a key, and these words; the words alone where there is no key.
+const fn words_at(key: &'static str, words: &'static str) -> Said {
+    Said {
+        key,
+        words,
+        held: None,
+        then: Then::Nothing,
+    }
+}
+
+/// Adds what a type holds.
+fn push_held(line: &mut String, held: Held) -> Result<(), AllocError> {
+    match held {
+        Held::Number(prim) if is_integral(prim) => {
+            let (least, greatest) = (least(prim), greatest(prim));
+            write!(line, "a number from {least} to {greatest}")
+        }
+        Held::Characters(length) => write!(line, "a text of at most {length} characters"),
+        Held::Number(_) | Held::Any => line.push_str("a number"),
     }
 }
 
 impl<'a> Broken<'a> {
-    /// What the type of a field or a member holds; none where there is no such type.
-    fn held(self) -> Option<Held> {
-        let name = text_in(self.table, "type")?;
-        match find_primitive(name.as_bytes()) {
-            Some(prim) => Some(Held::Number(prim)),
-            None => Some(held_by(type_named(self.root, name)?)),
+    /// What the type of a field or a member holds; any number where there is no such type.
+    fn held(self) -> Held {
+        let Some(name) = text_in(self.table, "type") else {
+            return Held::Any;
+        };
+        if let Some(prim) = find_primitive(name.as_bytes()) {
+            return Held::Number(prim);
+        }
+        let Some(kind) = type_named(self.root, name) else {
+            return Held::Any;
+        };
+        let length = number_in(kind, "length").unwrap_or(1);
+        match primitive_in(kind, "prim") {
+            Some(Primitive::Char) if length > 1 => Held::Characters(length),
+            Some(prim) => Held::Number(prim),
+            None => Held::Any,
         }
     }
 
-    /// Adds what the value of a constant of this type is.
-    fn push_held(self, line: &mut String) -> Result<(), AllocError> {
-        match self.held() {
-            Some(Held::Number(prim)) => push_range(line, prim),
-            Some(Held::Characters(length)) => {
-                write!(line, "a text of at most {length} characters")
-            }
-            Some(Held::Any) | None => line.push_str("a number"),
+    /// What is wrong with the value of a field or a member.
+    fn of_value(self) -> Said {
+        if text_in(self.table, "presence") != Some("constant") {
+            return words_at(
+                "value",
+                " may stand there only with presence = \"constant\"",
+            );
+        }
+        let (key, words, then) = if self.table.get("value").is_some() {
+            ("value", " is not ", Then::OfType)
+        } else {
+            (
+                "",
+                "it is constant and has no value, which has to be ",
+                Then::Nothing,
+            )
+        };
+        Said {
+            key,
+            words,
+            held: Some(self.held()),
+            then,
         }
     }
 
-    /// Adds what stands at a key, and what is wrong with it.
-    fn push_key_with(self, line: &mut String, key: &str, words: &str) -> Result<(), AllocError> {
-        push_key_of(line, self.table, key)?;
-        line.push_str(words)
-    }
-
-    /// Adds what is wrong with the value of a field or a member.
-    fn push_value_fault(self, line: &mut String) -> Result<(), AllocError> {
-        let is_constant = text_in(self.table, "presence") == Some("constant");
-        match (is_constant, self.table.get("value")) {
-            (true, None) => {
-                line.push_str("it is constant and has no value, which has to be ")?;
-                self.push_held(line)
-            }
-            (true, Some(_)) => {
-                self.push_key_with(line, "value", " is not ")?;
-                self.push_held(line)?;
-                line.push_str(", which its type ")?;
-                push_text_of(line, self.table, "type")?;
-                line.push_str(" holds")
-            }
-            (false, _) => {
-                self.push_key_with(
-                    line,
-                    "value",
-                    " may stand there only with presence = \"constant\"",
-                )
-            }
-        }
-    }
-
-    /// Adds which number of a type its primitive does not hold, or that it may not be an array.
-    fn push_type_fault(self, line: &mut String) -> Result<(), AllocError> {
+    /// Which number of a type its primitive does not hold, or that it may not be an array.
+    fn of_type(self) -> Said {
         let Some(prim) = primitive_in(self.table, "prim") else {
-            return line.push_str(schema_fault(SchemaKind::OverLimit).1);
+            return words_at("", schema_fault(SchemaKind::OverLimit).1);
         };
         for key in ["null", "min", "max"] {
             if matches!(number_in(self.table, key), Some(number) if !can_hold(prim, number)) {
-                self.push_key_with(line, key, " is not ")?;
-                return push_range(line, prim);
+                return Said {
+                    held: Some(Held::Number(prim)),
+                    ..words_at(key, " is not ")
+                };
             }
         }
-        self.push_key_with(
-            line,
+        words_at(
             "length",
             " makes it an array, which has to be of char or uint8",
         )
     }
 
-    /// Adds which limit is passed.
-    fn push_limit(self, line: &mut String) -> Result<(), AllocError> {
+    /// Which limit is passed.
+    fn of_limit(self) -> Said {
         match self.list {
-            "" => line.push_str("there are more than 1024 types, or more than 256 messages"),
-            "fields" | "members" => self.push_value_fault(line),
-            "type" => self.push_type_fault(line),
-            _ => self.push_size(line),
+            "" => words_at(
+                "",
+                "there are more than 1024 types, or more than 256 messages",
+            ),
+            "fields" | "members" => self.of_value(),
+            "type" => self.of_type(),
+            _ if matches!(number_in(self.table, "block_length"), Some(length) if length > 16_384) =>
+                { words_at("block_length", " is above 16384") }
+            "groups" => words_at("", "groups lie in one another more than 4 deep"),
+            _ => words_at(
+                "",
+                "it has more than 1024 elements, or blocks of more than 16384 bytes together",
+            ),
         }
     }
 
-    /// Adds which limit of a message or a group is passed.
-    fn push_size(self, line: &mut String) -> Result<(), AllocError> {
-        if matches!(number_in(self.table, "block_length"), Some(length) if length > 16_384) {
-            return self.push_key_with(line, "block_length", " is above 16384");
+    /// What is wrong with the type or with the name of an element.
+    fn of_name(self, kind: SchemaKind) -> Said {
+        if matches!(kind, SchemaKind::UnknownType) {
+            let name = text_in(self.table, "type").unwrap_or("");
+            let words = match type_named(self.root, name) {
+                Some(_) => " is a composite, and a member's is ",
+                None => " is none of ",
+            };
+            return Said {
+                then: Then::Types,
+                ..words_at("type", words)
+            };
         }
-        if self.list == "groups" {
-            return line.push_str("groups lie in one another more than 4 deep");
-        }
-        line.push_str("it has more than 1024 elements, or blocks of more than 16384 bytes together")
-    }
-
-    /// Adds what is wrong with the type of a field or a member.
-    fn push_unknown_type(self, line: &mut String) -> Result<(), AllocError> {
-        push_key_of(line, self.table, "type")?;
-        let name = text_in(self.table, "type").unwrap_or("");
-        if type_named(self.root, name).is_some() {
-            line.push_str(" is a composite, and a member's is ")?;
-        } else {
-            line.push_str(" is none of ")?;
-        }
-        push_types(line, self.root)
-    }
-
-    /// Adds why a name may not stand there.
-    fn push_name_fault(self, line: &mut String) -> Result<(), AllocError> {
-        push_key_of(line, self.table, "name")?;
         let name = text_in(self.table, "name").unwrap_or("");
         if self.list == "type" && find_primitive(name.as_bytes()).is_some() {
-            line.push_str(" is a primitive's")
+            words_at("name", " is a primitive's")
         } else {
-            line.push_str(" stands twice in its list or block")
+            words_at("name", " stands twice in its list or block")
         }
     }
 
-    /// Adds what is wrong with an enum, or one of its values.
-    fn push_enum_fault(self, line: &mut String) -> Result<(), AllocError> {
-        if self.list == "values" {
-            return self.push_key_with(
-                line,
-                "value",
-                " stands twice, or is not within the primitive of the enum",
-            );
-        }
-        match primitive_in(self.table, "prim") {
-            Some(Primitive::Char | Primitive::UInt8 | Primitive::UInt16) => {
-                line.push_str("it has no values, and an enum has one at least")
-            }
-            _ => {
-                self.push_key_with(
-                    line,
-                    "prim",
-                    " is not char, uint8 or uint16, of which an enum is",
-                )
-            }
-        }
-    }
-
-    /// Adds what is wrong with a set, or one of its bits.
-    fn push_set_fault(self, line: &mut String) -> Result<(), AllocError> {
-        if self.list == "bits" {
-            return self.push_key_with(
-                line,
+    /// What is wrong with an enum or a set, or with one of its values or bits.
+    fn of_list(self, kind: SchemaKind) -> Said {
+        match (kind, self.list) {
+            (SchemaKind::BadSet, "bits") => words_at(
                 "bit",
                 " stands twice, or is not below the width of the set",
-            );
+            ),
+            (SchemaKind::BadSet, _) => words_at(
+                "prim",
+                " is not uint8, uint16, uint32 or uint64, of which a set is",
+            ),
+            (_, "values") => words_at(
+                "value",
+                " stands twice, or is not within the primitive of the enum",
+            ),
+            _ => match primitive_in(self.table, "prim") {
+                Some(Primitive::Char | Primitive::UInt8 | Primitive::UInt16) => {
+                    words_at("", "it has no values, and an enum has one at least")
+                }
+                _ => words_at("prim", " is not char, uint8 or uint16, of which an enum is"),
+            },
         }
-        self.push_key_with(
-            line,
-            "prim",
-            " is not uint8, uint16, uint32 or uint64, of which a set is",
-        )
     }
 
-    /// Adds what is wrong with the version of an element.
-    fn push_since_fault(self, line: &mut String) -> Result<(), AllocError> {
+    /// What is wrong with the version of an element.
+    fn of_version(self) -> Said {
         let Some(since) = number_in(self.table, "since") else {
-            return line.push_str(
+            return words_at(
+                "",
                 "it came with what holds it, and an older reader could not skip it here",
             );
         };
-        push_key_of(line, self.table, "since")?;
         match number_in(self.root, "version") {
-            Some(version) if since > version => {
-                write!(line, " is above the version of the schema, {version}")
-            }
-            _ => line.push_str(
+            Some(version) if since > version => Said {
+                then: Then::Version(version),
+                ..words_at("since", " is above the version of the schema, ")
+            },
+            _ => words_at(
+                "since",
                 " is not admitted here: an older reader could not skip what came with it",
             ),
         }
     }
 
-    /// Adds what is wrong with the place of a field or a member.
-    fn push_offset_fault(self, line: &mut String) -> Result<(), AllocError> {
-        if self.table.get("offset").is_none() {
-            return line.push_str("it ends past 16384 bytes");
+    /// What is said of a table that breaks this rule.
+    fn of(self, kind: SchemaKind) -> Said {
+        match kind {
+            SchemaKind::DuplicateId => words_at("id", " stands twice"),
+            SchemaKind::ShortLength => words_at("block_length", " is below the end of its fields"),
+            SchemaKind::BadData => words_at("length", " is not uint8, uint16 or uint32"),
+            SchemaKind::BadDimension | SchemaKind::Memory => words_at("", schema_fault(kind).1),
+            SchemaKind::BadOffset if self.table.get("offset").is_none() => {
+                words_at("", "it ends past 16384 bytes")
+            }
+            SchemaKind::BadOffset => words_at(
+                "offset",
+                " is below the end of what stands before it, or the field ends past 16384 bytes",
+            ),
+            SchemaKind::DuplicateName | SchemaKind::UnknownType => self.of_name(kind),
+            SchemaKind::BadEnum | SchemaKind::BadSet => self.of_list(kind),
+            SchemaKind::IllegalExtension => self.of_version(),
+            SchemaKind::OverLimit => self.of_limit(),
         }
-        self.push_key_with(
-            line,
-            "offset",
-            " is below the end of what stands before it, or the field ends past 16384 bytes",
-        )
+    }
+
+    /// Adds what stands at a key of a table, behind the key; nothing where there is no key.
+    fn push_key(self, line: &mut String, key: &str) -> Result<(), AllocError> {
+        if key.is_empty() {
+            return Ok(());
+        }
+        push_all(line, &["its ", key, " "])?;
+        match self.table.get(key) {
+            Some(value) => push_value(line, value),
+            None => line.push_str("that is absent"),
+        }
     }
 
     /// Adds which rule a table breaks, what it has there, and what it may have.
     pub fn push(self, line: &mut String, kind: SchemaKind) -> Result<(), AllocError> {
-        match kind {
-            SchemaKind::DuplicateName => self.push_name_fault(line),
-            SchemaKind::DuplicateId => { self.push_key_with(line, "id", " stands twice") }
-            SchemaKind::UnknownType => self.push_unknown_type(line),
-            SchemaKind::BadOffset => self.push_offset_fault(line),
-            SchemaKind::ShortLength => {
-                self.push_key_with(line, "block_length", " is below the end of its fields")
+        let said = self.of(kind);
+        self.push_key(line, said.key)?;
+        line.push_str(said.words)?;
+        if let Some(held) = said.held {
+            push_held(line, held)?;
+        }
+        match said.then {
+            Then::Nothing => Ok(()),
+            Then::OfType => {
+                line.push_str(", which its type ")?;
+                push_quoted(line, text_in(self.table, "type").unwrap_or(""))?;
+                line.push_str(" holds")
             }
-            SchemaKind::BadEnum => self.push_enum_fault(line),
-            SchemaKind::BadSet => self.push_set_fault(line),
-            SchemaKind::BadData => {
-                self.push_key_with(line, "length", " is not uint8, uint16 or uint32")
-            }
-            SchemaKind::IllegalExtension => self.push_since_fault(line),
-            SchemaKind::OverLimit => self.push_limit(line),
-            SchemaKind::BadDimension | SchemaKind::Memory => { line.push_str(schema_fault(kind).1) }
+            Then::Types => push_types(line, self.root),
+            Then::Version(version) => write!(line, "{version}"),
         }
     }
-}
-
-/// Adds which numbers a primitive holds.
-fn push_range(line: &mut String, prim: Primitive) -> Result<(), AllocError> {
-    if !is_integral(prim) {
-        return line.push_str("a number");
-    }
-    let (least, greatest) = (least(prim), greatest(prim));
-    write!(line, "a number from {least} to {greatest}")
 }

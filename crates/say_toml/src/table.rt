@@ -1,11 +1,11 @@
 //! A table of a schema's text that breaks a rule: who it is, and what stands at its keys.
 
 use crate::place::text_at;
-use crate::value::{one_step, push_value};
-use say_words::push_quoted;
+use crate::value::one_step;
+use say_words::push_all;
 use sbe_prim::{Primitive, find_primitive};
 use sbe_value::{Path, Step};
-use std::alloc::{AllocError, Global};
+use std::alloc::AllocError;
 use toml::Value;
 use toml_walk::{is_name, wide_number};
 
@@ -17,7 +17,10 @@ pub const PRIMITIVES: &[&str] = &[
 
 /// The text at a key of a table.
 pub fn text_in<'a>(table: &'a Value, key: &str) -> Option<&'a str> {
-    table.get(key)?.as_str()
+    match table.get(key) {
+        Some(Value::String(text)) => Some(text.as_str()),
+        _ => None,
+    }
 }
 
 /// The number at a key of a table.
@@ -34,15 +37,6 @@ pub fn primitive_in(table: &Value, key: &str) -> Option<Primitive> {
     find_primitive(text_in(table, key)?.as_bytes())
 }
 
-/// Adds what stands at a key of a table, behind the key.
-pub fn push_key_of(line: &mut String, table: &Value, key: &str) -> Result<(), AllocError> {
-    write!(line, "its {key} ")?;
-    match table.get(key) {
-        Some(value) => push_value(line, value),
-        None => line.push_str("that is absent"),
-    }
-}
-
 /// The name that a table gives itself, if it is one that may be shown as it is.
 fn name_of(table: &Value) -> Option<&str> {
     match text_in(table, "name") {
@@ -51,66 +45,58 @@ fn name_of(table: &Value) -> Option<&str> {
     }
 }
 
-/// Adds the name of a table, behind the names of those that it lies in, and says whether there is any.
-fn push_own_name(line: &mut String, table: &Value, has_names: bool) -> Result<bool, AllocError> {
-    let Some(name) = name_of(table) else {
-        return Ok(has_names);
-    };
-    line.push_str(if has_names { "." } else { "" })?;
-    line.push_str(name)?;
-    Ok(true)
-}
-
-/// Adds the names of the tables on the way to a place, joined by dots, and says whether there is any.
-fn push_names(line: &mut String, root: &Value, path: &[Step]) -> Result<bool, AllocError> {
+/// Adds the names of the tables on the way to a place, joined by dots, behind these words; and says what a further name would stand
+/// behind.
+fn push_names<'a>(
+    line: &mut String,
+    root: &Value,
+    path: &[Step],
+    front: &'a str,
+) -> Result<&'a str, AllocError> {
     let mut table = root;
-    let mut has_names = false;
+    let mut front = front;
     for step in path {
         let Some(inner) = one_step(table, step) else {
-            return Ok(has_names);
+            return Ok(front);
         };
         table = inner;
-        if matches!(step, Step::At(_)) {
-            has_names = push_own_name(line, table, has_names)?;
+        if let (Step::At(_), Some(name)) = (step, name_of(table)) {
+            push_all(line, &[front, name])?;
+            front = ".";
         }
     }
-    Ok(has_names)
+    Ok(front)
 }
 
-/// The number of the line at whose front this rest of a text stands, from 1.
-fn row_of(text: &[u8], rest: &[u8]) -> u64 {
-    let count = text.len().saturating_sub(rest.len());
-    let (before, _) = text.split_at(count);
+/// The line of a place, from 1, or of the table in which its key is absent.
+fn row_of(text: &[u8], path: &[Step]) -> Option<u64> {
+    let rest = match (text_at(text, path), path) {
+        (Some(rest), _) => rest,
+        (None, [table @ .., Step::Key(_)]) => text_at(text, table)?,
+        _ => return None,
+    };
+    let (before, _) = text.split_at(text.len().saturating_sub(rest.len()));
     let mut row = 1u64;
     for byte in before {
         if *byte == b'\n' {
             row = row.saturating_add(1);
         }
     }
-    row
-}
-
-/// The line of a place, or of the table in which its key is absent.
-fn row_at(alloc: Global, text: &[u8], path: &[Step]) -> Result<Option<u64>, AllocError> {
-    if let Some(rest) = text_at(alloc, text, path)? {
-        return Ok(Some(row_of(text, rest)));
-    }
-    match path.split_last() {
-        Some((Step::Key(_), table)) => Ok(text_at(alloc, text, table)?.map(|rest| row_of(
-            text, rest,
-        ))),
-        _ => Ok(None),
-    }
+    Some(row)
 }
 
 /// Whether a place lies in a list.
 fn is_in_list(path: &[Step]) -> bool {
-    path.iter().any(|step| matches!(step, Step::At(_)))
+    for step in path {
+        if matches!(step, Step::At(_)) {
+            return true;
+        }
+    }
+    false
 }
 
 /// Adds the line and the names of a place in a list, and a colon, as far as they are found.
 pub fn push_where(
-    alloc: Global,
     line: &mut String,
     root: &Value,
     path: &Path,
@@ -120,14 +106,13 @@ pub fn push_where(
     if !is_in_list(path) {
         return Ok(());
     }
-    let mut names = String::new(alloc);
-    let has_names = push_names(&mut names, root, path)?;
-    match row_at(alloc, text, path)? {
-        Some(row) if has_names => write!(line, "line {row}, {names}: "),
-        Some(row) => write!(line, "line {row}: "),
-        None if has_names => write!(line, "{names}: "),
-        None => Ok(()),
+    let row = row_of(text, path);
+    if let Some(row) = row {
+        write!(line, "line {row}")?;
     }
+    let front = if row.is_some() { ", " } else { "" };
+    let front = push_names(line, root, path, front)?;
+    line.push_str(if front.is_empty() { "" } else { ": " })
 }
 
 /// The most types that are listed by their names.
@@ -136,34 +121,35 @@ const LISTED: usize = 16;
 /// Adds the types that a field or a member may have: the primitives, and the types of the schema.
 pub fn push_types(line: &mut String, root: &Value) -> Result<(), AllocError> {
     for word in PRIMITIVES {
-        write!(line, "{word}, ")?;
+        push_all(line, &[word, ", "])?;
     }
     line.push_str("or a type of the schema")?;
-    let Some(types) = root.get("type") else {
-        return line.push_str(", which has none");
+    let types = match root.get("type") {
+        Some(Value::Array(types)) => types.as_slice(),
+        Some(_) => &[],
+        None => return line.push_str(", which has none"),
     };
-    let types = types.as_array().map_or(&[][..], |types| types.as_slice());
+    let mut front = ": ";
     for (at, kind) in types.iter().enumerate() {
         if at == LISTED {
             let more = types.len().saturating_sub(at);
             return write!(line, " and {more} more");
         }
-        line.push_str(if at == 0 { ": " } else { ", " })?;
-        line.push_str(name_of(kind).unwrap_or("?"))?;
+        push_all(line, &[front, name_of(kind).unwrap_or("?")])?;
+        front = ", ";
     }
     Ok(())
 }
 
-/// Adds the text at a key, in quotes.
-pub fn push_text_of(line: &mut String, table: &Value, key: &str) -> Result<(), AllocError> {
-    push_quoted(line, text_in(table, key).unwrap_or(""))
-}
-
 /// The table of the schema's type of this name, the first of them.
 pub fn type_named<'a>(root: &'a Value, name: &str) -> Option<&'a Value> {
-    let types = root.get("type")?.as_array()?;
-    types
-        .as_slice()
-        .iter()
-        .find(|kind| text_in(kind, "name") == Some(name))
+    let Some(Value::Array(types)) = root.get("type") else {
+        return None;
+    };
+    for kind in types.as_slice() {
+        if text_in(kind, "name") == Some(name) {
+            return Some(kind);
+        }
+    }
+    None
 }

@@ -1,22 +1,22 @@
 //! Values of a TOML text, found again and shown.
 
 use say_words::push_quoted;
-use sbe_value::{Path, Step};
+use sbe_value::{Bytes, Path, Step};
 use std::alloc::AllocError;
 use toml::Value;
 
 /// What lies one step further.
 pub fn one_step<'a>(value: &'a Value, step: &Step) -> Option<&'a Value> {
-    match step {
-        Step::Key(key) => match std::str::from_utf8(key.as_slice()) {
-            Ok(key) => value.get(key),
-            Err(_) => None,
-        },
-        Step::At(place) => match value.as_array() {
-            Some(values) => values.get(usize::try_from(*place).unwrap_or(usize::MAX)),
-            None => None,
-        },
+    match (step, value) {
+        (Step::Key(key), value) => value.get(text_of(key)?),
+        (Step::At(place), Value::Array(values)) => values.get(usize::try_from(*place).ok()?),
+        _ => None,
     }
+}
+
+/// The text of a key.
+fn text_of(key: &Bytes) -> Option<&str> {
+    std::str::from_utf8(key.as_slice()).ok()
 }
 
 /// What lies at a path, if there is something.
@@ -30,8 +30,8 @@ pub fn found_at<'a>(table: &'a Value, path: &Path) -> Option<&'a Value> {
 
 /// The last key of a path; none where it ends at a place in a list, or is empty.
 pub fn last_key(path: &Path) -> &str {
-    match path.as_slice().last() {
-        Some(Step::Key(key)) => std::str::from_utf8(key.as_slice()).unwrap_or(""),
+    match path.as_slice() {
+        [.., Step::Key(key)] => text_of(key).unwrap_or(""),
         _ => "",
     }
 }
@@ -39,23 +39,22 @@ pub fn last_key(path: &Path) -> &str {
 /// The last key of a path, also in front of a place in a list.
 pub fn list_key(path: &Path) -> &str {
     match path.as_slice() {
-        [.., Step::Key(key), Step::At(_)] | [.., Step::Key(key)] => {
-            std::str::from_utf8(key.as_slice()).unwrap_or("")
-        }
-        _ => "",
+        [.., Step::Key(key), Step::At(_)] => text_of(key).unwrap_or(""),
+        _ => last_key(path),
     }
 }
 
 /// Adds a value as it is found in the text.
 pub fn push_value(line: &mut String, value: &Value) -> Result<(), AllocError> {
-    match value {
-        Value::String(text) => push_quoted(line, text.as_str()),
-        Value::Integer(number) => write!(line, "{number}"),
-        Value::Boolean(true) => line.push_str("true"),
-        Value::Boolean(false) => line.push_str("false"),
-        Value::Float(_) => line.push_str("a number with a fraction"),
-        Value::Datetime(_) => line.push_str("a date or a time"),
-        Value::Array(_) => line.push_str("a list"),
-        Value::Table(_) => line.push_str("a table"),
-    }
+    let words = match value {
+        Value::String(text) => return push_quoted(line, text.as_str()),
+        Value::Integer(number) => return write!(line, "{number}"),
+        Value::Boolean(true) => "true",
+        Value::Boolean(false) => "false",
+        Value::Float(_) => "a number with a fraction",
+        Value::Datetime(_) => "a date or a time",
+        Value::Array(_) => "a list",
+        Value::Table(_) => "a table",
+    };
+    line.push_str(words)
 }
