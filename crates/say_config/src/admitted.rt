@@ -6,6 +6,7 @@ use cmd_config::{
 };
 use cmd_script::{ACTION_WORDS, COUNT, END_WORDS, MESSAGES, PICK_WORDS};
 use say_toml::PRIMITIVES;
+use say_words::push_all;
 use std::alloc::AllocError;
 use toml::Value;
 
@@ -366,39 +367,31 @@ pub fn in_schema(key: &str, found: Option<&Value>) -> Admitted {
 
 /// Adds the words that a value has to be one of.
 fn push_words(line: &mut String, words: &[&str]) -> Result<(), AllocError> {
-    line.push_str("one of ")?;
-    let mut is_first = true;
+    let mut front = "one of \"";
     for word in words {
-        if !is_first {
-            line.push_str(", ")?;
-        }
-        write!(line, "\"{word}\"")?;
-        is_first = false;
+        push_all(line, &[front, word, "\""])?;
+        front = ", \"";
     }
     Ok(())
 }
 
 impl Admitted {
-    /// Adds what is admitted, as a noun.
-    pub fn push(self, line: &mut String) -> Result<(), AllocError> {
-        match self {
+    /// Adds what is admitted, as a noun; of values that are known to be of the right kind, the range alone.
+    pub fn push(self, line: &mut String, is_of_kind: bool) -> Result<(), AllocError> {
+        let words = match self {
             Admitted::Number(Range { least, greatest }) => {
-                write!(line, "a whole number from {least} to {greatest}")
+                let front = if is_of_kind {
+                    "from"
+                } else {
+                    "a whole number from"
+                };
+                return write!(line, "{front} {least} to {greatest}");
             }
-            Admitted::Words(words) => push_words(line, words),
-            Admitted::Switch => line.push_str("true or false"),
-            Admitted::Other(what) => line.push_str(what),
-        }
-    }
-
-    /// Adds what is admitted of the values of the right kind.
-    pub fn push_range(self, line: &mut String) -> Result<(), AllocError> {
-        match self {
-            Admitted::Number(Range { least, greatest }) => {
-                write!(line, "from {least} to {greatest}")
-            }
-            other => other.push(line),
-        }
+            Admitted::Words(words) => return push_words(line, words),
+            Admitted::Switch => "true or false",
+            Admitted::Other(what) => what,
+        };
+        line.push_str(words)
     }
 
     /// Whether a value is admitted by itself.

@@ -6,7 +6,7 @@ use crate::admitted::{
 };
 use cmd_config::{Purpose, Sessions};
 use say_toml::{Broken, found_at, last_key, list_key, push_value, push_where, schema_fault};
-use say_words::push_path;
+use say_words::{push_all, push_path};
 use sbe_schema::SchemaFault;
 use sbe_value::Path;
 use schema_toml::{ConfigFault, TEXT_LIMIT};
@@ -40,22 +40,19 @@ fn admitted_at(wanted: Wanted, key: &str, found: Option<&Value>) -> Admitted {
     }
 }
 
-fn push_missing(line: &mut String, admitted: Admitted) -> Result<(), AllocError> {
-    line.push_str("is absent, and has to be ")?;
-    admitted.push(line)
-}
-
-fn push_wrong_kind(
+/// Adds that what is found is not what is admitted, which is told of the values of its kind alone where it is of that kind.
+fn push_not_admitted(
     line: &mut String,
     admitted: Admitted,
     found: Option<&Value>,
+    is_of_kind: bool,
 ) -> Result<(), AllocError> {
     match found {
         Some(value) => push_value(line, value)?,
         None => line.push_str("this")?,
     }
     line.push_str(" is not ")?;
-    admitted.push(line)
+    admitted.push(line, is_of_kind)
 }
 
 /// What a command asks of a key on top, at which this is found.
@@ -67,41 +64,36 @@ fn asked_at(wanted: Wanted, key: &str, found: Option<&Value>) -> Option<Asked> {
     }
 }
 
-/// Adds that a value is not the one that a command asks for.
-fn push_asked(line: &mut String, asked: Asked) -> Result<(), AllocError> {
-    let (by, value) = (asked.by, asked.value);
-    write!(line, " is not {value}, which {by} asks for")?;
-    line.push_str(asked.condition)
-}
-
-/// An absent key that is out of range has a default that the command does not take.
-fn push_absent(line: &mut String, asked: Option<Asked>) -> Result<(), AllocError> {
-    let Some(asked) = asked else {
-        return line.push_str("is absent");
-    };
-    let (by, value, default) = (asked.by, asked.value, asked.default);
-    write!(
-        line,
-        "is absent, which stands for {default}, and {by} asks for {value}"
-    )?;
-    line.push_str(asked.condition)
-}
-
-/// A value that is admitted by itself and is out of range is one that the command does not take.
-fn push_range(
-    line: &mut String,
-    admitted: Admitted,
-    asked: Option<Asked>,
-    value: &Value,
-) -> Result<(), AllocError> {
+/// Adds that a value, which is admitted by itself, is not the one that a command asks for.
+fn push_asked(line: &mut String, asked: Asked, value: &Value) -> Result<(), AllocError> {
     push_value(line, value)?;
-    match asked {
-        Some(asked) if admitted.holds(value) => push_asked(line, asked),
-        _ => {
-            line.push_str(" is not ")?;
-            admitted.push_range(line)
-        }
-    }
+    push_all(
+        line,
+        &[
+            " is not ",
+            asked.value,
+            ", which ",
+            asked.by,
+            " asks for",
+            asked.condition,
+        ],
+    )
+}
+
+/// Adds what an absent key stands for, which a command does not take.
+fn push_absent(line: &mut String, asked: Asked) -> Result<(), AllocError> {
+    push_all(
+        line,
+        &[
+            "is absent, which stands for ",
+            asked.default,
+            ", and ",
+            asked.by,
+            " asks for ",
+            asked.value,
+            asked.condition,
+        ],
+    )
 }
 
 /// What stands before the place at which a text is no TOML.
@@ -164,26 +156,15 @@ pub(crate) fn table_of(alloc: Global, text: &[u8]) -> Option<Value> {
     Some(Value::Table(table))
 }
 
-/// The place of a fault, if it has one.
-fn place_of(fault: &TomlFault) -> Option<&Path> {
+/// The place of a fault, if it has one, and its name, as it stands at the end of the line.
+fn place_and_name(fault: &TomlFault) -> (Option<&Path>, &'static str) {
     match fault {
-        TomlFault::Missing(path)
-        | TomlFault::WrongKind(path)
-        | TomlFault::UnknownKey(path)
-        | TomlFault::Range(path) => Some(path),
-        TomlFault::Text | TomlFault::Memory => None,
-    }
-}
-
-/// The name of a fault, as it stands at the end of the line.
-fn name_of(fault: &TomlFault) -> &'static str {
-    match fault {
-        TomlFault::Missing(_) => " (Missing)",
-        TomlFault::WrongKind(_) => " (WrongKind)",
-        TomlFault::UnknownKey(_) => " (UnknownKey)",
-        TomlFault::Range(_) => " (Range)",
-        TomlFault::Text => " (Text)",
-        TomlFault::Memory => "",
+        TomlFault::Missing(path) => (Some(path), " (Missing)"),
+        TomlFault::WrongKind(path) => (Some(path), " (WrongKind)"),
+        TomlFault::UnknownKey(path) => (Some(path), " (UnknownKey)"),
+        TomlFault::Range(path) => (Some(path), " (Range)"),
+        TomlFault::Text => (None, " (Text)"),
+        TomlFault::Memory => (None, ""),
     }
 }
 
@@ -196,22 +177,19 @@ fn push_cause(
     found: Option<&Value>,
 ) -> Result<(), AllocError> {
     let admitted = admitted_at(wanted, key, found);
-    match (fault, found) {
-        (TomlFault::Missing(_), _) => push_missing(line, admitted),
-        (TomlFault::WrongKind(_), found) => push_wrong_kind(line, admitted, found),
-        (TomlFault::Range(_), Some(value)) => {
-            push_range(line, admitted, asked_at(wanted, key, found), value)
+    match (fault, found, asked_at(wanted, key, found)) {
+        (TomlFault::Missing(_), _, _) => {
+            line.push_str("is absent, and has to be ")?;
+            admitted.push(line, false)
         }
-        (TomlFault::Range(_), None) => push_absent(line, asked_at(wanted, key, None)),
+        (TomlFault::WrongKind(_), found, _) => push_not_admitted(line, admitted, found, false),
+        (TomlFault::Range(_), Some(value), Some(asked)) if admitted.holds(value) => {
+            push_asked(line, asked, value)
+        }
+        (TomlFault::Range(_), Some(_), _) => push_not_admitted(line, admitted, found, true),
+        (TomlFault::Range(_), None, Some(asked)) => push_absent(line, asked),
+        (TomlFault::Range(_), None, None) => line.push_str("is absent"),
         _ => line.push_str("this key is not known here"),
-    }
-}
-
-/// What lies at a path of a table, if there is something.
-fn found_in<'a>(table: Option<&'a Value>, path: &Path) -> Option<&'a Value> {
-    match table {
-        Some(table) => found_at(table, path),
-        None => None,
     }
 }
 
@@ -229,46 +207,42 @@ fn is_repeated(
     wanted: Wanted,
     fault: &TomlFault,
     path: &Path,
-    found: Option<&Value>,
+    found: &Value,
 ) -> bool {
-    match (wanted, fault, found) {
-        (Wanted::Sessions, TomlFault::Range(_), Some(value)) => {
+    match (wanted, fault) {
+        (Wanted::Sessions, TomlFault::Range(_)) => {
             path.len() == 3
                 && last_key(path) == "session"
-                && Sessions::read(alloc, (), value).is_ok()
+                && Sessions::read(alloc, (), found).is_ok()
         }
         _ => false,
     }
 }
 
-/// Adds that an earlier session has this identifier.
-fn push_repeated(line: &mut String, value: Option<&Value>) -> Result<(), AllocError> {
-    if let Some(value) = value {
-        push_value(line, value)?;
-    }
-    line.push_str(" is the identifier of an earlier session too")
-}
-
-/// Adds a place, its line and its names where it lies in a list, and what is wrong there.
+/// Adds a place, its line and its names where it lies in a list, and what is wrong there, by the table that the text is, as far as it is
+/// one. Where an earlier session has the identifier that stands there, that is wrong.
 fn push_at(
     alloc: Global,
     line: &mut String,
     wanted: Wanted,
     fault: &TomlFault,
     path: &Path,
+    table: Option<&Value>,
     text: &[u8],
 ) -> Result<(), AllocError> {
-    let table = table_of(alloc, text);
     push_path(line, path)?;
     line.push_str(": ")?;
-    if let Some(table) = &table {
-        push_where(line, table, path, text)?;
+    let Some(table) = table else {
+        return push_cause(line, wanted_at(wanted, path), fault, last_key(path), None);
+    };
+    push_where(line, table, path, text)?;
+    match found_at(table, path) {
+        Some(value) if is_repeated(alloc, wanted, fault, path, value) => {
+            push_value(line, value)?;
+            line.push_str(" is the identifier of an earlier session too")
+        }
+        found => push_cause(line, wanted_at(wanted, path), fault, last_key(path), found),
     }
-    let found = found_in(table.as_ref(), path);
-    if is_repeated(alloc, wanted, fault, path, found) {
-        return push_repeated(line, found);
-    }
-    push_cause(line, wanted_at(wanted, path), fault, last_key(path), found)
 }
 
 /// Adds what is wrong with a text, without the fault's name.
@@ -277,59 +251,54 @@ fn push_toml_cause(
     line: &mut String,
     wanted: Wanted,
     fault: &TomlFault,
+    path: Option<&Path>,
     text: &[u8],
 ) -> Result<(), AllocError> {
-    match place_of(fault) {
-        Some(path) => push_at(alloc, line, wanted, fault, path, text),
-        None => match fault {
-            TomlFault::Memory => line.push_str("out of memory"),
-            _ => push_text_fault(alloc, line, text),
-        },
+    match (path, fault) {
+        (Some(path), _) => {
+            let table = table_of(alloc, text);
+            push_at(alloc, line, wanted, fault, path, table.as_ref(), text)
+        }
+        (None, TomlFault::Memory) => line.push_str("out of memory"),
+        (None, _) => push_text_fault(alloc, line, text),
     }
 }
 
-/// Adds the rule that a table at this place breaks, whose text is not found again.
-fn push_rule(line: &mut String, fault: &SchemaFault) -> Result<(), AllocError> {
-    let (_, meaning) = schema_fault(fault.kind);
-    line.push_str(meaning)
-}
-
-/// Adds what a table has that breaks a rule, by the text of the schema.
+/// Adds what a table has that breaks a rule, by the text of the schema; the rule alone where it is not found again.
 fn push_broken(
     line: &mut String,
     fault: &SchemaFault,
-    root: &Value,
+    root: Option<&Value>,
     text: &[u8],
 ) -> Result<(), AllocError> {
+    let (_, meaning) = schema_fault(fault.kind);
+    let Some(root) = root else {
+        return line.push_str(meaning);
+    };
     push_where(line, root, &fault.path, text)?;
-    let Some(table) = found_at(root, &fault.path) else {
-        return push_rule(line, fault);
-    };
-    let broken = Broken {
-        root,
-        list: list_key(&fault.path),
-        table,
-    };
-    broken.push(line, fault.kind)
+    match found_at(root, &fault.path) {
+        Some(table) => {
+            let list = list_key(&fault.path);
+            Broken { root, list, table }.push(line, fault.kind)
+        }
+        None => line.push_str(meaning),
+    }
 }
 
-/// Adds the rule that a schema breaks, with its place, if it has one.
+/// Adds the rule that a schema breaks, with its place, if it has one, by the table that its text is, if it is one.
 fn push_schema_fault(
-    alloc: Global,
     line: &mut String,
     fault: &SchemaFault,
+    root: Option<&Value>,
     text: &[u8],
 ) -> Result<(), AllocError> {
-    let (name, _) = schema_fault(fault.kind);
     if !fault.path.is_empty() {
         push_path(line, &fault.path)?;
         line.push_str(": ")?;
     }
-    match table_of(alloc, text) {
-        Some(root) => push_broken(line, fault, &root, text)?,
-        None => push_rule(line, fault)?,
-    }
-    write!(line, " ({name})")
+    push_broken(line, fault, root, text)?;
+    let (name, _) = schema_fault(fault.kind);
+    push_all(line, &[" (", name, ")"])
 }
 
 /// Adds what is wrong with CONFIG, whose text this is: the place, what is wrong, and the fault's name.
@@ -345,10 +314,14 @@ pub fn push_config_fault(
 ) -> Result<(), AllocError> {
     match fault {
         ConfigFault::Toml(fault) => {
-            push_toml_cause(alloc, line, wanted, fault, text)?;
-            line.push_str(name_of(fault))
+            let (path, name) = place_and_name(fault);
+            push_toml_cause(alloc, line, wanted, fault, path, text)?;
+            line.push_str(name)
         }
-        ConfigFault::Schema(fault) => push_schema_fault(alloc, line, fault, text),
+        ConfigFault::Schema(fault) => {
+            let root = table_of(alloc, text);
+            push_schema_fault(line, fault, root.as_ref(), text)
+        }
         ConfigFault::TooLong => write!(
             line,
             "the text is longer than {TEXT_LIMIT} bytes (TooLong)"

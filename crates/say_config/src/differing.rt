@@ -5,6 +5,7 @@ use say_toml::{found_at, last_key, push_where};
 use say_words::push_path;
 use sbe_value::Path;
 use std::alloc::{AllocError, Global};
+use toml::Value;
 
 /// What is to be said of a place at which OLD has something and NEW has not the same.
 fn words_at(path: &Path) -> &'static str {
@@ -14,6 +15,19 @@ fn words_at(path: &Path) -> &'static str {
         (1, "version") => "the version of NEW is below this one",
         _ => "NEW has not the same here",
     }
+}
+
+/// Adds a place at which OLD has something, with its line and its names, and what is to be said of it.
+fn push_place(
+    line: &mut String,
+    root: &Value,
+    path: &Path,
+    older: &[u8],
+) -> Result<(), AllocError> {
+    push_path(line, path)?;
+    line.push_str(": ")?;
+    push_where(line, root, path, older)?;
+    line.push_str(words_at(path))
 }
 
 /// Adds a place at which OLD, whose text this is, has something, and NEW has not the same; and says whether OLD has something there.
@@ -26,15 +40,13 @@ pub fn push_difference(
     path: &Path,
     older: &[u8],
 ) -> Result<bool, AllocError> {
-    let Some(root) = table_of(alloc, older) else {
-        return Ok(false);
-    };
-    if found_at(&root, path).is_none() {
-        return Ok(false);
+    match table_of(alloc, older) {
+        Some(root) if found_at(&root, path).is_some() => match push_place(
+            line, &root, path, older,
+        ) {
+            Ok(()) => Ok(true),
+            Err(error) => Err(error),
+        },
+        _ => Ok(false),
     }
-    push_path(line, path)?;
-    line.push_str(": ")?;
-    push_where(line, &root, path, older)?;
-    line.push_str(words_at(path))?;
-    Ok(true)
 }
