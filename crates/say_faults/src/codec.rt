@@ -1,14 +1,14 @@
 //! What is wrong with a message of a schema: with its bytes, with its values, with its text.
 
-use crate::admitted::{push_form, push_listed, push_message_names, push_messages};
+use crate::admitted::{push_form, push_listed, push_messages};
 use crate::filled::{Filled, plain, with_one, with_three, with_two};
 use crate::strict::Strict;
 use crate::walk::{Awaited, Found, found_at, push_awaited};
-use say_words::push_quoted;
+use say_words::{push_all, push_quoted};
 use sbe_encode::EncodeFault;
 use sbe_grammar::DecodeFault;
-use sbe_layout::{ItemKind, ItemPlan, Plan};
-use sbe_prim::{Primitive, default_greatest, default_least};
+use sbe_layout::{ItemKind, Plan};
+use sbe_prim::{default_greatest, default_least};
 use sbe_text::first_message;
 use sbe_value::{Item, Message, Path, text_of_path};
 use std::alloc::{AllocError, Global};
@@ -43,29 +43,6 @@ fn decode_fault(fault: DecodeFault) -> Filled {
 /// The id of the schema of the session's own messages.
 const SESSION_SCHEMA: u16 = 0xF011;
 
-/// Adds which messages there are, where the fault is that this one is none of them.
-fn push_known(
-    line: &mut String,
-    plan: Option<&Plan>,
-    role: &str,
-    fault: DecodeFault,
-) -> Result<(), AllocError> {
-    match (fault, plan) {
-        (DecodeFault::OtherSchema { id: SESSION_SCHEMA }, _) => {
-            line.push_str(", which is that of the session's own messages")
-        }
-        (DecodeFault::OtherSchema { .. }, Some(plan)) => {
-            let id = plan.id;
-            write!(line, ", and {role} has {id}")
-        }
-        (DecodeFault::UnknownTemplate { .. }, Some(plan)) => {
-            line.push_str(": it has ")?;
-            push_messages(line, plan)
-        }
-        _ => Ok(()),
-    }
-}
-
 /// Adds the frame of this number, which stands at this place if that is known, and what is wrong with its message, by the layout of
 /// the messages if that is at hand.
 ///
@@ -78,14 +55,16 @@ pub fn push_decode_fault(
     place: Option<u64>,
     fault: DecodeFault,
 ) -> Result<(), AllocError> {
-    match place {
-        Some(place) => write!(line, "frame {frame} at byte {place}: ")?,
-        None => write!(line, "frame {frame}: ")?,
-    }
+    let front = match place {
+        Some(place) => with_two("frame # at byte #: ", frame as u128, place as u128),
+        None => with_one("frame #: ", frame as u128),
+    };
+    front.push(line)?;
     push_fault_of_message(line, plan, "CONFIG", fault)
 }
 
-/// Adds what is wrong with the bytes of a message, by the layout of the messages if that is at hand, which the file of this role gives.
+/// Adds what is wrong with the bytes of a message, by the layout of the messages if that is at hand, which the file of this role gives;
+/// and which messages there are, where the fault is that this one is none of them.
 pub(crate) fn push_fault_of_message(
     line: &mut String,
     plan: Option<&Plan>,
@@ -93,7 +72,19 @@ pub(crate) fn push_fault_of_message(
     fault: DecodeFault,
 ) -> Result<(), AllocError> {
     decode_fault(fault).push(line)?;
-    push_known(line, plan, role, fault)
+    match (fault, plan) {
+        (DecodeFault::OtherSchema { id: SESSION_SCHEMA }, _) => {
+            line.push_str(", which is that of the session's own messages")
+        }
+        (DecodeFault::OtherSchema { .. }, Some(plan)) => {
+            let id = plan.id;
+            write!(line, ", and {role} has {id}")
+        }
+        (DecodeFault::UnknownTemplate { .. }, Some(plan)) => {
+            push_messages(line, ": it has ", plan, true)
+        }
+        _ => Ok(()),
+    }
 }
 
 /// What stands behind the first message of a text.
@@ -136,16 +127,13 @@ fn line_with(text: &[u8], path: &[u8]) -> u64 {
     1
 }
 
-/// Adds why a number is out of the range of its type.
+/// Adds why a number is out of a range.
 fn push_out_of_range(
     line: &mut String,
     value: i128,
-    prim: Primitive,
-    min: Option<i128>,
-    max: Option<i128>,
+    least: i128,
+    greatest: i128,
 ) -> Result<(), AllocError> {
-    let greatest = max.unwrap_or(default_greatest(prim));
-    let least = min.unwrap_or(default_least(prim));
     if value > greatest {
         write!(line, "{value} is above its greatest, {greatest}")
     } else if value < least {
@@ -155,39 +143,37 @@ fn push_out_of_range(
     }
 }
 
-/// Adds that a character is out of the range of its type.
-fn push_character_fault(line: &mut String, kind: ItemKind) -> Result<(), AllocError> {
-    line.push_str("a character is out of its range")?;
-    match kind {
-        ItemKind::Number { prim, min, max, .. } => {
-            let greatest = max.unwrap_or(default_greatest(prim));
-            let least = min.unwrap_or(default_least(prim));
-            write!(line, ", which is from {least} to {greatest}")
-        }
-        ItemKind::Enum { .. } | ItemKind::Set { .. } => Ok(()),
-    }
-}
-
 /// Adds why the value of an item is out of its range.
 fn push_range_fault(
     line: &mut String,
     plan: &Plan,
-    item_plan: &ItemPlan,
+    kind: ItemKind,
     item: &Item,
 ) -> Result<(), AllocError> {
-    match (item_plan.kind, item) {
-        (ItemKind::Number { prim, min, max, .. }, Item::Num(value)) => {
-            push_out_of_range(line, *value, prim, min, max)
-        }
+    match (kind, item) {
+        (ItemKind::Number { prim, min, max, .. }, Item::Num(value)) => push_out_of_range(
+            line,
+            *value,
+            min.unwrap_or(default_least(prim)),
+            max.unwrap_or(default_greatest(prim)),
+        ),
         (ItemKind::Enum { at, .. }, Item::Num(value)) => {
-            write!(line, "{value} is none of its values, ")?;
-            push_listed(line, plan, at)
+            write!(line, "{value}")?;
+            push_listed(line, " is none of its values, ", plan, at)
         }
         (ItemKind::Set { at, .. }, Item::Num(value)) => {
-            write!(line, "{value} has a bit that has no name; its bits are ")?;
-            push_listed(line, plan, at)
+            write!(line, "{value}")?;
+            push_listed(line, " has a bit that has no name; its bits are ", plan, at)
         }
-        (kind, Item::Text(_)) => push_character_fault(line, kind),
+        (ItemKind::Number { prim, min, max, .. }, Item::Text(_)) => {
+            let greatest = max.unwrap_or(default_greatest(prim));
+            let least = min.unwrap_or(default_least(prim));
+            write!(
+                line,
+                "a character is out of its range, which is from {least} to {greatest}"
+            )
+        }
+        (_, Item::Text(_)) => line.push_str("a character is out of its range"),
         (_, _) => line.push_str("this is out of its range"),
     }
 }
@@ -206,28 +192,6 @@ fn shape_fault(found: Option<Found<'_>>) -> Filled {
             with_one("# bytes are more than its type can tell", count as u128)
         }
         Some(Found::Item(_, _)) | None => plain("this is not as the schema has it"),
-    }
-}
-
-fn push_found_fault(
-    line: &mut String,
-    plan: &Plan,
-    is_shape: bool,
-    found: Option<Found<'_>>,
-) -> Result<(), AllocError> {
-    match found {
-        Some(Found::Item(item_plan, item)) if !is_shape => {
-            push_range_fault(line, plan, item_plan, item)
-        }
-        found => shape_fault(found).push(line),
-    }
-}
-
-/// The element of a message at a path; none where there is no message.
-fn element_at<'a>(plan: &'a Plan, message: Option<&'a Message>, path: &Path) -> Option<Found<'a>> {
-    match message {
-        Some(message) => found_at(plan, message, path.as_slice()),
-        None => None,
     }
 }
 
@@ -254,6 +218,26 @@ fn push_line_of(line: &mut String, placed: &Placed<'_>, name: &[u8]) -> Result<(
     write!(line, " (line {at})")
 }
 
+/// Adds the element of this name, what is wrong with it as it is found in the message, and its line.
+fn push_element_fault(
+    line: &mut String,
+    plan: &Plan,
+    placed: &Placed<'_>,
+    is_shape: bool,
+    name: &[u8],
+    found: Option<Found<'_>>,
+) -> Result<(), AllocError> {
+    push_all(line, &[std::str::from_utf8(name).unwrap_or("?"), ": "])?;
+    match found {
+        Some(Found::Item(item_plan, item)) if !is_shape => {
+            push_range_fault(line, plan, item_plan.kind, item)?;
+        }
+        found => shape_fault(found).push(line)?,
+    }
+    push_line_of(line, placed, name)
+}
+
+/// Adds the element at a path, and what is wrong with it.
 fn push_path_fault(
     alloc: Global,
     line: &mut String,
@@ -262,17 +246,13 @@ fn push_path_fault(
     is_shape: bool,
     path: &Path,
 ) -> Result<(), AllocError> {
-    let text = text_of_path(alloc, path)?;
-    let name = std::str::from_utf8(text.as_slice()).unwrap_or("?");
-    write!(line, "{name}: ")?;
+    let name = text_of_path(alloc, path)?;
     let message = message_in(alloc, plan, placed.text);
-    push_found_fault(
-        line,
-        plan,
-        is_shape,
-        element_at(plan, message.as_ref(), path),
-    )?;
-    push_line_of(line, placed, text.as_slice())
+    let found = match &message {
+        Some(message) => found_at(plan, message, path.as_slice()),
+        None => None,
+    };
+    push_element_fault(line, plan, placed, is_shape, name.as_slice(), found)
 }
 
 /// Adds why a message may not be written.
@@ -336,39 +316,27 @@ pub(crate) fn push_quoted_line(line: &mut String, quoted: &[u8]) -> Result<(), A
     }
 }
 
-/// Adds what the value of an element may be.
-fn push_awaited_form(
+/// Adds the line of this number in quotes, where the text is at hand, and a colon.
+pub(crate) fn push_shown(
     line: &mut String,
-    plan: &Plan,
-    awaited: Awaited<'_>,
+    text: Option<&[u8]>,
+    number: u64,
 ) -> Result<(), AllocError> {
-    match awaited {
-        Awaited::Item(item) => {
-            line.push_str(", which is ")?;
-            push_form(line, plan, item)
+    let found = match text {
+        Some(text) => line_at(text, number),
+        None => None,
+    };
+    match found {
+        Some(found) => {
+            push_quoted_line(line, found)?;
+            line.push_str(": ")
         }
-        Awaited::Entries => line.push_str(", which is the number of its entries"),
-        Awaited::Datum => line.push_str(", which is x and hexadecimal digits in pairs"),
-        Awaited::Message | Awaited::End => Ok(()),
+        None => Ok(()),
     }
 }
 
-/// Adds which messages there are, where the first line of a message names none.
-fn push_awaited_message(
-    line: &mut String,
-    plan: &Plan,
-    awaited: Awaited<'_>,
-) -> Result<(), AllocError> {
-    match awaited {
-        Awaited::Message => {
-            line.push_str(": the schema has ")?;
-            push_message_names(line, plan)
-        }
-        _ => Ok(()),
-    }
-}
-
-/// Adds what has to stand at a line of a text, which is shown as it was written, or where the text ends before it.
+/// Adds what has to stand at a line of a text, which is shown as it was written, or where the text ends before it: what the value of an
+/// element may be, and which messages there are where the first line of a message names none.
 fn push_awaited_fault(
     line: &mut String,
     plan: &Plan,
@@ -382,12 +350,23 @@ fn push_awaited_fault(
         return write!(line, "the text ends here, and {name} is awaited");
     };
     push_quoted_line(line, shown)?;
-    if has_path(found, path) {
-        write!(line, ": this is no value of {name}")?;
-        return push_awaited_form(line, plan, awaited);
+    let is_value = has_path(found, path);
+    let (front, end) = if is_value {
+        (": this is no value of ", "")
+    } else {
+        (": ", " is awaited here")
+    };
+    push_all(line, &[front, name, end])?;
+    match (is_value, awaited) {
+        (true, Awaited::Item(item)) => {
+            line.push_str(", which is ")?;
+            push_form(line, plan, item)
+        }
+        (true, Awaited::Entries) => line.push_str(", which is the number of its entries"),
+        (true, Awaited::Datum) => line.push_str(", which is x and hexadecimal digits in pairs"),
+        (false, Awaited::Message) => push_messages(line, ": the schema has ", plan, false),
+        _ => Ok(()),
     }
-    write!(line, ": {name} is awaited here")?;
-    push_awaited_message(line, plan, awaited)
 }
 
 /// Adds the line of this number in a text, and what has to stand there.

@@ -13,16 +13,6 @@ fn template_of(message: &[u8]) -> u16 {
     }
 }
 
-/// Adds that a session message is too short, behind a colon.
-fn push_short(line: &mut String, message: &[u8]) -> Result<(), AllocError> {
-    let template = template_of(message);
-    let name = message_name(template);
-    write!(
-        line,
-        ": the block or the data of {name}, template {template}, are too short"
-    )
-}
-
 /// Adds what is wrong with a whole frame, behind a colon, if that can be told.
 fn push_malformed_message(
     line: &mut String,
@@ -34,11 +24,15 @@ fn push_malformed_message(
     }
     match kind(order, message) {
         FrameKind::Wrong => line.push_str(": a session message in big-endian order"),
-        FrameKind::Session => match read(message) {
-            Err(MsgFault::Short) => push_short(line, message),
-            _ => Ok(()),
-        },
-        FrameKind::App => Ok(()),
+        FrameKind::Session if matches!(read(message), Err(MsgFault::Short)) => {
+            let template = template_of(message);
+            let name = message_name(template);
+            write!(
+                line,
+                ": the block or the data of {name}, template {template}, are too short"
+            )
+        }
+        FrameKind::Session | FrameKind::App => Ok(()),
     }
 }
 

@@ -14,14 +14,16 @@ fn push_payload(line: &mut String, payload: &[u8]) -> Result<(), AllocError> {
             "its payload has {count} bytes, and a frame's encoding type and an application message have 10 to 16386"
         );
     }
-    if !payload.starts_with(&[0xEB, 0x50]) && !payload.starts_with(&[0x5B, 0xE0]) {
-        let (high, low) = (payload[0], payload[1]);
-        return write!(
+    match payload {
+        [0xEB, 0x50, ..] | [0x5B, 0xE0, ..] => line.push_str(
+            "its payload is no application message: its schema id is that of the session",
+        ),
+        [high, low, ..] => write!(
             line,
             "its payload begins with the encoding type {high:02x}{low:02x}, neither eb50 nor 5be0"
-        );
+        ),
+        _ => Ok(()),
     }
-    line.push_str("its payload is no application message: its schema id is that of the session")
 }
 
 /// Adds what is wrong with digits that are to spell a payload.

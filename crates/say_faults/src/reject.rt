@@ -31,11 +31,10 @@ fn establishment(code: u8) -> &'static str {
 /// # Errors
 /// Want of memory.
 pub fn push_rejected(line: &mut String, template: u16, code: u8) -> Result<(), AllocError> {
-    let (asked, answer, words) = if template == 3 {
-        ("Negotiate", "NegotiationReject", negotiation(code))
+    let (answer, words) = if template == 3 {
+        ("Negotiate by NegotiationReject", negotiation(code))
     } else {
-        ("Establish", "EstablishmentReject", establishment(code))
+        ("Establish by EstablishmentReject", establishment(code))
     };
-    write!(line, "the peer answered {asked} by {answer} ")?;
-    write!(line, "{code}, {words}")
+    write!(line, "the peer answered {answer} {code}, {words}")
 }

@@ -4,38 +4,44 @@ use crate::filled::{Filled, plain, with_one, with_two};
 use fixp_shake::{Phase, Violation};
 use std::alloc::AllocError;
 
+/// The messages by their template ids, from 0, which stands for an application message.
+const NAMES: &[&str] = &[
+    "an application message",
+    "Negotiate",
+    "NegotiationResponse",
+    "NegotiationReject",
+    "Establish",
+    "EstablishmentAck",
+    "EstablishmentReject",
+    "Sequence",
+    "UnsequencedHeartbeat",
+    "RetransmitRequest",
+    "Retransmission",
+    "RetransmitReject",
+    "Applied",
+    "NotApplied",
+    "FinishedSending",
+    "FinishedReceiving",
+    "Terminate",
+];
+
 /// A message by its template id; 0 stands for an application message.
 pub fn message_name(template: u16) -> &'static str {
-    match template {
-        0 => "an application message",
-        1 => "Negotiate",
-        2 => "NegotiationResponse",
-        3 => "NegotiationReject",
-        4 => "Establish",
-        5 => "EstablishmentAck",
-        6 => "EstablishmentReject",
-        7 => "Sequence",
-        8 => "UnsequencedHeartbeat",
-        9 => "RetransmitRequest",
-        10 => "Retransmission",
-        11 => "RetransmitReject",
-        12 => "Applied",
-        13 => "NotApplied",
-        14 => "FinishedSending",
-        15 => "FinishedReceiving",
-        _ => "Terminate",
+    match NAMES.get(template as usize) {
+        Some(name) => name,
+        None => "Terminate",
     }
 }
 
-/// How far the connection had come.
-fn phase_name(phase: Phase) -> &'static str {
+/// That a message may not come, as far as the connection had come.
+fn misplaced_words(phase: Phase) -> &'static str {
     match phase {
-        Phase::Idle => "before the session is established",
-        Phase::Negotiating => "while the answer to Negotiate is awaited",
-        Phase::Establishing => "while the answer to Establish is awaited",
-        Phase::Established => "in an established session",
-        Phase::Closing => "after the session's end was told",
-        Phase::Ended => "after the session's end",
+        Phase::Idle => " may not come before the session is established",
+        Phase::Negotiating => " may not come while the answer to Negotiate is awaited",
+        Phase::Establishing => " may not come while the answer to Establish is awaited",
+        Phase::Established => " may not come in an established session",
+        Phase::Closing => " may not come after the session's end was told",
+        Phase::Ended => " may not come after the session's end",
     }
 }
 
@@ -44,23 +50,12 @@ fn phase_name(phase: Phase) -> &'static str {
 struct Rule {
     name: &'static str,
     what: Filled,
-    /// How far the connection had come, if it is told.
-    phase: &'static str,
-}
-
-const fn unnamed(what: Filled) -> Rule {
-    Rule {
-        name: "",
-        what,
-        phase: "",
-    }
 }
 
 fn of_message(template: u16, words: &'static str) -> Rule {
     Rule {
         name: message_name(template),
         what: plain(words),
-        phase: "",
     }
 }
 
@@ -79,19 +74,6 @@ fn retransmission_fault(expected: u64, found: u64) -> Filled {
     }
 }
 
-/// What is wrong with a message that its phase does not await.
-fn misplaced(template: u16, phase: Phase) -> Rule {
-    match (template, phase) {
-        (9, Phase::Established) => of_message(9, " comes while an earlier one is served"),
-        (15, Phase::Established) => of_message(15, " comes, and no FinishedSending awaits it"),
-        (template, phase) => Rule {
-            name: message_name(template),
-            what: plain(" may not come "),
-            phase: phase_name(phase),
-        },
-    }
-}
-
 /// Adds the rule that the frame at this place of the input breaks, with its numbers.
 ///
 /// # Errors
@@ -101,36 +83,32 @@ pub fn push_broken_rule(
     at: u64,
     violation: Violation,
 ) -> Result<(), AllocError> {
-    write!(line, "frame at byte {at}: ")?;
-    push_rule(line, rule_of(violation))
-}
-
-fn push_rule(line: &mut String, rule: Rule) -> Result<(), AllocError> {
-    line.push_str(rule.name)?;
-    rule.what.push(line)?;
-    line.push_str(rule.phase)
+    let rule = rule_of(violation);
+    let name = rule.name;
+    write!(line, "frame at byte {at}: {name}")?;
+    rule.what.push(line)
 }
 
 /// A broken rule.
 fn rule_of(violation: Violation) -> Rule {
-    match violation {
-        Violation::NotInPhase { template, phase } => misplaced(template, phase),
+    let what = match violation {
+        Violation::NotInPhase { template, phase } => {
+            let words = match (template, phase) {
+                (9, Phase::Established) => " comes while an earlier one is served",
+                (15, Phase::Established) => " comes, and no FinishedSending awaits it",
+                (_, phase) => misplaced_words(phase),
+            };
+            return of_message(template, words);
+        }
         Violation::OtherSession { template } => {
-            of_message(template, " names another session than CONFIG")
+            return of_message(template, " names another session than CONFIG");
         }
         Violation::MissingNext { template } => {
-            of_message(template, " gives no number, and the flow has numbers")
+            return of_message(template, " gives no number, and the flow has numbers");
         }
         Violation::FlowNone { template } => {
-            of_message(template, " comes on a flow that CONFIG says is none")
+            return of_message(template, " comes on a flow that CONFIG says is none");
         }
-        other => unnamed(rule_on_numbers(other)),
-    }
-}
-
-/// A broken rule that names no message.
-fn rule_on_numbers(violation: Violation) -> Filled {
-    match violation {
         Violation::UnknownTemplate { id } => with_one(
             "template # is no session message's; they have 1 to 16",
             id as u128,
@@ -164,5 +142,6 @@ fn rule_on_numbers(violation: Violation) -> Filled {
             now as u128,
         ),
         _ => plain("it is malformed"),
-    }
+    };
+    Rule { name: "", what }
 }

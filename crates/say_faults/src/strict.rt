@@ -15,20 +15,28 @@ pub struct Strict {
     numbers: Vec<u64>,
 }
 
-fn is_blank(byte: u8) -> bool {
-    byte == b' ' || byte == b'\t'
+/// The text from the first of these bytes on.
+fn from_any<'a>(text: &'a [u8], ends: &[u8]) -> &'a [u8] {
+    let mut left = text;
+    for _ in 0..text.len() {
+        match left {
+            [byte, rest @ ..] if !ends.contains(byte) => left = rest,
+            _ => return left,
+        }
+    }
+    left
 }
 
 /// What stands behind the blanks at the front.
 fn unindented(text: &[u8]) -> &[u8] {
-    let at = text.iter().position(|&byte| !is_blank(byte));
-    text.get(at.unwrap_or(text.len())..).unwrap_or(&[])
-}
-
-/// The bytes in front of the first blank.
-fn word_of(text: &[u8]) -> &[u8] {
-    let at = text.iter().position(|&byte| is_blank(byte));
-    text.get(..at.unwrap_or(text.len())).unwrap_or(text)
+    let mut left = text;
+    for _ in 0..text.len() {
+        match left {
+            [b' ' | b'\t', rest @ ..] => left = rest,
+            _ => return left,
+        }
+    }
+    left
 }
 
 /// What stands in front of the rest of a text.
@@ -44,31 +52,39 @@ impl Strict {
             text: Vec::new(alloc),
             numbers: Vec::new(alloc),
         };
-        let mut narrow = Narrow::new(alloc);
+        strict.fill(alloc, plan, text, before, &mut Narrow::new(alloc))?;
+        Ok(strict)
+    }
+
+    /// Adds the strict lines of a text, before which so many lines stand.
+    fn fill(
+        &mut self,
+        alloc: Global,
+        plan: &Plan,
+        text: &[u8],
+        before: u64,
+        narrow: &mut Narrow,
+    ) -> Result<(), AllocError> {
         let mut left = text;
         let mut before = before;
         for _ in 0..text.len() {
             if left.is_empty() {
-                break;
+                return Ok(());
             }
-            let end = match narrow_message(alloc, plan, left, &mut narrow) {
-                Ok(rest) => Ok(rest),
-                Err(NarrowError::Mistake { line, .. }) => Err(line),
-                Err(NarrowError::Memory) => return Err(AllocError),
-            };
-            strict.add(&narrow, before)?;
-            match end {
+            match narrow_message(alloc, plan, left, narrow) {
                 Ok(rest) => {
+                    self.add(narrow, before)?;
                     before = before.saturating_add(count_lines(in_front(left, rest)));
                     left = rest;
                 }
-                Err(line) => {
-                    strict.add_wrong(left, before, line)?;
-                    return Ok(strict);
+                Err(NarrowError::Mistake { line, .. }) => {
+                    self.add(narrow, before)?;
+                    return self.add_wrong(left, before, line);
                 }
+                Err(NarrowError::Memory) => return Err(AllocError),
             }
         }
-        Ok(strict)
+        Ok(())
     }
 
     /// Adds the lines of a message, behind so many lines of the text.
@@ -83,11 +99,12 @@ impl Strict {
     /// Adds a line of an element whose value is wrong, as it is.
     fn add_wrong(&mut self, left: &[u8], before: u64, line: u64) -> Result<(), AllocError> {
         let wrong = line_at(left, line).unwrap_or(&[]);
-        if let Some(at) = wrong.iter().position(|&byte| byte == b'=') {
-            let (path, behind) = wrong.split_at(at);
-            self.text.extend_from_slice(word_of(unindented(path)))?;
+        let behind = from_any(wrong, b"=");
+        if let [b'=', value @ ..] = behind {
+            let path = unindented(in_front(wrong, behind));
+            self.text
+                .extend_from_slice(in_front(path, from_any(path, b" \t")))?;
             self.text.extend_from_slice(b" = ")?;
-            let value = behind.strip_prefix(b"=").unwrap_or(behind);
             self.text.extend_from_slice(unindented(value))?;
         }
         self.text.push(b'\n')?;
@@ -97,9 +114,14 @@ impl Strict {
 
     /// The number of the strict line that came from the line of this number; else behind the last.
     pub fn place_of(&self, number: u64) -> u64 {
-        let places = self.numbers.as_slice();
-        let at = places.iter().position(|&place| place == number);
-        (at.unwrap_or(places.len()) as u64).saturating_add(1)
+        let mut place = 1u64;
+        for from in self.numbers.as_slice() {
+            if *from == number {
+                return place;
+            }
+            place = place.saturating_add(1);
+        }
+        place
     }
 
     /// The number of the line that a strict line came from.

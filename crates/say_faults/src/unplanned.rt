@@ -1,6 +1,6 @@
 //! What is wrong with a text of messages for senders.
 
-use crate::codec::{Placed, line_at, push_message_fault, push_quoted_line, push_text_fault_in};
+use crate::codec::{Placed, push_message_fault, push_shown, push_text_fault_in};
 use crate::strict::Strict;
 use gw_lines::LONGEST;
 use plan_lines::{SENDERS, Wrong};
@@ -69,21 +69,6 @@ fn message_with(text: &[u8], number: u64) -> Own<'_> {
     Own {
         before: begun.before,
         text: up_to_end(begun.text),
-    }
-}
-
-/// Adds a line in quotes, where the text is at hand.
-fn push_shown(line: &mut String, text: Option<&[u8]>, number: u64) -> Result<(), AllocError> {
-    let found = match text {
-        Some(text) => line_at(text, number),
-        None => None,
-    };
-    match found {
-        Some(found) => {
-            push_quoted_line(line, found)?;
-            line.push_str(": ")
-        }
-        None => Ok(()),
     }
 }
 

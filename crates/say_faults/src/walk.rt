@@ -38,52 +38,42 @@ pub enum Found<'a> {
     Bytes(usize),
 }
 
-/// What a block has, by its plan, which is found by its name.
-trait IsNamed {
-    fn name(&self) -> &Bytes;
-}
-
-impl IsNamed for ItemPlan {
-    fn name(&self) -> &Bytes {
-        &self.name
-    }
-}
-
-impl IsNamed for GroupPlan {
-    fn name(&self) -> &Bytes {
-        &self.name
-    }
-}
-
-impl IsNamed for DataPlan {
-    fn name(&self) -> &Bytes {
-        &self.name
-    }
-}
-
-/// The place of the plan that has this name.
-fn place_of<P: IsNamed>(plans: &[P], name: &[u8]) -> Option<usize> {
-    plans.iter().position(|plan| plan.name().as_slice() == name)
-}
-
 /// The element of a block with this name.
 fn element_of<'a>(plan: &'a BlockPlan, block: &'a Block, name: &[u8]) -> Option<Found<'a>> {
-    if let Some(at) = place_of(plan.items.as_slice(), name) {
-        let item_plan = plan.items.as_slice().get(at)?;
-        let item = block.items.as_slice().get(at)?;
-        return Some(Found::Item(item_plan, item));
+    for (item_plan, item) in plan.items.as_slice().iter().zip(block.items.as_slice()) {
+        if item_plan.name.as_slice() == name {
+            return Some(Found::Item(item_plan, item));
+        }
     }
-    if let Some(at) = place_of(plan.groups.as_slice(), name) {
-        return Some(match block.groups.as_slice().get(at)? {
+    if let Some((_, group)) = group_of(plan, block, name) {
+        return Some(match group {
             Group::Absent => Found::Absent,
             Group::Entries(blocks) => Found::Entries(blocks.len()),
         });
     }
-    let at = place_of(plan.vars.as_slice(), name)?;
-    Some(match block.vars.as_slice().get(at)? {
-        Datum::Absent => Found::Absent,
-        Datum::Present(bytes) => Found::Bytes(bytes.len()),
-    })
+    for (data_plan, datum) in plan.vars.as_slice().iter().zip(block.vars.as_slice()) {
+        if data_plan.name.as_slice() == name {
+            return Some(match datum {
+                Datum::Absent => Found::Absent,
+                Datum::Present(bytes) => Found::Bytes(bytes.len()),
+            });
+        }
+    }
+    None
+}
+
+/// The group of a block with this name.
+fn group_of<'a>(
+    plan: &'a BlockPlan,
+    block: &'a Block,
+    name: &[u8],
+) -> Option<(&'a GroupPlan, &'a Group)> {
+    for (group_plan, group) in plan.groups.as_slice().iter().zip(block.groups.as_slice()) {
+        if group_plan.name.as_slice() == name {
+            return Some((group_plan, group));
+        }
+    }
+    None
 }
 
 /// The entry of a group of a block.
@@ -93,14 +83,12 @@ fn entry_of<'a>(
     name: &[u8],
     at: u64,
 ) -> Option<(&'a BlockPlan, &'a Block)> {
-    let place = place_of(plan.groups.as_slice(), name)?;
-    let group = plan.groups.as_slice().get(place)?;
-    match block.groups.as_slice().get(place)? {
-        Group::Absent => None,
-        Group::Entries(blocks) => {
+    match group_of(plan, block, name)? {
+        (plan, Group::Entries(blocks)) => {
             let entry = blocks.as_slice().get(usize::try_from(at).ok()?)?;
-            Some((&group.block, entry))
+            Some((&plan.block, entry))
         }
+        (_, Group::Absent) => None,
     }
 }
 
@@ -153,15 +141,6 @@ fn push_path_to<'a>(
     Ok(Some(awaited))
 }
 
-/// The number of entries that the line of a group tells.
-fn entries_on(line: &[u8]) -> u64 {
-    let text = std::str::from_utf8(line).unwrap_or("");
-    match text.rsplit_once(" = ") {
-        Some((_, count)) => count.parse().unwrap_or(0),
-        None => 0,
-    }
-}
-
 /// The item that is awaited at the line that is looked for, if it is one of these; adds its path.
 fn push_item<'a>(
     path: &mut Vec<u8>,
@@ -192,19 +171,19 @@ fn push_datum<'a>(
     Ok(None)
 }
 
-/// Whether a block has any elements.
-fn has_elements(plan: &BlockPlan) -> bool {
-    !(plan.items.as_slice().is_empty()
-        && plan.groups.as_slice().is_empty()
-        && plan.vars.as_slice().is_empty())
-}
-
 /// How many entries of a group have lines, by the group's line: entries without elements have none.
 fn lined_entries(group: &GroupPlan, line: &[u8]) -> u64 {
-    if has_elements(&group.block) {
-        entries_on(line)
-    } else {
-        0
+    let plan = &group.block;
+    if plan.items.as_slice().is_empty()
+        && plan.groups.as_slice().is_empty()
+        && plan.vars.as_slice().is_empty()
+    {
+        return 0;
+    }
+    let text = std::str::from_utf8(line).unwrap_or("");
+    match text.rsplit_once(" = ") {
+        Some((_, count)) => count.parse().unwrap_or(0),
+        None => 0,
     }
 }
 
@@ -259,10 +238,12 @@ fn first_refused<'a>(alloc: Global, plan: &Plan, text: &'a [u8]) -> &'a [u8] {
 /// The layout that the first line of a message names.
 fn layout_on<'a>(plan: &'a Plan, line: &[u8]) -> Option<&'a MessagePlan> {
     let name = line.strip_prefix(b"message ")?;
-    plan.messages
-        .as_slice()
-        .iter()
-        .find(|message| message.name.as_slice() == name)
+    for message in plan.messages.as_slice() {
+        if message.name.as_slice() == name {
+            return Some(message);
+        }
+    }
+    None
 }
 
 /// Says what is awaited at the line of this number, the first that is refused, and adds its path: an element's, `end`, or the form of
