@@ -18,13 +18,16 @@ pub enum Outlook {
 impl Outlook {
     /// Adds it behind a status that may come again.
     pub fn push(self, line: &mut String) -> Result<(), AllocError> {
-        match self {
-            Outlook::Open => Ok(()),
-            Outlook::Over => line.push_str("; nothing is missing; the session is over"),
-            Outlook::AllHere => line.push_str(
-                "; both finishes are recorded, and nothing of the peer's is missing: only its word that it has all is",
-            ),
-            Outlook::Hopeless(why) => write!(line, "; running again cannot help: {why}"),
-        }
+        let words = match self {
+            Outlook::Open => "",
+            Outlook::Over => "; nothing is missing; the session is over",
+            Outlook::AllHere => {
+                "; both finishes are recorded, and nothing of the peer's is missing: only its word that it has all is"
+            }
+            Outlook::Hopeless(why) => {
+                return write!(line, "; running again cannot help: {why}");
+            }
+        };
+        line.push_str(words)
     }
 }

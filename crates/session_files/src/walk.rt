@@ -24,7 +24,7 @@ const OPEN: u8 = 1;
 enum Record {
     Entry { sender: u64, place: u64 },
     Apply { number: u64 },
-    Skip { from: u64, count: u64 },
+    Skip { count: u64 },
     PeerFinished { last: u64 },
     Finish,
     Other,
@@ -76,7 +76,7 @@ impl Walked {
                 self.applied = self.applied.saturating_add(1);
                 self.last = self.last.max(number);
             }
-            Record::Skip { count, .. } => self.skipped = self.skipped.saturating_add(count),
+            Record::Skip { count } => self.skipped = self.skipped.saturating_add(count),
             Record::PeerFinished { last } => self.peer_last = Some(last),
             Record::Finish => self.has_finish = true,
             Record::Other => {}
@@ -176,33 +176,29 @@ impl<'a, R: Files<File = File>> Records<'a, R> {
         let moment = self.number(MOMENT)?;
         self.moment = self.moment.max(moment);
         let length = self.number(4)?;
-        match kind {
-            1 => {
-                let sender = self.number(2)?;
-                let place = self.number(8)?;
-                self.pass(length.saturating_sub(10), is_wanted)?;
-                Some(Record::Entry { sender, place })
-            }
-            2 => {
-                let number = self.number(8)?;
-                self.pass(length.saturating_sub(8), false)?;
-                Some(Record::Apply { number })
-            }
-            3 => {
-                let from = self.number(8)?;
-                let count = self.number(8)?;
-                Some(Record::Skip { from, count })
-            }
-            5 => {
-                let last = self.number(8)?;
-                Some(Record::PeerFinished { last })
-            }
-            6 => Some(Record::Finish),
-            _ => {
-                self.pass(length, false)?;
-                Some(Record::Other)
-            }
-        }
+        let (size, behind) = match kind {
+            1 => (2usize, 8usize),
+            2 | 5 => (8, 0),
+            3 => (8, 8),
+            _ => (0, 0),
+        };
+        let first = self.number(size)?;
+        let second = self.number(behind)?;
+        let rest = length
+            .saturating_sub(size as u64)
+            .saturating_sub(behind as u64);
+        self.pass(rest, is_wanted && kind == 1)?;
+        Some(match kind {
+            1 => Record::Entry {
+                sender: first,
+                place: second,
+            },
+            2 => Record::Apply { number: first },
+            3 => Record::Skip { count: second },
+            5 => Record::PeerFinished { last: first },
+            6 => Record::Finish,
+            _ => Record::Other,
+        })
     }
 }
 
