@@ -27,13 +27,12 @@ pub fn push_source(
 /// Adds the file of an output, and why it failed.
 pub fn push_sink(line: &mut String, name: Named<'_>, reason: Reason<'_>) -> Result<(), AllocError> {
     push_place(line, name)?;
-    match reason {
-        Reason::System(error) => write!(line, "{error}"),
-        Reason::SameFile(other) => push_same(line, other),
-        Reason::NotHere => {
-            line.push_str("standard output can stand for OUT alone; ./- names a file")
-        }
-    }
+    let words = match reason {
+        Reason::System(error) => return write!(line, "{error}"),
+        Reason::SameFile(other) => return push_same(line, other),
+        Reason::NotHere => "standard output can stand for OUT alone; ./- names a file",
+    };
+    line.push_str(words)
 }
 
 /// Adds the file of a journal, and why it failed.
@@ -43,26 +42,34 @@ pub fn push_disk(
     reason: DiskReason<'_>,
 ) -> Result<(), AllocError> {
     push_place(line, name)?;
-    match reason {
-        DiskReason::System(error) => write!(line, "{error}"),
-        DiskReason::Locked => line.push_str("held by another process"),
-        DiskReason::SameFile(other) => push_same(line, other),
-        DiskReason::TooLong => line.push_str("longer than 2^40 bytes"),
-        DiskReason::Foreign => {
-            line.push_str("neither empty nor a journal, so it is left as it is")
-        }
-        DiskReason::Pipe => line.push_str("a pipe, and a journal is read and written at places"),
+    let words = match reason {
+        DiskReason::System(error) => return write!(line, "{error}"),
+        DiskReason::SameFile(other) => return push_same(line, other),
+        DiskReason::Locked => "held by another process",
+        DiskReason::TooLong => "longer than 2^40 bytes",
+        DiskReason::Foreign => "neither empty nor a journal, so it is left as it is",
+        DiskReason::Pipe => "a pipe, and a journal is read and written at places",
         DiskReason::Standard => {
-            line.push_str("standard input and output can stand for no journal; ./- names a file")
+            "standard input and output can stand for no journal; ./- names a file"
         }
-    }
+    };
+    line.push_str(words)
 }
 
-/// What a journal is.
-fn kind_of(which: Which) -> &'static str {
-    match which {
-        Which::Outbox => "an outbox",
-        Which::Inbox => "an inbox",
+/// Adds why a journal of this role is none that the command can use, where that lies at no record, and what to do.
+fn push_cause(line: &mut String, role: &str, cause: JournalCause) -> Result<(), AllocError> {
+    write!(line, "{cause}")?;
+    match cause {
+        JournalCause::NotFormatted => {
+            line.push_str(": for a new session run fixpgw format OUTBOX INBOX")
+        }
+        JournalCause::OldFormat => {
+            write!(
+                line,
+                ": fixpgw migrate {role} NEW makes one of format 2 of it"
+            )
+        }
+        _ => Ok(()),
     }
 }
 
@@ -74,33 +81,13 @@ pub fn push_journal(
     cause: JournalCause,
 ) -> Result<(), AllocError> {
     push_place(line, name)?;
-    match cause {
-        JournalCause::Wrong { at } => {
-            let journal = kind_of(which);
-            write!(
-                line,
-                "record {at}, counted from 0, does not belong into {journal}"
-            )
-        }
-        JournalCause::NotFormatted => write!(
-            line,
-            "{cause}: for a new session run fixpgw format OUTBOX INBOX"
-        ),
-        JournalCause::OldFormat => {
-            let role = name.role;
-            write!(
-                line,
-                "{cause}: fixpgw migrate {role} NEW makes one of format 2 of it"
-            )
-        }
-        JournalCause::Changed { at } => write!(
-            line,
-            "record {at}, counted from 0, is read otherwise than it was written"
-        ),
-        JournalCause::Damaged { .. } | JournalCause::Already | JournalCause::NotFresh => {
-            write!(line, "{cause}")
-        }
-    }
+    let (at, words) = match (cause, which) {
+        (JournalCause::Wrong { at }, Which::Outbox) => (at, "does not belong into an outbox"),
+        (JournalCause::Wrong { at }, Which::Inbox) => (at, "does not belong into an inbox"),
+        (JournalCause::Changed { at }, _) => (at, "is read otherwise than it was written"),
+        _ => return push_cause(line, name.role, cause),
+    };
+    write!(line, "record {at}, counted from 0, {words}")
 }
 
 /// Adds the file of a journal whose records would take more bytes than a journal may.

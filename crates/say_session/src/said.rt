@@ -69,6 +69,23 @@ fn plans_again<R: Files<File = File>>(
     Some(Plans { senders, text })
 }
 
+/// Adds the line of this number in INPUT, and why it is refused, by what was read again.
+fn push_planned<R: Files<File = File>>(
+    rt: &R,
+    alloc: Global,
+    line: &mut String,
+    session: Session<'_>,
+    number: u64,
+    plans: &Plans,
+) -> Result<(), AllocError> {
+    push_place(line, session.input)?;
+    let text = plans.text.as_slice();
+    match plan_line(alloc, plans.senders, text, number) {
+        Some(plan) => push_behind(rt, alloc, line, session, number, &plan),
+        None => push_plan_fault(alloc, line, plans.senders, text, number),
+    }
+}
+
 /// Adds the line of INPUT that gives no payload to a sender, as far as INPUT can be read again.
 pub fn push_plans<R: Files<File = File>>(
     rt: &R,
@@ -85,11 +102,7 @@ pub fn push_plans<R: Files<File = File>>(
     let Some(plans) = plans_again(rt, alloc, session, config) else {
         return push_input(line, session.input, kept, bad);
     };
-    push_place(line, session.input)?;
-    match plan_line(alloc, plans.senders, plans.text.as_slice(), *number) {
-        Some(plan) => push_behind(rt, alloc, line, session, *number, &plan),
-        None => push_plan_fault(alloc, line, plans.senders, plans.text.as_slice(), *number),
-    }
+    push_planned(rt, alloc, line, session, *number, &plans)
 }
 
 /// Adds the front of a payload in hexadecimal.
