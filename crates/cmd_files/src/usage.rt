@@ -236,29 +236,36 @@ dealt out, against three desks, over recoverable flows, with a cut behind each 5
   N        how many orders, 4 to 100000
   OUT      a line for each sender and each desk, a line for each end, and `finished` (written); - is standard output";
 
+/// The commands, and the usage of each.
+const USAGES: &[(&str, &str)] = &[
+    ("accept", ACCEPT),
+    ("answer", ANSWER),
+    ("check", CHECK),
+    ("connect", CONNECT),
+    ("decode", DECODE),
+    ("delivered", DELIVERED),
+    ("dump", DUMP),
+    ("encode", ENCODE),
+    ("extends", EXTENDS),
+    ("format", FORMAT),
+    ("journal", JOURNAL),
+    ("migrate", MIGRATE),
+    ("muxanswer", MUXANSWER),
+    ("plan", PLAN),
+    ("datagram", DATAGRAM),
+    ("rehearse", REHEARSE),
+    ("show", SHOW),
+    ("soak", SOAK),
+];
+
 /// The usage of a command, if there is such a command.
 fn usage_of(command: &str) -> Option<&'static str> {
-    match command {
-        "accept" => Some(ACCEPT),
-        "answer" => Some(ANSWER),
-        "check" => Some(CHECK),
-        "connect" => Some(CONNECT),
-        "decode" => Some(DECODE),
-        "delivered" => Some(DELIVERED),
-        "dump" => Some(DUMP),
-        "encode" => Some(ENCODE),
-        "extends" => Some(EXTENDS),
-        "format" => Some(FORMAT),
-        "journal" => Some(JOURNAL),
-        "migrate" => Some(MIGRATE),
-        "muxanswer" => Some(MUXANSWER),
-        "plan" => Some(PLAN),
-        "datagram" => Some(DATAGRAM),
-        "rehearse" => Some(REHEARSE),
-        "show" => Some(SHOW),
-        "soak" => Some(SOAK),
-        _ => None,
+    for (name, usage) in USAGES {
+        if *name == command {
+            return Some(usage);
+        }
     }
+    None
 }
 
 fn is_help(word: &str) -> bool {
